@@ -1,0 +1,5 @@
+pub mod Number
+pub mod Order
+pub mod Maybe
+pub mod Eighths
+pub mod Laws
