@@ -1,0 +1,14 @@
+use Rattle.style.specs.Values.{definiteSpaces}
+use mathlib.Core.Path.{refl}
+use Rattle.style.proofs.available_space.AvailableSize.definite.Statement.{statement}
+use Rattle.style.proofs.available_space.AvailableSize.definite.Tie as tie
+use Rattle.style.proofs.available_space.AvailableSize.definite.Reads as reads
+use Rattle.style.proofs.available_space.AvailableSize.definite.Lts as lts
+
+-- src/available_space.rt:36:5
+returns : tie.Need-returns
+unfolding definiteSpaces
+returns c = refl
+
+pub definite-spec : {M : Type 1} → statement M
+definite-spec = tie.close (tie.spec returns)

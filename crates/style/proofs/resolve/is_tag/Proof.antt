@@ -1,0 +1,79 @@
+use borrow.Author.Needs.{needs}
+use Rattle.style.specs.Laws.{among}
+use Rattle.style.proofs.Laws.{takes-its-tags}
+use borrow.Author.Tests.{ne-eqb}
+use Rattle.style.proofs.resolve.is_tag.Statement.{statement}
+use Rattle.style.proofs.resolve.is_tag.Tie as tie
+use Rattle.style.proofs.resolve.is_tag.Reads as reads
+use Rattle.style.proofs.resolve.is_tag.Lts as lts
+
+-- src/resolve.rt:95:1
+returns : tie.Need-returns
+unfolding among
+returns c = simp (takes-its-tags, c .match .keys1)
+
+-- src/resolve.rt:95:1
+returns-2 : tie.Need-returns-2
+unfolding among
+returns-2 c = simp (takes-its-tags, c .match .keys2)
+
+-- src/resolve.rt:95:1
+returns-3 : tie.Need-returns-3
+unfolding among
+returns-3 c = simp (takes-its-tags, c .match .keys3)
+
+-- src/resolve.rt:95:1
+returns-4 : tie.Need-returns-4
+unfolding among
+returns-4 c = simp (takes-its-tags, c .match .keys4)
+
+-- src/resolve.rt:95:1
+returns-5 : tie.Need-returns-5
+unfolding among
+returns-5 c = simp (takes-its-tags, c .match .keys5)
+
+-- src/resolve.rt:95:1
+returns-6 : tie.Need-returns-6
+unfolding among
+returns-6 c = simp (takes-its-tags, c .match .keys6)
+
+-- src/resolve.rt:95:1
+returns-7 : tie.Need-returns-7
+unfolding among
+returns-7 c = simp (takes-its-tags, c .match .keys7)
+
+-- src/resolve.rt:95:1
+returns-8 : tie.Need-returns-8
+unfolding among
+returns-8 c = simp (takes-its-tags, c .match .keys8)
+
+-- src/resolve.rt:95:1
+returns-9 : tie.Need-returns-9
+unfolding among
+returns-9 c = simp (takes-its-tags, c .match .keys9)
+
+-- src/resolve.rt:95:1
+returns-10 : tie.Need-returns-10
+unfolding among
+returns-10 c = simp (takes-its-tags, c .match .keys10)
+
+-- src/resolve.rt:95:1
+returns-11 : tie.Need-returns-11
+unfolding among
+returns-11 c = simp (takes-its-tags, ne-eqb _ _ (c .match .rest .1), ne-eqb _ _ (c .match .rest .0 .1), ne-eqb _ _ (c .match .rest .0 .0 .1), ne-eqb _ _ (c .match .rest .0 .0 .0 .1), ne-eqb _ _ (c .match .rest .0 .0 .0 .0 .1), ne-eqb _ _ (c .match .rest .0 .0 .0 .0 .0 .1), ne-eqb _ _ (c .match .rest .0 .0 .0 .0 .0 .0 .1), ne-eqb _ _ (c .match .rest .0 .0 .0 .0 .0 .0 .0 .1), ne-eqb _ _ (c .match .rest .0 .0 .0 .0 .0 .0 .0 .0 .1), ne-eqb _ _ (c .match .rest .0 .0 .0 .0 .0 .0 .0 .0 .0 .1))
+
+pub is-tag-spec : {M : Type 1} → statement M
+is-tag-spec =
+    tie.close
+    (tie.spec
+    returns
+    returns-2
+    returns-3
+    returns-4
+    returns-5
+    returns-6
+    returns-7
+    returns-8
+    returns-9
+    returns-10
+    returns-11)

@@ -1,0 +1,24 @@
+use Rattle.style.specs.Resolve.{maybeResolved}
+use borrow.Author.Needs.{needs}
+use Rattle.style.proofs.resolve.maybe_resolve.Statement.{statement}
+use Rattle.style.proofs.resolve.maybe_resolve.Tie as tie
+use Rattle.style.proofs.resolve.maybe_resolve.Reads as reads
+use Rattle.style.proofs.resolve.maybe_resolve.Lts as lts
+use Rattle.style.proofs.resolve.Resolved.value.Reads as value-reads
+use Rattle.style.proofs.resolve.resolve.Reads as resolve-reads
+
+-- src/resolve.rt:112:5
+resolve-requires : tie.Need-resolve-requires
+resolve-requires c κs = search needs
+
+-- src/resolve.rt:112:5
+value-requires : tie.Need-value-requires
+value-requires c κs = search needs
+
+-- src/resolve.rt:109:1
+returns : tie.Need-returns
+unfolding maybeResolved
+returns c = simp (← c .before .resolve .ensures, ← c .value .ensures)
+
+pub maybe-resolve-spec : {M : Type 1} → statement M
+maybe-resolve-spec = tie.close (tie.spec resolve-requires value-requires returns)

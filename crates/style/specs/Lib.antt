@@ -1,0 +1,4 @@
+pub mod Resolve
+pub mod Values
+pub mod Codes
+pub mod Laws

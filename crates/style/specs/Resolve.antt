@@ -1,0 +1,98 @@
+-- Lengths: which tags a field takes, and what a length comes to in it (document 01, "Tags"; step 1 and step 2). Assumes nothing.
+use Prim.Native.Nat.{ℕ}
+use mathlib.Core.Bool.{Bool, true, false, cond}
+use lib.Dec.{eqb}
+use lib.Ieee.{Float}
+use Rattle.util.specs.Number.{_⊗_, 0f}
+use Rattle.util.specs.declared.math.MaybeF32.{MaybeF32}
+use Rattle.util.specs.declared.math.MaybeF32.the-variants.{None, Some}
+use Rattle.geometry.specs.declared.Size.{Size}
+use Rattle.geometry.specs.declared.MaybeSize.{MaybeSize}
+use Rattle.geometry.specs.declared.MaybeRect.{MaybeRect}
+use Rattle.style.specs.declared.compact_length.CompactLength.{CompactLength}
+use Rattle.style.specs.declared.compact_length.LengthRect.{LengthRect}
+use Rattle.style.specs.declared.compact_length.LengthSize.{LengthSize}
+use Rattle.style.specs.declared.resolve.Field.{Field}
+use Rattle.style.specs.declared.resolve.Field.the-variants as field
+use Rattle.style.specs.declared.resolve.SizingKeyword.{SizingKeyword}
+use Rattle.style.specs.declared.resolve.SizingKeyword.the-variants as keyword
+use Rattle.style.specs.declared.resolve.Resolved.{Resolved}
+use Rattle.style.specs.declared.resolve.Resolved.the-variants.{NotAllowed, Absent, Length, Keyword}
+
+-- auto has no value; padding and border don't take it
+abbrev pub autoIn : Field → Resolved
+autoIn field.InsetOrMargin = Absent
+autoIn field.PaddingOrBorder = NotAllowed
+autoIn field.Size = Absent
+autoIn field.MinOrMax = Absent
+
+-- content is auto, in the sizes only
+abbrev pub contentIn : Field → Resolved
+contentIn field.InsetOrMargin = NotAllowed
+contentIn field.PaddingOrBorder = NotAllowed
+contentIn field.Size = Absent
+contentIn field.MinOrMax = Absent
+
+-- a sizing keyword has no value in min and max
+abbrev pub keywordIn : Field → SizingKeyword → Resolved
+keywordIn field.InsetOrMargin k = NotAllowed
+keywordIn field.PaddingOrBorder k = NotAllowed
+keywordIn field.Size k = Keyword k
+keywordIn field.MinOrMax k = Absent
+
+-- by tag, the whole word: 257 is no 1
+unfoldable pub byTag : Field → ℕ → Float → Float → Resolved
+byTag f tag value basis =
+    cond (eqb tag 1) (Length value)
+    (cond (eqb tag 3) (autoIn f)
+    (cond (eqb tag 5) (Length (basis ⊗ value))
+    (cond (eqb tag 11) (keywordIn f keyword.MinContent)
+    (cond (eqb tag 15) (keywordIn f (keyword.FitContentLimit (basis ⊗ value)))
+    (cond (eqb tag 27) (keywordIn f keyword.MaxContent)
+    (cond (eqb tag 35) (contentIn f)
+    (cond (eqb tag 43) (keywordIn f (keyword.FitContentLimit value))
+    (cond (eqb tag 59) (keywordIn f keyword.FitContent)
+    (cond (eqb tag 75) (keywordIn f keyword.Stretch) NotAllowed)))))))))
+
+-- what a length comes to in a field, percentages being taken of the basis
+unfoldable pub resolved : Field → CompactLength → Float → Resolved
+resolved f length basis = byTag f (length .tag) (length .value) basis
+
+-- ---- admission
+
+abbrev pub isAllowed : Resolved → Bool
+isAllowed NotAllowed = false
+isAllowed Absent = true
+isAllowed (Length x) = true
+isAllowed (Keyword k) = true
+
+-- whether a field takes a tag; value and basis have no say (`AdmissionIsOfTheTag`)
+unfoldable pub takes : Field → ℕ → Bool
+takes f tag = isAllowed (resolved f (record { tag = tag; value = 0f }) 0f)
+
+-- ---- values
+
+-- the number of pixels, if it comes to one
+abbrev pub valueOf : Resolved → MaybeF32
+valueOf NotAllowed = None
+valueOf Absent = None
+valueOf (Length x) = Some x
+valueOf (Keyword k) = None
+
+unfoldable pub maybeResolved : Field → CompactLength → Float → MaybeF32
+maybeResolved f length basis = valueOf (resolved f length basis)
+
+-- four sides: left and right against one basis, top and bottom against another
+unfoldable pub resolvedRect : Field → LengthRect → Float → Float → MaybeRect
+resolvedRect f sides across down =
+    record {
+      left = maybeResolved f (sides .left) across;
+      right = maybeResolved f (sides .right) across;
+      top = maybeResolved f (sides .top) down;
+      bottom = maybeResolved f (sides .bottom) down;
+    }
+
+-- width and height, each against its own basis
+unfoldable pub resolvedSize : Field → LengthSize → Size → MaybeSize
+resolvedSize f size basis =
+    record { width = maybeResolved f (size .width) (basis .width); height = maybeResolved f (size .height) (basis .height) }

@@ -1,0 +1,20 @@
+// style/compact_length.rs: a length, by its tag and its value.
+
+pub struct CompactLength {
+    pub tag: u32,
+    pub value: f32,
+}
+
+// `Rect<CompactLength>` of the Rust.
+pub struct LengthRect {
+    pub left: CompactLength,
+    pub right: CompactLength,
+    pub top: CompactLength,
+    pub bottom: CompactLength,
+}
+
+// `Size<CompactLength>` of the Rust.
+pub struct LengthSize {
+    pub width: CompactLength,
+    pub height: CompactLength,
+}

@@ -1,0 +1,5 @@
+pub mod Walk
+pub mod Room
+pub mod First
+pub mod Written
+pub mod Laws

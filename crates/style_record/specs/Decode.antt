@@ -1,0 +1,78 @@
+-- A style record decoded: each word at its index and by its meaning (document 01, "Style, 57 words"). Codes outside their lists are refused
+-- before; here they are read as the last of the list. Assumes nothing.
+use Prim.Native.Nat.{ℕ, _+_, _*_}
+use mathlib.Core.Bool.{Bool, true, false, cond}
+use mathlib.Core.List.{List}
+use lib.Dec.{eqb}
+use lib.Ieee.{Float, ofBits, binary32}
+use Rattle.util.specs.declared.math.MaybeF32.{MaybeF32}
+use Rattle.util.specs.declared.math.MaybeF32.the-variants.{None, Some}
+use Rattle.style.specs.declared.compact_length.CompactLength.{CompactLength}
+use Rattle.style.specs.declared.compact_length.LengthRect.{LengthRect}
+use Rattle.style.specs.declared.compact_length.LengthSize.{LengthSize}
+use Rattle.style.specs.declared.alignment.AlignItems.{AlignItems}
+use Rattle.style.specs.declared.OverflowPoint.{OverflowPoint}
+use Rattle.style.specs.declared.Style.{Style}
+use Rattle.style.specs.Codes.{sizingOf, overflowOf, directionOf, alignmentOf, bit0, bit1, containOf}
+use Rattle.style_record.specs.Record.{lengthWords, afterLengths, item}
+
+-- ---- from word k of a record on
+
+unfoldable pub floatAt : (ℕ → ℕ) → ℕ → Float
+floatAt r k = ofBits binary32 (r k)
+
+unfoldable pub lengthAt : (ℕ → ℕ) → ℕ → CompactLength
+lengthAt r k = record { tag = r k; value = floatAt r (k + 1) }
+
+unfoldable pub rectAt : (ℕ → ℕ) → ℕ → LengthRect
+rectAt r k =
+    record {
+      left = lengthAt r k;
+      right = lengthAt r (k + lengthWords);
+      top = lengthAt r (k + 2 * lengthWords);
+      bottom = lengthAt r (k + 3 * lengthWords);
+    }
+
+unfoldable pub sizeAt : (ℕ → ℕ) → ℕ → LengthSize
+sizeAt r k = record { width = lengthAt r k; height = lengthAt r (k + lengthWords) }
+
+-- a keyword and its safety
+unfoldable pub alignAt : (ℕ → ℕ) → ℕ → AlignItems
+alignAt r k = alignmentOf (r k) (r (k + 1))
+
+-- ---- the words after the lengths
+
+-- the ratio's word is read where it is present
+unfoldable pub ratioAt : (ℕ → ℕ) → MaybeF32
+ratioAt r = cond (eqb (r afterLengths) 0) None (Some (floatAt r (afterLengths + 1)))
+
+unfoldable pub overflowAt : (ℕ → ℕ) → OverflowPoint
+overflowAt r = record { x = overflowOf (r (afterLengths + 9)); y = overflowOf (r (afterLengths + 10)) }
+
+-- ---- a whole record
+
+unfoldable pub styleOf : (ℕ → ℕ) → Style
+styleOf r =
+    record {
+      inset = rectAt r 0;
+      margin = rectAt r (4 * lengthWords);
+      padding = rectAt r (8 * lengthWords);
+      border = rectAt r (12 * lengthWords);
+      size = sizeAt r (16 * lengthWords);
+      min = sizeAt r (18 * lengthWords);
+      max = sizeAt r (20 * lengthWords);
+      ratio = ratioAt r;
+      sizing = sizingOf (r (afterLengths + 2));
+      replaced = bit0 (r (afterLengths + 3));
+      table = bit1 (r (afterLengths + 3));
+      direction = directionOf (r (afterLengths + 4));
+      justify = alignAt r (afterLengths + 5);
+      align = alignAt r (afterLengths + 7);
+      overflow = overflowAt r;
+      scrollbar = floatAt r (afterLengths + 11);
+      contain = containOf (r (afterLengths + 12));
+    }
+
+-- the style of an item of a table
+unfoldable pub styleAt : List ℕ → ℕ → Style
+styleAt s i = styleOf (item s i)

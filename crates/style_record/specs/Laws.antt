@@ -1,0 +1,101 @@
+-- What the definitions of this crate mean, as statements. `proofs/Laws.antt` proves each, under its name in small letters.
+-- `fits binary32 x` says that x is a value of an f32: true of every f32 of a program. Assumes nothing.
+use Prim.Native.Nat.{ℕ, _+_, _*_, _<_}
+use mathlib.Core.Logic.{_⊎_}
+use mathlib.Core.Path.{_≡_}
+use mathlib.Core.Bool.{Bool, true, false}
+use mathlib.Core.List.{List}
+use lib.ListN.{getD, length}
+use lib.Dec.{T}
+use lib.Ieee.{fits, binary32}
+use Rattle.util.specs.declared.math.MaybeF32.{MaybeF32}
+use Rattle.util.specs.declared.math.MaybeF32.the-variants.{None, Some}
+use Rattle.style.specs.declared.compact_length.LengthRect.{LengthRect}
+use Rattle.style.specs.declared.compact_length.LengthSize.{LengthSize}
+use Rattle.style.specs.declared.Style.{Style}
+use Rattle.style.specs.declared.resolve.Field.{Field}
+use Rattle.style_record.specs.Record.{lengthWords, codeWords, styleWords, lengthKinds, codeKinds, items}
+use Rattle.style_record.specs.Check.{breaks, firstBroken, checked}
+use Rattle.style_record.specs.Decode.{styleOf, styleAt}
+use Rattle.style_record.specs.Encode.{encoded, kept}
+use Rattle.style_record.specs.declared.check.ItemCheck.the-variants.{Good}
+use Rattle.style_record.specs.declared.check.TableCheck.the-variants as table
+
+-- ---- the widths
+
+-- the tables of kinds and the words written have the record's widths
+abbrev pub WidthsAgree : Type 0
+WidthsAgree = (f : Field) (y : Style) → (length (lengthKinds f) ≡ lengthWords) × (length codeKinds ≡ codeWords) × (length (encoded y) ≡ styleWords) × (styleWords ≡ 57)
+
+-- ---- the check
+
+-- no word of an item breaks a rule; no word of the whole table does
+abbrev pub AllGood : List ℕ → ℕ → Type 0
+AllGood s i = (k : ℕ) → k < styleWords → breaks s i k ≡ false
+
+abbrev pub NoneBreaks : List ℕ → Type 0
+NoneBreaks s = (i : ℕ) → i < items s → AllGood s i
+
+-- word k of item i is the first word of the table that breaks a rule: it does, and none before it in its item, nor any of an item before
+pub record First (s : List ℕ) (i k : ℕ) : Type 0 where
+  pub item-there : i < items s
+  pub word-there : k < styleWords
+  pub breaks-it : breaks s i k ≡ true
+  pub words-before : (j : ℕ) → j < k → breaks s i j ≡ false
+  pub items-before : (h : ℕ) → h < i → AllGood s h
+
+-- an item is good exactly where none of its words breaks a rule
+abbrev pub ItemGoodIsNone : Type 0
+ItemGoodIsNone = (s : List ℕ) (i : ℕ) → (firstBroken s i ≡ Good → AllGood s i) × (AllGood s i → firstBroken s i ≡ Good)
+
+-- a table is good exactly where no word of it breaks a rule
+abbrev pub GoodIsNone : Type 0
+GoodIsNone = (s : List ℕ) → (checked s ≡ table.Good → NoneBreaks s) × (NoneBreaks s → checked s ≡ table.Good)
+
+-- bad exactly at the first that does
+abbrev pub BadIsFirst : Type 0
+BadIsFirst = (s : List ℕ) (i k : ℕ) → (checked s ≡ table.Bad i k → First s i k) × (First s i k → checked s ≡ table.Bad i k)
+
+-- where some word of some item breaks a rule, there is a first one
+abbrev pub SomeIsFound : Type 0
+SomeIsFound = (s : List ℕ) (i k : ℕ) → i < items s → k < styleWords → breaks s i k ≡ true → (j : ℕ) × (l : ℕ) × (checked s ≡ table.Bad j l)
+
+-- ---- the decoding: `encoded` has document 01's words in their order, and decoding is its inverse. So no word is dropped, none is read
+-- as another's, and the words that decoding passes over are those that `kept` names.
+
+-- an item that breaks no rule, decoded and written again
+abbrev pub EachWordIsRead : Type 0
+EachWordIsRead = (s : List ℕ) (i : ℕ) → firstBroken s i ≡ Good → encoded (styleAt s i) ≡ kept s i
+
+pub record RectFits (r : LengthRect) : Type 0 where
+  pub left : T (fits binary32 (r .left .value))
+  pub right : T (fits binary32 (r .right .value))
+  pub top : T (fits binary32 (r .top .value))
+  pub bottom : T (fits binary32 (r .bottom .value))
+
+pub record SizeFits (s : LengthSize) : Type 0 where
+  pub width : T (fits binary32 (s .width .value))
+  pub height : T (fits binary32 (s .height .value))
+
+abbrev pub MaybeFits : MaybeF32 → Type 0
+MaybeFits None = Unit {0}
+MaybeFits (Some x) = T (fits binary32 x)
+
+pub record StyleFits (y : Style) : Type 0 where
+  pub inset : RectFits (y .inset)
+  pub margin : RectFits (y .margin)
+  pub padding : RectFits (y .padding)
+  pub border : RectFits (y .border)
+  pub size : SizeFits (y .size)
+  pub min : SizeFits (y .min)
+  pub max : SizeFits (y .max)
+  pub ratio : MaybeFits (y .ratio)
+  pub scrollbar : T (fits binary32 (y .scrollbar))
+
+-- a style, written and decoded
+abbrev pub EachFieldIsWritten : Type 0
+EachFieldIsWritten = (y : Style) → StyleFits y → styleOf (λ k. getD (encoded y) k 0) ≡ y
+
+-- nothing dropped, nothing exchanged
+abbrev pub DecodingIsExact : Type 0
+DecodingIsExact = EachWordIsRead × EachFieldIsWritten
