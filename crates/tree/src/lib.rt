@@ -1,0 +1,2 @@
+// tree/: candidates and layouts.
+pub mod layout;

@@ -1,0 +1,115 @@
+use Rattle.tree_record.specs.Candidate.{axisOf}
+use borrow.Author.Needs.{needs}
+use Rattle.tree_record.proofs.candidate.axis_at.Statement.{statement}
+use Rattle.tree_record.proofs.candidate.axis_at.Tie as tie
+use Rattle.tree_record.proofs.candidate.axis_at.Reads as reads
+use Rattle.tree_record.proofs.candidate.axis_at.Lts as lts
+use Rattle.tree_record.proofs.codes.edge_of.Reads as edge-of-reads
+use Rattle.tree_record.proofs.codes.safety_of.Reads as safety-of-reads
+use Rattle.util.proofs.bits.from_word.Reads as from-word-reads
+
+-- src/candidate.rt:78:32
+mul-from-word : tie.Need-mul-from-word
+mul-from-word c = search needs
+
+-- src/candidate.rt:78:32
+shared-slice-read-from-word : tie.Need-shared-slice-read-from-word
+shared-slice-read-from-word c = search needs
+
+-- src/candidate.rt:78:16
+from-word-requires : tie.Need-from-word-requires
+from-word-requires c κs = search needs
+
+-- src/candidate.rt:79:36
+add-from-word : tie.Need-add-from-word
+add-from-word c = search needs
+
+-- src/candidate.rt:79:30
+mul-from-word-2 : tie.Need-mul-from-word-2
+mul-from-word-2 c = search needs
+
+-- src/candidate.rt:79:30
+shared-slice-read-from-word-2 : tie.Need-shared-slice-read-from-word-2
+shared-slice-read-from-word-2 c = search needs
+
+-- src/candidate.rt:79:14
+from-word-requires-2 : tie.Need-from-word-requires-2
+from-word-requires-2 c κs = search needs
+
+-- src/candidate.rt:82:39
+add-edge-of : tie.Need-add-edge-of
+add-edge-of c = search needs
+
+-- src/candidate.rt:82:33
+mul-edge-of : tie.Need-mul-edge-of
+mul-edge-of c = search needs
+
+-- src/candidate.rt:82:33
+shared-slice-read-edge-of : tie.Need-shared-slice-read-edge-of
+shared-slice-read-edge-of c = search needs
+
+-- src/candidate.rt:82:18
+edge-of-requires : tie.Need-edge-of-requires
+edge-of-requires c κs = search needs
+
+-- src/candidate.rt:83:40
+add-safety-of : tie.Need-add-safety-of
+add-safety-of c = search needs
+
+-- src/candidate.rt:83:34
+mul-safety-of : tie.Need-mul-safety-of
+mul-safety-of c = search needs
+
+-- src/candidate.rt:83:34
+shared-slice-read-safety-of : tie.Need-shared-slice-read-safety-of
+shared-slice-read-safety-of c = search needs
+
+-- src/candidate.rt:83:17
+safety-of-requires : tie.Need-safety-of-requires
+safety-of-requires c κs = search needs
+
+-- src/candidate.rt:84:40
+add-edge-of-2 : tie.Need-add-edge-of-2
+add-edge-of-2 c = search needs
+
+-- src/candidate.rt:84:34
+mul-edge-of-2 : tie.Need-mul-edge-of-2
+mul-edge-of-2 c = search needs
+
+-- src/candidate.rt:84:34
+shared-slice-read-edge-of-2 : tie.Need-shared-slice-read-edge-of-2
+shared-slice-read-edge-of-2 c = search needs
+
+-- src/candidate.rt:84:19
+edge-of-requires-2 : tie.Need-edge-of-requires-2
+edge-of-requires-2 c κs = search needs
+
+-- src/candidate.rt:73:1
+returns : tie.Need-returns
+unfolding axisOf
+returns c = simp (← c .before .before .before .before .before .before .before .before .from-word .ensures, ← c .before .before .before .before .before .before .from-word2 .ensures, ← c .before .before .before .before .edge-of .ensures, ← c .before .before .safety-of .ensures, ← c .edge-of2 .ensures)
+
+pub axis-at-spec : {M : Type 1} → statement M
+axis-at-spec =
+    tie.close
+    (tie.spec
+    mul-from-word
+    shared-slice-read-from-word
+    from-word-requires
+    add-from-word
+    mul-from-word-2
+    shared-slice-read-from-word-2
+    from-word-requires-2
+    add-edge-of
+    mul-edge-of
+    shared-slice-read-edge-of
+    edge-of-requires
+    add-safety-of
+    mul-safety-of
+    shared-slice-read-safety-of
+    safety-of-requires
+    add-edge-of-2
+    mul-edge-of-2
+    shared-slice-read-edge-of-2
+    edge-of-requires-2
+    returns)

@@ -1,0 +1,4 @@
+pub mod Codes
+pub mod Candidate
+pub mod Layout
+pub mod Laws
