@@ -1,0 +1,199 @@
+-- One axis of the absolute positioning layout model (css-position-3 #abspos-layout; `OofAxis` of the Rust). Positions count from the
+-- area's left or top edge. The area is the containing block that insets are resolved against (from 0 to the axis' size); "the block" is
+-- the inset-modified containing block; a "box" of some size is a margin box. Edges are physical: Start is left or top, End is right
+-- or bottom. The containing block's own start and end go by its direction: `startEdge`, `endEdge`. Assumes nothing.
+use mathlib.Core.Bool.{Bool, true, false, cond, not, _&&_, _||_}
+use lib.Ieee.{Float, inf, lt, le}
+use Rattle.util.specs.Number.{_⊕_, _⊖_, _⊗_, _⊘_, 0f, 2f}
+use Rattle.util.specs.Order.{larger, smaller, magnitude}
+use Rattle.util.specs.Maybe.{present, orZero}
+use Rattle.util.specs.declared.math.MaybeF32.{MaybeF32}
+use Rattle.util.specs.declared.math.MaybeF32.the-variants.{None, Some}
+use Rattle.geometry.specs.Geometry.{_to_, span}
+use Rattle.geometry.specs.declared.Line.{Line}
+use Rattle.style.specs.declared.alignment.AlignItemsKeyword.{AlignItemsKeyword}
+use Rattle.style.specs.declared.alignment.AlignItemsKeyword.the-variants as keyword
+use Rattle.style.specs.declared.alignment.AlignmentSafety.{AlignmentSafety}
+use Rattle.style.specs.declared.alignment.AlignmentSafety.the-variants.{Default, Unsafe, Safe}
+use Rattle.tree.specs.declared.layout.AxisStaticEdge.{AxisStaticEdge}
+use Rattle.tree.specs.declared.layout.AxisStaticEdge.the-variants.{Start, Center, End}
+use Rattle.oof_axis.specs.declared.OofAlignment.{OofAlignment}
+use Rattle.oof_axis.specs.declared.OofAlignment.the-variants as align
+use Rattle.oof_axis.specs.declared.OofAxis.{OofAxis}
+use Rattle.oof_axis.specs.declared.AxisPlacement.{AxisPlacement}
+
+-- ---- the alignment of an axis
+
+-- justify-self or align-self, with self-start and self-end already resolved by direction: of a keyword that isn't, self-start is
+-- start and self-end is end. The fallback alignment of baseline is start.
+unfoldable pub fromResolved : AlignItemsKeyword → OofAlignment
+fromResolved keyword.Normal = align.Normal
+fromResolved keyword.Stretch = align.Stretch
+fromResolved keyword.Center = align.Center
+fromResolved keyword.Start = align.Start
+fromResolved keyword.FlexStart = align.Start
+fromResolved keyword.SelfStart = align.Start
+fromResolved keyword.Baseline = align.Start
+fromResolved keyword.End = align.End
+fromResolved keyword.FlexEnd = align.End
+fromResolved keyword.SelfEnd = align.End
+
+-- ---- edges
+
+-- the containing block's start and end, as edges of the axis: exchanged in the inline axis of a right-to-left block
+unfoldable pub startEdge : OofAxis → AxisStaticEdge
+startEdge a = cond (a .reversed) End Start
+
+unfoldable pub endEdge : OofAxis → AxisStaticEdge
+endEdge a = cond (a .reversed) Start End
+
+-- where a box of a size begins that is aligned to an edge of a line
+unfoldable pub alignIn : Line → Float → AxisStaticEdge → Float
+alignIn l size Start = l .start
+alignIn l size Center = (l .start ⊕ l .end ⊖ size) ⊘ 2f
+alignIn l size End = l .end ⊖ size
+
+-- ---- the block: insets resolved (css-position-3 #resolving-insets)
+
+-- no insets, center: around the static center, up to the nearer edge of the area; at equal distance, from the start
+unfoldable pub centeredBlock : Float → Float → Line
+centeredBlock center size =
+    cond (le (magnitude center) (magnitude (size ⊖ center))) (0f to 2f ⊗ center) (size ⊖ 2f ⊗ (size ⊖ center) to size)
+
+-- no insets: from the static position's edge to the far edge of the area
+unfoldable pub staticBlock : AxisStaticEdge → Line → Float → Line
+staticBlock Start area size = area .start to size
+staticBlock Center area size = centeredBlock ((area .start ⊕ area .end) ⊘ 2f) size
+staticBlock End area size = 0f to area .end
+
+-- the block as the insets say; a lone auto inset is 0, two are resolved from the static position
+unfoldable pub insetBlock : MaybeF32 → MaybeF32 → OofAxis → Line
+insetBlock (Some start) (Some end) a = start to a .size ⊖ end
+insetBlock (Some start) None a = start to a .size
+insetBlock None (Some end) a = 0f to a .size ⊖ end
+insetBlock None None a = staticBlock (a .place .align .keyword) (a .place .area) (a .size)
+
+-- the weaker edge, which gives way where insets leave a negative size: the free side with one inset, else the end edge by direction
+unfoldable pub weakerEdge : MaybeF32 → MaybeF32 → OofAxis → AxisStaticEdge
+weakerEdge (Some start) (Some end) a = endEdge a
+weakerEdge (Some start) None a = End
+weakerEdge None (Some end) a = Start
+weakerEdge None None a = endEdge a
+
+-- an end below its start: the weaker edge moves to the other, so that the block's size is 0 (no axis has Center as its weaker edge)
+unfoldable pub closedUp : AxisStaticEdge → Line → Line
+closedUp Start l = l .end to l .end
+closedUp Center l = l .start to l .start
+closedUp End l = l .start to l .start
+
+unfoldable pub repaired : AxisStaticEdge → Line → Line
+repaired weaker l = cond (lt (l .end) (l .start)) (closedUp weaker l) l
+
+unfoldable pub block : OofAxis → Line
+block a = repaired (weakerEdge (a .inset .start) (a .inset .end) a) (insetBlock (a .inset .start) (a .inset .end) a)
+
+-- ---- automatic sizes (css-position-3 #abspos-auto-size)
+
+unfoldable pub bothInsets : OofAxis → Bool
+bothInsets a = present (a .inset .start) && present (a .inset .end)
+
+-- the stretch-fit size: the block less the margins that aren't auto, at least 0
+unfoldable pub stretchFit : OofAxis → Float
+stretchFit a = larger (span (block a) ⊖ (orZero (a .margin .start) ⊕ orZero (a .margin .end))) 0f
+
+-- an alignment that stretches an auto size: stretch, and normal for a plain box (neither replaced nor table)
+unfoldable pub stretching : OofAlignment → Bool → Bool
+stretching align.Stretch plain = true
+stretching align.Normal plain = plain
+stretching align.Start plain = false
+stretching align.Center plain = false
+stretching align.End plain = false
+
+-- an auto size is the stretch-fit size; otherwise it is fit-content
+unfoldable pub stretches : OofAxis → Bool → Bool
+stretches a plain = bothInsets a && stretching (a .alignment) plain
+
+-- an explicit stretch
+unfoldable pub isStretch : OofAxis → Bool
+isStretch a = stretching (a .alignment) false
+
+-- ---- margins (css-position-3 #abspos-margins)
+
+-- both auto: halves of the free space; if it is negative in the inline axis, all of it goes to the end margin by direction
+unfoldable pub halves : Float → OofAxis → Line
+halves free a = cond (lt free 0f && a .inline) (cond (a .reversed) (free to 0f) (0f to free)) (free ⊘ 2f to free ⊘ 2f)
+
+-- with both insets given, auto margins take up the free space
+unfoldable pub filledMargins : MaybeF32 → MaybeF32 → Float → OofAxis → Line
+filledMargins (Some start) (Some end) free a = start to end
+filledMargins (Some start) None free a = start to free ⊖ start
+filledMargins None (Some end) free a = free ⊖ end to end
+filledMargins None None free a = halves free a
+
+-- with an auto inset, auto margins are 0
+unfoldable pub margins : OofAxis → Float → Line
+margins a size =
+    cond (bothInsets a) (filledMargins (a .margin .start) (a .margin .end) (span (block a) ⊖ size) a)
+    (orZero (a .margin .start) to orZero (a .margin .end))
+
+-- ---- position (css-position-3 #abspos-alignment; css-align-3 #auto-safety-position)
+
+unfoldable pub isNormal : OofAlignment → Bool
+isNormal align.Normal = true
+isNormal align.Stretch = false
+isNormal align.Start = false
+isNormal align.Center = false
+isNormal align.End = false
+
+-- normal and stretch align as start
+unfoldable pub alignEdge : OofAlignment → OofAxis → AxisStaticEdge
+alignEdge align.Normal a = startEdge a
+alignEdge align.Stretch a = startEdge a
+alignEdge align.Start a = startEdge a
+alignEdge align.Center a = Center
+alignEdge align.End a = endEdge a
+
+-- the overflow limit rectangle: the bounds of block and area; where the container scrolls in this axis, without an end (which is to
+-- the left in a right-to-left axis)
+unfoldable pub limit : OofAxis → Line → Line
+limit a l =
+    (cond (a .scrolls && a .reversed) (inf true) (smaller (l .start) 0f))
+    to (cond (a .scrolls && not (a .reversed)) (inf false) (larger (l .end) (a .size)))
+
+-- as aligned in the block, but moved so far that it stays within the limit; what doesn't fit the limit stands at the limit's start
+unfoldable pub keptWithin : Line → OofAxis → Line → Float → AxisStaticEdge → Float
+keptWithin lim a l box edge =
+    cond (le box (span lim)) (larger (smaller (alignIn l box edge) (lim .end ⊖ box)) (lim .start)) (alignIn lim box (startEdge a))
+
+-- both insets: the margin box (of size `box`) aligned in the block `l`. Unsafe: as told. Safe: at the start where it overflows. By
+-- default as told where it fits or the alignment is normal, else kept within the limit.
+unfoldable pub selfAligned : AlignmentSafety → OofAxis → Line → Float → AxisStaticEdge → Float
+selfAligned Unsafe a l box edge = alignIn l box edge
+selfAligned Safe a l box edge = alignIn l box (cond (lt (span l) box) (startEdge a) edge)
+selfAligned Default a l box edge =
+    cond (le box (span l) || isNormal (a .alignment)) (alignIn l box edge) (keptWithin (limit a l) a l box edge)
+
+-- no insets: the margin box aligned in the static area; a safe one that overflows the block stands at the block's start
+unfoldable pub staticAligned : AlignmentSafety → OofAxis → Line → Float → Float
+staticAligned Default a l box = alignIn (a .place .area) box (a .place .align .keyword)
+staticAligned Unsafe a l box = alignIn (a .place .area) box (a .place .align .keyword)
+staticAligned Safe a l box =
+    cond (lt (span l) box) (alignIn l box (startEdge a)) (alignIn (a .place .area) box (a .place .align .keyword))
+
+-- one inset: at that inset's edge. Both insets and an auto margin: at the block's start, since margins fill the block
+unfoldable pub positionIn : MaybeF32 → MaybeF32 → OofAxis → Line → Float → Line → Float
+positionIn None None a l size m = staticAligned (a .place .align .safety) a l (size ⊕ m .start ⊕ m .end) ⊕ m .start
+positionIn (Some start) None a l size m = l .start ⊕ m .start
+positionIn None (Some end) a l size m = l .end ⊖ size ⊖ m .end
+positionIn (Some start) (Some end) a l size m =
+    cond (present (a .margin .start) && present (a .margin .end))
+    (selfAligned (a .safety) a l (size ⊕ m .start ⊕ m .end) (alignEdge (a .alignment) a) ⊕ m .start)
+    (l .start ⊕ m .start)
+
+-- where the border box of a size begins, its margins being `m`
+unfoldable pub position : OofAxis → Float → Line → Float
+position a size m = positionIn (a .inset .start) (a .inset .end) a (block a) size m
+
+-- what a final size leads to: margins first, then the position by them
+unfoldable pub placement : OofAxis → Float → AxisPlacement
+placement a size = record { position = position a size (margins a size); margin = margins a size }

@@ -1,0 +1,7 @@
+pub mod Rows
+pub mod Sample
+pub mod Quarter
+pub mod Typical
+pub mod Wild
+pub mod Directed
+pub mod Offsets
