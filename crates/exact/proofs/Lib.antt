@@ -1,0 +1,14 @@
+pub mod Tests
+pub mod Integers
+pub mod Round
+pub mod Exact
+pub mod Sum
+pub mod Double
+pub mod Compare
+pub mod Order
+pub mod Infinite
+pub mod Quarters
+pub mod Same
+pub mod Commute
+pub mod AddUp
+pub mod Laws

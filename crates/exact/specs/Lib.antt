@@ -1,0 +1,3 @@
+pub mod Integer
+pub mod Value
+pub mod Laws

@@ -1,0 +1,12 @@
+pub mod Model
+pub mod ExactBlock
+pub mod ExactMargins
+pub mod ExactPlace
+pub mod FlipBlock
+pub mod FlipMargins
+pub mod FlipPlace
+pub mod Offset
+pub mod Facing
+pub mod Law
+pub mod Examples
+pub mod Opposite
