@@ -1,0 +1,2 @@
+pub mod SizingKeyword
+pub mod ScrollableOverflow

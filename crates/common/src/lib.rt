@@ -1,0 +1,3 @@
+// compute/common/: what layout algorithms share.
+pub mod scrollable_overflow;
+pub mod sizing_keyword;

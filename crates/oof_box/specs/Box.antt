@@ -1,0 +1,170 @@
+-- One box, in the seven steps of document 01 ("One box"): `resolvedBox` is steps 1 to 3 (oof_resolve/specs/Resolved.antt), `boxLayout`
+-- step 7 (oof_place/specs/Placing.antt); steps 4 to 6 stand here. Read `placed`, at the end, first. Assumes nothing.
+use Prim.Native.Nat.{ℕ}
+use mathlib.Core.Bool.{Bool, true, false, cond, not, _&&_, _||_}
+use mathlib.Core.List.{List}
+use lib.Ieee.{Float}
+use Rattle.util.specs.Order.{larger}
+use Rattle.util.specs.Maybe.{present, unwrapOr, orZero}
+use Rattle.util.specs.declared.math.MaybeF32.{MaybeF32}
+use Rattle.util.specs.declared.math.MaybeF32.the-variants.{None, Some}
+use Rattle.geometry.specs.Geometry.{zeroSize, absentSize, definite, bothPresent, filledSize, clampedSize, clampedFloats, withRatio}
+use Rattle.geometry.specs.declared.Size.{Size}
+use Rattle.geometry.specs.declared.MaybeSize.{MaybeSize}
+use Rattle.style.specs.declared.Style.{Style}
+use Rattle.style.specs.declared.available_space.AvailableSpace.{AvailableSpace}
+use Rattle.style.specs.declared.available_space.AvailableSpace.the-variants.{Definite}
+use Rattle.style.specs.declared.available_space.AvailableSize.{AvailableSize}
+use Rattle.tree.specs.declared.layout.OofCandidate.{OofCandidate}
+use Rattle.oof_axis.specs.Axis.{stretches, isStretch}
+use Rattle.oof_resolve.specs.Resolved.{resolvedBox}
+use Rattle.oof_resolve.specs.declared.ContainingBlock.{ContainingBlock}
+use Rattle.oof_resolve.specs.declared.ResolvedBox.{ResolvedBox}
+use Rattle.common.specs.SizingKeyword.{absoluteStretch, keywordsOf}
+use Rattle.common.specs.declared.sizing_keyword.SizingKeywordResolution.{SizingKeywordResolution}
+use Rattle.common.specs.declared.sizing_keyword.SizingKeywordResolution.the-variants.{NoKeyword, Exact, Measure}
+use Rattle.common.specs.declared.sizing_keyword.SizingKeywords.{SizingKeywords}
+use Rattle.oof_box.specs.Talk.{Talk, done, _>>=_, measureBoth, measureWidth, measureHeight, layOut}
+use Rattle.oof_box.specs.declared.sizing.Stretched.{Stretched}
+use Rattle.oof_place.specs.Placing.{boxLayout}
+use Rattle.oof_place.specs.declared.OofBoxLayout.{OofBoxLayout}
+
+infix 60 _by_ _and_
+abbrev pub _by_ : MaybeF32 → MaybeF32 → MaybeSize
+w by h = record { width = w; height = h }
+
+abbrev pub _and_ : AvailableSpace → AvailableSpace → AvailableSize
+w and h = record { width = w; height = h }
+
+-- ---- step 4: size keywords
+
+-- the stretch size of each side's keyword
+unfoldable pub keywordStretch : ResolvedBox → Size
+keywordStretch box =
+    record {
+      width = absoluteStretch (box .horizontal .size) (box .horizontal .inset) (box .horizontal .margin);
+      height = absoluteStretch (box .vertical .size) (box .vertical .inset) (box .vertical .margin);
+    }
+
+-- what the absent sides' keywords come to
+unfoldable pub sizeKeywords : Style → ResolvedBox → SizingKeywords
+sizeKeywords style box =
+    keywordsOf (box .size) (style .size) (record { width = box .horizontal .size; height = box .vertical .size }) (keywordStretch box)
+
+abbrev pub isKeyword : SizingKeywordResolution → Bool
+isKeyword NoKeyword = false
+isKeyword (Exact x) = true
+isKeyword (Measure space) = true
+
+-- ratio, then clamp
+unfoldable pub settled : MaybeF32 → ResolvedBox → MaybeSize → MaybeSize
+settled ratio box size = clampedSize (withRatio ratio size) (box .min) (box .max)
+
+-- the width; a height that isn't known has its stretch size as space
+unfoldable pub widthAs : ℕ → SizingKeywordResolution → MaybeSize → Size → Talk MaybeF32
+widthAs node NoKeyword known stretch = done (known .width)
+widthAs node (Exact x) known stretch = done (Some x)
+widthAs node (Measure across) known stretch = do
+  width ← measureWidth (record { node = node; known = known; space = across and Definite (stretch .height) })
+  done (Some width)
+
+-- the height; a width that is known is its space, else its stretch size
+unfoldable pub heightAs : ℕ → SizingKeywordResolution → MaybeSize → Size → Talk MaybeF32
+heightAs node NoKeyword known stretch = done (known .height)
+heightAs node (Exact x) known stretch = done (Some x)
+heightAs node (Measure down) known stretch = do
+  height ← measureHeight (record { node = node; known = known; space = Definite (unwrapOr (known .width) (stretch .width)) and down })
+  done (Some height)
+
+-- the width, then the height by what is then known
+unfoldable pub inTurn : ℕ → SizingKeywordResolution → SizingKeywordResolution → MaybeSize → Size → Talk MaybeSize
+inTurn node wide tall known stretch = do
+  width ← widthAs node wide known stretch
+  height ← heightAs node tall (width by known .height) stretch
+  done (width by height)
+
+-- two measured sides are one question
+unfoldable pub byKeywords : ℕ → SizingKeywordResolution → SizingKeywordResolution → MaybeSize → Size → Talk MaybeSize
+byKeywords node (Measure across) (Measure down) known stretch = do
+  size ← measureBoth (record { node = node; known = absentSize; space = across and down })
+  done (definite size)
+byKeywords node (Measure across) NoKeyword known stretch = inTurn node (Measure across) NoKeyword known stretch
+byKeywords node (Measure across) (Exact h) known stretch = inTurn node (Measure across) (Exact h) known stretch
+byKeywords node NoKeyword tall known stretch = inTurn node NoKeyword tall known stretch
+byKeywords node (Exact w) tall known stretch = inTurn node (Exact w) tall known stretch
+
+-- an absent side with a keyword is filled; ratio and clamp follow. (The Rust applies both once more where only a known side has a
+-- keyword: they change nothing there, since a ratio completes a lone side only, and a clamped size is clamped.)
+unfoldable pub keywordSizes : ℕ → Style → ResolvedBox → SizingKeywords → Talk MaybeSize
+keywordSizes node style box keywords =
+    cond (isKeyword (keywords .width) || isKeyword (keywords .height))
+    (do
+      known ← byKeywords node (keywords .width) (keywords .height) (box .size) (keywordStretch box)
+      done (settled (style .ratio) box known))
+    (done (box .size))
+
+-- ---- step 5: stretch width, then height
+
+-- stretch said of both axes ignores the ratio
+unfoldable pub ignoresRatio : ResolvedBox → Bool → Bool → Bool
+ignoresRatio box across down = across && (down && (isStretch (box .horizontal) && isStretch (box .vertical)))
+
+unfoldable pub stretchRatio : Style → ResolvedBox → Bool → Bool → MaybeF32
+stretchRatio style box across down = cond (ignoresRatio box across down) None (style .ratio)
+
+-- an absent width becomes the stretch-fit width; the ratio may then give the height
+unfoldable pub widened : MaybeF32 → ResolvedBox → Bool → MaybeSize → MaybeSize
+widened ratio box across known = cond across (settled ratio box (Some (box .fit .width) by known .height)) known
+
+-- a height that is still absent becomes the stretch-fit height
+unfoldable pub heightened : MaybeF32 → ResolvedBox → Bool → MaybeSize → MaybeSize
+heightened ratio box down known =
+    cond (down && not (present (known .height))) (settled ratio box (known .width by Some (box .fit .height))) known
+
+-- a table is never stretched directly: its min is raised to the stretch-fit size, and the table is measured
+unfoldable pub raisedMin : Bool → MaybeF32 → Float → MaybeF32
+raisedMin stretches min fit = cond stretches (Some (larger (orZero min) fit)) min
+
+unfoldable pub stretched : Style → ResolvedBox → MaybeSize → Stretched
+stretched style box known =
+    let plain = not (style .replaced) && not (style .table) in
+    let across = not (present (known .width)) && stretches (box .horizontal) plain in
+    let down = not (present (known .height)) && stretches (box .vertical) plain in
+    let ratio = stretchRatio style box across down in
+    cond (style .table)
+    (record {
+      known = known;
+      min = raisedMin across (box .min .width) (box .fit .width) by raisedMin down (box .min .height) (box .fit .height);
+    })
+    (record { known = heightened ratio box down (widened ratio box across known); min = box .min })
+
+-- ---- step 6: if a side is still absent, measure both and fill only that side; clamp
+
+unfoldable pub finalSize : ResolvedBox → Stretched → Size → Size
+finalSize box at measured = clampedFloats (filledSize (at .known) measured) (at .min) (box .max)
+
+unfoldable pub measured : ℕ → ResolvedBox → Stretched → Talk Size
+measured node box at = do
+  size ← cond (bothPresent (at .known)) (done zeroSize) (measureBoth (record { node = node; known = at .known; space = box .space }))
+  done (finalSize box at size)
+
+-- ---- the whole box
+
+-- the layout with what it adds to the overflow, and the candidates that the box surfaces
+pub record Placed : Type 0 where
+  pub outcome : OofBoxLayout
+  pub surfaced : List OofCandidate
+
+unfoldable pub placed : ContainingBlock → Style → OofCandidate → Talk Placed
+placed block style candidate =
+    let node = candidate .node in
+    -- 1, 2, 3. percentages and static areas; size, min and max; available space
+    let box = resolvedBox block style candidate in
+    do
+      -- 4. size keywords
+      known ← keywordSizes node style box (sizeKeywords style box)
+      -- 5, 6. stretch; measure what is still absent
+      size ← measured node box (stretched style box known)
+      -- 7. lay out; margins, location, overflow
+      laid ← layOut (record { node = node; size = size; space = box .space })
+      done (record { outcome = boxLayout block style candidate box size (laid .overflow); surfaced = laid .surfaced })

@@ -1,0 +1,4 @@
+pub mod Talk
+pub mod Box
+pub mod Cut
+pub mod Theorems

@@ -1,0 +1,23 @@
+-- Document 01's starred rows, 1 to 11, by computation.
+use mathlib.Core.Path.{_≡_, refl}
+use mathlib.Core.Bool.{true}
+use lib.Ieee.{add, sub, mul, div, neg, lt, le, eq, isNan, sum, round, units, odd, size, span, climb, ofBits, toBits, ofFields, nanBits, ofInt}
+use Rattle.util.specs.Order.{zeroOf, before, larger, smaller, magnitude}
+use Rattle.util.specs.Maybe.{present, orElse, unwrapOr, map, mapAdd, mapLarger, atMost, atLeast, clamped, mapClamped}
+use Rattle.geometry.specs.Geometry.{rectOrZero, sumX, sumY, sums, rectSum, unionOf, smallerSize, definite, bothPresent, firstSize, filledSize, addedSize, raisedSize, clampedSize, clampedFloats, completed, withRatio}
+use Rattle.style.specs.Resolve.{byTag, resolved, takes, maybeResolved, resolvedRect, resolvedSize}
+use Rattle.style.specs.Values.{selfRelative, clampedSpace, clampedSpaces, definiteSpaces}
+use Rattle.oof_axis.specs.Axis.{fromResolved, startEdge, endEdge, alignIn, centeredBlock, staticBlock, insetBlock, weakerEdge, closedUp, repaired, block, bothInsets, stretchFit, stretching, stretches, isStretch, halves, filledMargins, margins, isNormal, alignEdge, limit, keptWithin, selfAligned, staticAligned, positionIn, position, placement}
+use Rattle.common.specs.SizingKeyword.{byKeyword, ofResolved, keywordOf, absoluteStretch, ifAbsent, keywordsOf}
+use Rattle.common.specs.ScrollableOverflow.{propagates, reach, placedAt, contribution}
+use Rattle.oof_resolve.specs.Resolved.{ofWidth, ofEachAxis, lessOffset, horizontal, vertical, paddingOrBorder, styleSize, minSize, lessMargins, spaceFor, resolvedBox}
+use Rattle.oof_place.specs.Placing.{scrollbarOf, layoutOf, fromOrigin, boxLayout}
+use Rattle.oof_box.specs.Talk.{_>>=_}
+use Rattle.oof_box.specs.Box.{keywordStretch, sizeKeywords, settled, widthAs, heightAs, inTurn, byKeywords, keywordSizes, ignoresRatio, stretchRatio, widened, heightened, raisedMin, stretched, finalSize, measured, placed}
+use Rattle.oof_box.specs.Cut.{taken, knownBy, stretchedBy, sizeBy, keywordAsked, sizeAsked, askedOf, askedAfter, layoutAfter}
+use Rattle.oof_axis_rows.specs.Rows.{px, insets, none, static, axis, centered, autoMargins, overconstrained, staticCenter, lineIs, locates, places, hasBlock, rows, all}
+use Rattle.oof_box_rows.specs.Rows.{boxOf, block as block-of-rows, candidate, hasWidth, boxRows, starredRows}
+
+starred-rows-hold : all starredRows ≡ true
+unfolding add sub mul div neg lt le eq isNan sum round units odd size span climb ofBits toBits ofFields nanBits ofInt zeroOf before larger smaller magnitude present orElse unwrapOr map mapAdd mapLarger atMost atLeast clamped mapClamped rectOrZero sumX sumY sums rectSum unionOf smallerSize definite bothPresent firstSize filledSize addedSize raisedSize clampedSize clampedFloats completed withRatio byTag resolved takes maybeResolved resolvedRect resolvedSize selfRelative clampedSpace clampedSpaces definiteSpaces fromResolved startEdge endEdge alignIn centeredBlock staticBlock insetBlock weakerEdge closedUp repaired block bothInsets stretchFit stretching stretches isStretch halves filledMargins margins isNormal alignEdge limit keptWithin selfAligned staticAligned positionIn position placement byKeyword ofResolved keywordOf absoluteStretch ifAbsent keywordsOf propagates reach placedAt contribution ofWidth ofEachAxis lessOffset horizontal vertical paddingOrBorder styleSize minSize lessMargins spaceFor resolvedBox scrollbarOf layoutOf fromOrigin boxLayout _>>=_ keywordStretch sizeKeywords settled widthAs heightAs inTurn byKeywords keywordSizes ignoresRatio stretchRatio widened heightened raisedMin stretched finalSize measured placed taken knownBy stretchedBy sizeBy keywordAsked sizeAsked askedOf askedAfter layoutAfter px insets none static axis centered autoMargins overconstrained staticCenter lineIs locates places hasBlock rows all boxOf block-of-rows candidate hasWidth boxRows starredRows
+starred-rows-hold = refl

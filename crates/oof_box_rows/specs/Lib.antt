@@ -1,0 +1,6 @@
+pub mod Sample
+pub mod Quarter
+pub mod Typical
+pub mod Wild
+pub mod Directed
+pub mod Rows

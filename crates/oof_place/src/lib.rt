@@ -1,0 +1,117 @@
+// compute/oof.rs, the last part of `layout_oof_box`: the layout of a box whose size is final, and what it adds to the container's
+// scrollable overflow (document 01, "One box", step 7).
+ghost use mathlib.Core.Path.{_≡_};
+ghost use Rattle.oof_place.specs.Placing.{scrollbarOf, layoutOf, fromOrigin, boxLayout};
+use common::scrollable_overflow;
+use geometry::Point;
+use geometry::Rect;
+use geometry::Size;
+use oof_resolve::ContainingBlock;
+use oof_resolve::ResolvedBox;
+use style::Overflow;
+use style::Style;
+use tree::layout::Layout;
+use tree::layout::OofCandidate;
+
+pub struct OofBoxLayout {
+    pub layout: Layout,
+    pub contribution: Rect,
+}
+
+// The room of a scrollbar, where there is one.
+fn scrollbar_of(overflow: Overflow, width: f32) -> f32
+    ensures { λ r. ⌜ r ≡ scrollbarOf overflow width ⌝ }
+{
+    if overflow.is_scroll() {
+        return width;
+    }
+    0.0
+}
+
+// The bar of a vertical scroll takes width, that of a horizontal one height. The location includes the offset.
+fn layout_of(
+    block: ContainingBlock,
+    style: Style,
+    candidate: OofCandidate,
+    resolved: ResolvedBox,
+    size: Size,
+    overflow: Rect,
+) -> Layout
+    ensures { λ r. ⌜ r ≡ layoutOf block style candidate resolved size overflow ⌝ }
+{
+    let offset = block.area.offset;
+    let horizontal = resolved.horizontal;
+    let vertical = resolved.vertical;
+    let padding = resolved.padding;
+    let border = resolved.border;
+    let clip = style.overflow;
+    let clip_x = clip.x;
+    let clip_y = clip.y;
+    let across = horizontal.placement(size.width);
+    let down = vertical.placement(size.height);
+    let margin_x = across.margin;
+    let margin_y = down.margin;
+    Layout {
+        order: candidate.order,
+        size: size,
+        overflow: overflow,
+        scrollbar: Size {
+            width: scrollbar_of(clip_y, style.scrollbar),
+            height: scrollbar_of(clip_x, style.scrollbar),
+        },
+        location: Point {
+            x: across.position + offset.x,
+            y: down.position + offset.y,
+        },
+        padding: padding,
+        border: border,
+        margin: Rect::from_components(margin_x, margin_y),
+    }
+}
+
+// The location from the scroll origin: the area's top, and its start edge by direction.
+fn from_origin(block: ContainingBlock, location: Point, size: Size) -> Point
+    ensures { λ r. ⌜ r ≡ fromOrigin block location size ⌝ }
+{
+    let offset = block.area.offset;
+    let direction = block.direction;
+    let x = location.x - offset.x;
+    let y = location.y - offset.y;
+    if direction.is_rtl() {
+        return Point {
+            x: block.area.size.width - x - size.width,
+            y: y,
+        };
+    }
+    Point { x: x, y: y }
+}
+
+pub fn place(
+    block: ContainingBlock,
+    style: Style,
+    candidate: OofCandidate,
+    resolved: ResolvedBox,
+    size: Size,
+    overflow: Rect,
+) -> OofBoxLayout
+    ensures { λ r. ⌜ r ≡ boxLayout block style candidate resolved size overflow ⌝ }
+{
+    let clip = style.overflow;
+    let contain = style.contain;
+    let container = block.overflow;
+    let layout = layout_of(block, style, candidate, resolved, size, overflow);
+    let location = layout.location;
+    let origin = from_origin(block, location, size);
+    let added = scrollable_overflow::compute_scrollable_overflow_contribution(
+        origin,
+        size,
+        overflow,
+        clip,
+        contain,
+        container.is_scroll_container(),
+    );
+    OofBoxLayout {
+        layout: layout,
+        contribution: added,
+    }
+}
