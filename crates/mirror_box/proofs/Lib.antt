@@ -1,0 +1,13 @@
+pub mod Bounds
+pub mod Lengths
+pub mod Shared
+pub mod Reflect
+pub mod Resolve
+pub mod Keywords
+pub mod Stretch
+pub mod Questions
+pub mod Place
+pub mod Contribution
+pub mod Union
+pub mod Law
+pub mod Examples

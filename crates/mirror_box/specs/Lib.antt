@@ -1,0 +1,4 @@
+pub mod Image
+pub mod Quarter
+pub mod Mirrored
+pub mod Law
