@@ -1,0 +1,6 @@
+pub mod Ways
+pub mod Refusals
+pub mod Questions
+pub mod BoxTalk
+pub mod Worlds
+pub mod Straight

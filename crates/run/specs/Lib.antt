@@ -1,0 +1,5 @@
+pub mod Call
+pub mod Refusals
+pub mod Run
+pub mod Straight
+pub mod Theorems

@@ -1,0 +1,3 @@
+pub mod Script
+pub mod Runs
+pub mod Readings
