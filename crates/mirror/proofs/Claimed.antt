@@ -1,0 +1,196 @@
+-- The candidates of an opening and their images: each is ready to be laid out, and goes to the same list. Assumes nothing.
+use Prim.Native.Nat.{ℕ, zero, suc, _+_, _*_, _/_, _<_, _≤_}
+use native.Mathlib.Omega.{arith}
+use native.Mathlib.Nat.{zero-add, not-suc-le-zero, le-of-suc-le-suc}
+use mathlib.Core.Path.{_≡_, refl, sym, ap, _∙_, subst}
+use mathlib.Core.Bool.{Bool, true, false, not}
+use mathlib.Core.List.{List, [], _∷_, map}
+use lib.Dec.{leb, lit<}
+use lib.ListN.{length, getD}
+use lib.Seq.{take-at, drop-at}
+use borrow.Author.Tests.{leb-false, lt-leb, not-true}
+use Rattle.style.specs.declared.ContainingBlockClaims.{ContainingBlockClaims}
+use Rattle.style.specs.declared.Position.{Position}
+use Rattle.style.specs.declared.Position.the-variants as position
+use Rattle.style.specs.declared.alignment.AlignmentSafety.{AlignmentSafety}
+use Rattle.style.specs.declared.alignment.AlignmentSafety.the-variants.{Default, Unsafe, Safe}
+use Rattle.tree.specs.declared.layout.AxisStaticEdge.{AxisStaticEdge}
+use Rattle.tree.specs.declared.layout.AxisStaticEdge.the-variants.{Start, Center, End}
+use Rattle.tree.specs.declared.layout.OofCandidate.{OofCandidate}
+use Rattle.tree.specs.declared.layout.OofPositioningArea.{OofPositioningArea}
+use Rattle.records.specs.Records.{whole, recordAt, records, every, wrong, breaks, good, goodRecords}
+use Rattle.records.proofs.Laws.{word-of-record, record-of-records, every-is, good-is-unbroken, rear-back}
+use Rattle.tree_record.specs.Codes.{positionCode, edgeCode, safetyCode}
+use Rattle.tree_record.specs.Candidate.{candidateWidth, candidateKinds, candidateOf, candidateWords}
+use Rattle.tree_record.proofs.Laws.{candidate-widths, decoded-fits}
+use Rattle.sweep.specs.Sweep.{firstCandidates, candidatesIn, keep, listWords, appended}
+use Rattle.sweep.specs.Laws.{AllFit}
+use Rattle.sweep.proofs.Steps.{words-length, appended-length}
+use Rattle.sweep.proofs.Laws.{kept-fits}
+use Rattle.run.proofs.Worlds.{list-back}
+use Rattle.oof_resolve.specs.declared.ContainingBlock.{ContainingBlock}
+use Rattle.mirror_box.specs.Quarter.{QuarterBlock, QuarterCandidate}
+use Rattle.mirror_box.specs.Mirrored.{CandidateImage}
+use Rattle.mirror_box.proofs.Law.{image-is-exact}
+use Rattle.mirror.specs.Image.{imageCandidates}
+use Rattle.mirror.specs.Quarter.{QuarterCandidates}
+use Rattle.mirror.specs.Runs.{Each, none, one, Unclaimed, surfaced, opened}
+use Rattle.mirror.proofs.Lists.{nobody, first-by}
+use Rattle.mirror.proofs.Candidates.{count-kept, decoded-image, decoded-position, record-words}
+use Rattle.mirror.proofs.Linked.{Ready}
+
+-- ---- claimed alike, whatever the words
+
+abbrev pub SamePosition : OofCandidate → OofCandidate → Type 0
+SamePosition c c' = c .position ≡ c' .position
+
+module _ (area : OofPositioningArea) (ws : List ℕ) {R : OofCandidate → OofCandidate → Type 0} where
+  -- a slice and its image, record by record
+  by-records : ((i : ℕ) → i < length ws / candidateWidth → R (candidateOf (recordAt candidateWidth ws i)) (candidateOf (recordAt candidateWidth (imageCandidates area ws) i)))
+      → Each R (candidatesIn ws) (candidatesIn (imageCandidates area ws))
+  unfolding candidatesIn
+  by-records g = rw (count-kept area ws) (first-by (length ws / candidateWidth) ws (imageCandidates area ws) g)
+
+pub same-positions : (area : OofPositioningArea) (ws : List ℕ) → Each SamePosition (candidatesIn ws) (candidatesIn (imageCandidates area ws))
+same-positions area ws =
+    by-records area ws
+    (λ i h. decoded-position area (recordAt candidateWidth ws i) (recordAt candidateWidth (imageCandidates area ws) i) (record-words area ws i h))
+
+-- ---- ready
+
+module _ (n : ℕ) (ws : List ℕ) (g : goodRecords (candidateKinds n) ws (length ws / candidateWidth) ≡ true) (i : ℕ) (h : i < length ws / candidateWidth) where
+  word-good : (k : ℕ) → k < candidateWidth → wrong (getD (candidateKinds n) k whole) (getD (recordAt candidateWidth ws i) k 0) ≡ false
+  unfolding breaks
+  word-good k l =
+      ap (wrong (getD (candidateKinds n) k whole)) (word-of-record candidateWidth ws i k l)
+      ∙ good-is-unbroken (candidateKinds n) ws (length ws / candidateWidth) .0 g .1 i k h l
+
+  pub node-there : candidateOf (recordAt candidateWidth ws i) .node < n
+  unfolding candidateOf wrong
+  node-there = leb-false n (getD (recordAt candidateWidth ws i) 0 0) (word-good 0 (lit< tt))
+
+  pub edge-there : getD (recordAt candidateWidth ws i) 5 0 < 3
+  unfolding wrong
+  edge-there = leb-false 3 (getD (recordAt candidateWidth ws i) 5 0) (word-good 5 (lit< tt))
+
+  pub fallback-there : getD (recordAt candidateWidth ws i) 7 0 < 3
+  unfolding wrong
+  fallback-there = leb-false 3 (getD (recordAt candidateWidth ws i) 7 0) (word-good 7 (lit< tt))
+
+pub all-ready : (block : ContainingBlock) → QuarterBlock block → (n : ℕ) (ws : List ℕ) → goodRecords (candidateKinds n) ws (length ws / candidateWidth) ≡ true → QuarterCandidates ws
+    → Each (Ready (block .area) n) (candidatesIn ws) (candidatesIn (imageCandidates (block .area) ws))
+all-ready block hb n ws g q =
+    by-records (block .area) ws
+    (λ i h.
+    let c = candidateOf (recordAt candidateWidth ws i) in
+    let quarter : QuarterCandidate c = record { start = q i h .0 .0; end = q i h .0 .1 } in
+    record {
+      image =
+          subst (CandidateImage (block .area) c)
+          (sym
+          (decoded-image (block .area) (recordAt candidateWidth ws i) (recordAt candidateWidth (imageCandidates (block .area) ws) i) (record-words (block .area) ws i h)
+          (edge-there n ws g i h) (fallback-there n ws g i h)))
+          (image-is-exact block c hb quarter);
+      quarter = quarter;
+      there = node-there n ws g i h;
+    })
+
+-- ---- a list that is filled from its front
+
+slice-fits : (ws : List ℕ) → AllFit (candidatesIn ws)
+unfolding candidatesIn firstCandidates
+slice-fits ws = all (records candidateWidth (length ws / candidateWidth) ws)
+  where
+    all : (rs : List (List ℕ)) → AllFit (map candidateOf rs)
+    all [] = tt
+    all (r ∷ rs) = (decoded-fits r, all rs)
+
+-- what goes to a list, written from its front and read back
+pub slice-back : (by : ContainingBlockClaims) (ws w : List ℕ) (list : Bool) → candidateWidth * (0 + length (keep by list (candidatesIn ws))) ≤ length w
+    → firstCandidates (length (keep by list (candidatesIn ws))) (appended w 0 (keep by list (candidatesIn ws))) ≡ keep by list (candidatesIn ws)
+slice-back by ws w true room = list-back w (keep by true (candidatesIn ws)) (kept-fits by (candidatesIn ws) (slice-fits ws) .0) (omega arith)
+slice-back by ws w false room = list-back w (keep by false (candidatesIn ws)) (kept-fits by (candidatesIn ws) (slice-fits ws) .1) (omega arith)
+
+-- the unclaimed records of an opening are images
+pub opened-images : {area : OofPositioningArea} {n : ℕ} {cs cs' : List OofCandidate} → Each (Ready area n) cs cs' → Unclaimed area cs cs'
+opened-images none = surfaced none
+opened-images (one r e) = opened (r .image) (opened-images e)
+
+-- ---- its words break no rule
+
+position-good : (p : Position) → leb 5 (positionCode p) ≡ false
+unfolding positionCode
+position-good position.Static = refl
+position-good position.Relative = refl
+position-good position.Absolute = refl
+position-good position.Fixed = refl
+position-good position.Sticky = refl
+
+edge-good : (e : AxisStaticEdge) → leb 3 (edgeCode e) ≡ false
+unfolding edgeCode
+edge-good Start = refl
+edge-good Center = refl
+edge-good End = refl
+
+safety-good : (s : AlignmentSafety) → leb 3 (safetyCode s) ≡ false
+unfolding safetyCode
+safety-good Default = refl
+safety-good Unsafe = refl
+safety-good Safe = refl
+
+record-good : (n : ℕ) (c : OofCandidate) → c .node < n → good (candidateKinds n) (candidateWords c) 0 ≡ true
+unfolding good every breaks wrong candidateWords
+record-good n c h =
+    rw (
+      lt-leb n (c .node) h,
+      position-good (c .position),
+      edge-good (c .place .x .align .keyword),
+      safety-good (c .place .x .align .safety),
+      edge-good (c .place .x .align .fallback),
+      edge-good (c .place .y .align .keyword),
+      safety-good (c .place .y .align .safety),
+      edge-good (c .place .y .align .fallback),
+    )
+    refl
+
+word-written : (n : ℕ) (c : OofCandidate) → c .node < n → (k : ℕ) → k < candidateWidth → wrong (getD (candidateKinds n) k whole) (getD (candidateWords c) k 0) ≡ false
+unfolding good breaks
+word-written n c h k l =
+    ap (λ (j : ℕ). wrong (getD (candidateKinds n) k whole) (getD (candidateWords c) j 0)) (sym (zero-add k))
+    ∙ not-true _ (every-is 13 (λ k. not (breaks (candidateKinds n) (candidateWords c) 0 k)) .0 (record-good n c h) k l)
+
+words-records : (cs : List OofCandidate) → records candidateWidth (length cs) (listWords cs) ≡ map candidateWords cs
+unfolding listWords records
+words-records [] = refl
+words-records (c ∷ cs) =
+    rw (take-at (candidateWords c) (listWords cs) 13 (candidate-widths .1 c), drop-at (candidateWords c) (listWords cs) 13 (candidate-widths .1 c), words-records cs) refl
+
+word-list : (cs : List OofCandidate) (i : ℕ) → i < length cs → getD (map candidateWords cs) i [] ≡ candidateWords (getD cs i nobody)
+word-list [] i h = absurd (not-suc-le-zero h)
+word-list (c ∷ cs) zero h = refl
+word-list (c ∷ cs) (suc i) h = word-list cs i (le-of-suc-le-suc h)
+
+module _ (w : List ℕ) (cs : List OofCandidate) (room : candidateWidth * (0 + length cs) ≤ length w) where
+  front-records : records candidateWidth (length cs) (appended w 0 cs) ≡ map candidateWords cs
+  unfolding records
+  front-records =
+      ap (λ (n : ℕ). records candidateWidth n (appended w 0 cs)) (sym (zero-add (length cs)))
+      ∙ rear-back candidateWidth 0 (length cs) w (listWords cs) (words-length cs) (omega (arith, words-length cs))
+      ∙ words-records cs
+
+  front-record : (i : ℕ) → i < length cs → recordAt candidateWidth (appended w 0 cs) i ≡ candidateWords (getD cs i nobody)
+  front-record i h =
+      sym (record-of-records candidateWidth (length cs) (appended w 0 cs) i h)
+      ∙ ap (λ (rs : List (List ℕ)). getD rs i []) front-records
+      ∙ word-list cs i h
+
+  pub front-good : (n : ℕ) → ((i : ℕ) → i < length cs → getD cs i nobody .node < n) → goodRecords (candidateKinds n) (appended w 0 cs) (length cs) ≡ true
+  unfolding breaks
+  front-good n nodes =
+      good-is-unbroken (candidateKinds n) (appended w 0 cs) (length cs) .1 (
+        omega (arith, appended-length w 0 cs),
+        λ i k h l.
+            ap (wrong (getD (candidateKinds n) k whole))
+            (sym (word-of-record candidateWidth (appended w 0 cs) i k l) ∙ ap (λ (r : List ℕ). getD r k 0) (front-record i h))
+            ∙ word-written n (getD cs i nobody) (nodes i h) k l,
+      )
