@@ -1,0 +1,5 @@
+pub mod Nodes
+pub mod Sweeps
+pub mod Calls
+pub mod Openings
+pub mod Replies

@@ -1,0 +1,204 @@
+-- A reply, by the ways that the code goes. Assumes nothing.
+use Prim.Native.Nat.{ℕ, _+_, _*_, _<_}
+use native.Mathlib.Omega.{arith}
+use mathlib.Core.Bool.{Bool, true, false}
+use mathlib.Core.List.{List, [], map}
+use mathlib.Core.Path.{_≡_, refl, sym, ap, _∙_}
+use lib.Ieee.{Float}
+use Rattle.util.proofs.Floats.{no}
+use Rattle.geometry.specs.Geometry.{unionOf}
+use Rattle.geometry.specs.declared.Rect.{Rect}
+use Rattle.geometry.specs.declared.Size.{Size}
+use Rattle.refusal.specs.declared.Refusal.{Refusal}
+use Rattle.records.specs.Records.{written}
+use Rattle.style_record.specs.Decode.{styleAt}
+use Rattle.tree_record.specs.Layout.{layoutWidth, layoutWords}
+use Rattle.sweep.specs.declared.Filled.{Filled}
+use Rattle.sweep.specs.declared.Shift.{Shift}
+use Rattle.sweep.specs.declared.Shift.the-variants.{By}
+use Rattle.sweep.specs.declared.Swept.the-variants.{Refused, Into}
+use Rattle.sweep.specs.Sweep as sweep
+use Rattle.sweep.specs.Sweep.{candidatesIn, moved, swept}
+use Rattle.sweep.proofs.Steps.{kept-moved}
+use Rattle.oof_box.specs.Cut.{layoutAfter, taken, takenBoth, takenWidth, takenHeight, takenLaidOut}
+use Rattle.oof_place.specs.declared.OofBoxLayout.{OofBoxLayout}
+use Rattle.oof_box.specs.declared.question.Replies.{Replies}
+use Rattle.oof_box.specs.declared.question.Reply.{Reply}
+use Rattle.oof_box.specs.declared.question.Reply.the-variants.{Both, Width, Height, LaidOut}
+use Rattle.oof_box.specs.declared.question.Stage.{Stage}
+use Rattle.oof_box.specs.declared.question.Stage.the-variants.{KeywordBoth, KeywordWidth, KeywordHeight, Fill, LayOut}
+use Rattle.oof_box.specs.declared.question.Taken.{Taken}
+use Rattle.oof_box.specs.declared.question.Taken.the-variants.{Wrong, Kept, Laid}
+use Rattle.run.specs.declared.Answer.the-variants as answer
+use Rattle.run.specs.declared.Progress.{Progress}
+use Rattle.run.specs.declared.Progress.the-variants.{Finished, Asking}
+use Rattle.run.specs.declared.State.{State}
+use Rattle.run.specs.declared.Step.{Step}
+use Rattle.run.specs.Call.{Lent, Outcome, Leaves}
+use Rattle.run.specs.Refusals.{_when_else_, refused, lentBy, listFull}
+use Rattle.run.specs.Run.{boxAtHand, asking, proceeding, takenIn, takenBy, isWrong, replyVerdict, measuredOn, laidOut, repliedBy, replied}
+use Rattle.placer_check.specs.Verdict.{thenRoom}
+use Rattle.placer_check.specs.declared.Verdict.the-variants.{Accepted}
+use Rattle.placer.specs.Entry.{AtHand, Cleared}
+use Rattle.placer.proofs.Sweeps.{was-full, had-room, next-at-hand}
+use Rattle.placer.proofs.Calls.{Passed, reply-passed, counted, none-full}
+
+-- ---- the box is laid out
+
+module _ (s : State) (overflow : Rect) (surfaced : List ℕ) (l : Lent) where
+  abbrev pub placing : OofBoxLayout
+  placing = layoutAfter (s .opened .block) (styleAt (l .styles) (boxAtHand (l .working) (s .counts) .node)) (boxAtHand (l .working) (s .counts)) (s .replies) overflow
+
+  abbrev pub shift : Shift
+  shift = By (placing .layout .location)
+
+  abbrev pub sweeping : sweep.Outcome
+  sweeping = swept (s .opened .claims) (map (moved shift) (candidatesIn surfaced)) (l .working) (l .unclaimed) (s .counts .filled)
+
+  abbrev pub settled : Outcome
+  settled = repliedBy (thenRoom Accepted (listFull (s .opened .claims) l (s .counts .filled) surfaced)) (Laid overflow) s surfaced l
+
+  pub no-room : (r : Refusal) (step : Step) (w u : List ℕ) → sweep.Leaves (Refused r) w u sweeping
+      → step ≡ record { state = s; answer = answer.Refused r }
+      → Leaves step (l .layouts) w u settled
+  unfolding _when_else_
+  no-room r step w u h e =
+      let f = was-full (s .opened .claims) shift surfaced l (s .counts .filled) r w u h in
+      rw (f .0) (record { step = e ∙ rw (f .1) refl; layouts = refl; working = f .2; unclaimed = f .3 })
+
+  -- the next box has its record and its style
+  pub next-box : (after : Filled) (w u : List ℕ) → Passed s (LaidOut overflow) surfaced l → sweep.Leaves (Into after) w u sweeping
+      → s .counts .begun < after .working
+      → AtHand (l .styles) w (s .counts .begun + 1)
+  next-box after w u p h more =
+      let f = had-room (s .opened .claims) shift surfaced l (s .counts .filled) after w u h in
+      rw (f .2)
+      (next-at-hand (s .opened .claims) shift surfaced l (s .counts .filled) (l .styles) (p .listed) (p .brought) (f .0) (s .counts .begun)
+      (rw (sym (ap (λ (x : Filled). x .working) (f .1))) more))
+
+  pub placed : (after : Filled) (step : Step) (layouts w u : List ℕ) → sweep.Leaves (Into after) w u sweeping
+      → layouts ≡ written (l .layouts) (layoutWidth * boxAtHand (l .working) (s .counts) .node) (layoutWords (placing .layout))
+      → step ≡ proceeding (l .styles) w (s .opened) (record { filled = after; begun = s .counts .begun; answered = s .counts .answered + 1 }) (unionOf (s .overflow) (placing .contribution))
+      → Leaves step layouts w u settled
+  unfolding _when_else_ laidOut
+  placed after step layouts w u h p e =
+      let f = had-room (s .opened .claims) shift surfaced l (s .counts .filled) after w u h in
+      rw (f .0)
+      (record {
+        step = e ∙ rw (f .2, f .1, sym (kept-moved (s .opened .claims) true shift (candidatesIn surfaced)), sym (kept-moved (s .opened .claims) false shift (candidatesIn surfaced))) refl;
+        layouts = p;
+        working = f .2;
+        unclaimed = f .3;
+      })
+
+-- ---- what was taken tells the reply's kind
+
+isKept : Taken → Bool
+isKept Wrong = false
+isKept (Kept replies) = true
+isKept (Laid overflow) = false
+
+isLaid : Taken → Bool
+isLaid Wrong = false
+isLaid (Kept replies) = false
+isLaid (Laid overflow) = true
+
+-- a lay out reply is never kept
+laid-not-kept : (p : Progress) (r : Replies) (overflow : Rect) → isKept (takenIn p r (LaidOut overflow)) ≡ false
+unfolding isKept taken
+laid-not-kept Finished r overflow = refl
+laid-not-kept (Asking KeywordBoth) r overflow = refl
+laid-not-kept (Asking KeywordWidth) r overflow = refl
+laid-not-kept (Asking KeywordHeight) r overflow = refl
+laid-not-kept (Asking Fill) r overflow = refl
+laid-not-kept (Asking LayOut) r overflow = refl
+
+pub kept-lends-none : (s : State) (reply : Reply) (replies : Replies) (surfaced : List ℕ) → takenBy s reply ≡ Kept replies → lentBy reply surfaced ≡ []
+unfolding takenBy isKept
+kept-lends-none s (Both size) replies surfaced e = refl
+kept-lends-none s (Width width) replies surfaced e = refl
+kept-lends-none s (Height height) replies surfaced e = refl
+kept-lends-none s (LaidOut overflow) replies surfaced e = no (ap isKept e) (laid-not-kept (s .progress) (s .replies) overflow)
+
+-- a size is never laid out
+module _ (r : Replies) where
+  both-not-laid : (stage : Stage) (size : Size) → isLaid (takenBoth r stage size) ≡ false
+  unfolding isLaid
+  both-not-laid KeywordBoth size = refl
+  both-not-laid KeywordWidth size = refl
+  both-not-laid KeywordHeight size = refl
+  both-not-laid Fill size = refl
+  both-not-laid LayOut size = refl
+
+  width-not-laid : (stage : Stage) (side : Float) → isLaid (takenWidth r stage side) ≡ false
+  unfolding isLaid
+  width-not-laid KeywordBoth side = refl
+  width-not-laid KeywordWidth side = refl
+  width-not-laid KeywordHeight side = refl
+  width-not-laid Fill side = refl
+  width-not-laid LayOut side = refl
+
+  height-not-laid : (stage : Stage) (side : Float) → isLaid (takenHeight r stage side) ≡ false
+  unfolding isLaid
+  height-not-laid KeywordBoth side = refl
+  height-not-laid KeywordWidth side = refl
+  height-not-laid KeywordHeight side = refl
+  height-not-laid Fill side = refl
+  height-not-laid LayOut side = refl
+
+-- the rectangle of a box that is laid out
+rectOf : Rect → Taken → Rect
+rectOf other Wrong = other
+rectOf other (Kept replies) = other
+rectOf other (Laid overflow) = overflow
+
+laid-by : (stage : Stage) (given overflow : Rect) → takenLaidOut stage given ≡ Laid overflow → given ≡ overflow
+unfolding isLaid rectOf
+laid-by KeywordBoth given overflow e = no (ap isLaid e) refl
+laid-by KeywordWidth given overflow e = no (ap isLaid e) refl
+laid-by KeywordHeight given overflow e = no (ap isLaid e) refl
+laid-by Fill given overflow e = no (ap isLaid e) refl
+laid-by LayOut given overflow e = ap (rectOf given) e
+
+laid-in : (p : Progress) (r : Replies) (reply : Reply) (overflow : Rect) → takenIn p r reply ≡ Laid overflow → reply ≡ LaidOut overflow
+unfolding isLaid taken
+laid-in Finished r reply overflow e = no (ap isLaid e) refl
+laid-in (Asking stage) r (Both size) overflow e = no (ap isLaid e) (both-not-laid r stage size)
+laid-in (Asking stage) r (Width width) overflow e = no (ap isLaid e) (width-not-laid r stage width)
+laid-in (Asking stage) r (Height height) overflow e = no (ap isLaid e) (height-not-laid r stage height)
+laid-in (Asking stage) r (LaidOut given) overflow e = ap LaidOut (laid-by stage given overflow e)
+
+pub laid-is : (s : State) (reply : Reply) (overflow : Rect) → takenBy s reply ≡ Laid overflow → reply ≡ LaidOut overflow
+unfolding takenBy
+laid-is s reply overflow e = laid-in (s .progress) (s .replies) reply overflow e
+
+-- ---- the entry
+
+module _ (s : State) (reply : Reply) (surfaced : List ℕ) (l : Lent) where
+  pub turned-down : (r : Refusal) (step : Step) → replyVerdict s reply surfaced l ≡ refused r
+      → step ≡ record { state = s; answer = answer.Refused r }
+      → Leaves step (l .layouts) (l .working) (l .unclaimed) (replied s reply surfaced l)
+  unfolding replied
+  turned-down r step e p = rw e (record { step = p; layouts = refl; working = refl; unclaimed = refl })
+
+  -- a reply that no test turned down was not wrong
+  pub not-wrong : {A : Type 0} → Cleared s reply surfaced l → takenBy s reply ≡ Wrong → A
+  not-wrong e t = no (ap isWrong t) (reply-passed s reply surfaced l e .taken)
+
+  pub kept : (replies : Replies) (step : Step) → Cleared s reply surfaced l → takenBy s reply ≡ Kept replies
+      → step ≡ asking (l .styles) (l .working) (s .opened) (record { filled = s .counts .filled; begun = s .counts .begun; answered = s .counts .answered + 1 }) (s .overflow) replies
+      → Leaves step (l .layouts) (l .working) (l .unclaimed) (replied s reply surfaced l)
+  unfolding replied measuredOn _when_else_
+  kept replies step e t p =
+      let n = counted l (s .counts) (reply-passed s reply surfaced l e .counts) in
+      rw (e, t, kept-lends-none s reply replies surfaced t, none-full (s .opened .claims) l (s .counts) n)
+      (record { step = p; layouts = refl; working = refl; unclaimed = refl })
+
+  pub cleared-laid : (overflow : Rect) → Cleared s reply surfaced l → takenBy s reply ≡ Laid overflow → Cleared s (LaidOut overflow) surfaced l
+  cleared-laid overflow e t = rw (laid-is s reply overflow t) at e
+
+  pub laid : (overflow : Rect) (step : Step) (layouts w u : List ℕ) → Cleared s reply surfaced l → takenBy s reply ≡ Laid overflow
+      → Leaves step layouts w u (settled s overflow surfaced l)
+      → Leaves step layouts w u (replied s reply surfaced l)
+  unfolding replied
+  laid overflow step layouts w u e t h = rw (e, t, ap (λ (r : Reply). lentBy r surfaced) (laid-is s reply overflow t)) h

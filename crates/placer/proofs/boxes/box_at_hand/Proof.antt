@@ -1,0 +1,23 @@
+use Rattle.run.specs.Run.{boxAtHand}
+use borrow.Author.Needs.{needs}
+use Rattle.placer.proofs.boxes.box_at_hand.Statement.{statement}
+use Rattle.placer.proofs.boxes.box_at_hand.Tie as tie
+use Rattle.placer.proofs.boxes.box_at_hand.Reads as reads
+use Rattle.placer.proofs.boxes.box_at_hand.Lts as lts
+use Rattle.tree_record.proofs.candidate.candidate_at.Reads as candidate-at-reads
+
+-- src/boxes.rt:57:38
+sub-candidate-at : tie.Need-sub-candidate-at
+sub-candidate-at c = search needs
+
+-- src/boxes.rt:57:5
+candidate-at-requires : tie.Need-candidate-at-requires
+candidate-at-requires c κs = search needs
+
+-- src/boxes.rt:53:1
+returns : tie.Need-returns
+unfolding boxAtHand
+returns c = simp (← c .candidate-at .ensures)
+
+pub box-at-hand-spec : {M : Type 1} → statement M
+box-at-hand-spec = tie.close (tie.spec sub-candidate-at candidate-at-requires returns)

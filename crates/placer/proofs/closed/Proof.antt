@@ -1,0 +1,19 @@
+use Rattle.run.specs.Run.{closed}
+use borrow.Author.Needs.{needs}
+use Rattle.placer.proofs.closed.Statement.{statement}
+use Rattle.placer.proofs.closed.Tie as tie
+use Rattle.placer.proofs.closed.Reads as reads
+use Rattle.placer.proofs.closed.Lts as lts
+use Rattle.placer.proofs.extents_of.Reads as extents-of-reads
+
+-- src/lib.rt:105:18
+extents-of-requires : tie.Need-extents-of-requires
+extents-of-requires c κs = search needs
+
+-- src/lib.rt:94:1
+returns : tie.Need-returns
+unfolding closed
+returns c = simp (← c .extents-of .ensures)
+
+pub closed-spec : {M : Type 1} → statement M
+closed-spec = tie.close (tie.spec extents-of-requires returns)
