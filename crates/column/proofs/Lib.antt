@@ -1,0 +1,4 @@
+pub mod Stores
+pub mod Cells
+pub mod Lines
+pub mod Laws

@@ -1,0 +1,6 @@
+pub mod Text
+pub mod Table
+pub mod Lines
+pub mod Whole
+pub mod Back
+pub mod Laws

@@ -1,0 +1,99 @@
+-- What the definitions of this crate mean, as statements. `proofs/Laws.antt` proves each, under its name in small letters.
+-- Assumes nothing.
+use Prim.Native.Nat.{ℕ, _+_, _-_, _*_, _<_, _≤_}
+use mathlib.Core.Path.{_≡_}
+use mathlib.Core.Bool.{Bool, true, false, _&&_}
+use mathlib.Core.List.{List, [], _∷_, _++_}
+use lib.ListN.{length, replicate}
+use lib.Ieee.{ofBits, toBits, binary32}
+use Rattle.util.specs.declared.eighths.Count.the-variants.{Whole}
+use Rattle.util.specs.Eighths.{eighths, countOf}
+use Rattle.column.specs.declared.Ink.the-variants.{Digits}
+use Rattle.column.specs.Column.{cells, countInk}
+use Rattle.screen.specs.declared.format.Kind.{Kind}
+use Rattle.screen.specs.declared.format.Kind.the-variants.{Code, Eighths}
+use Rattle.screen.specs.declared.field.Numeral.the-variants.{Malformed, Number}
+use Rattle.screen.specs.declared.field.Word.the-variants.{Of}
+use Rattle.screen.specs.declared.Screen.{Screen}
+use Rattle.screen.specs.declared.Screen.the-variants.{BadLine}
+use Rattle.screen.specs.Format.{COLUMNS}
+use Rattle.screen.specs.Field.{isDigit, numeralOf, wordOf}
+use Rattle.screen.specs.Screen.{itemCount, candidateCount, isScreen, stylesOf, repliesOf, candidatesOf, ScreenRead}
+
+-- ---- a field
+
+unfoldable pub allDigits : List ℕ → Bool
+allDigits [] = true
+allDigits (b ∷ bs) = isDigit b && allDigits bs
+
+-- the number that digits spell, after digits that spell v
+unfoldable pub decimal : ℕ → List ℕ → ℕ
+decimal v [] = v
+decimal v (b ∷ bs) = decimal (v * 10 + (b - 48)) bs
+
+-- at most one sign
+pub data Sign : Bool → List ℕ → Type 0 where
+  minus : Sign true (45 ∷ [])
+  plus : Sign false (43 ∷ [])
+  none : Sign false []
+
+pub record Spelling (bs : List ℕ) (s : Bool) (n : ℕ) : Type 0 where
+  pub blanks : ℕ
+  pub sign : List ℕ
+  pub digits : List ℕ
+  pub whole : bs ≡ replicate blanks 32 ++ (sign ++ digits)
+  pub signed : Sign s sign
+  pub some : 0 < length digits
+  pub all : allDigits digits ≡ true
+  pub value : decimal 0 digits ≡ n
+
+-- a field that spells a number is blanks, at most one sign, one or more digits, and nothing else
+abbrev pub FieldShape : Type 0
+FieldShape = (bs : List ℕ) (s : Bool) (n : ℕ) → numeralOf bs ≡ Number s n → Spelling bs s n
+
+-- so numbers are right-justified: no blank stands after them
+abbrev pub NoTrailingBlank : Type 0
+NoTrailingBlank = (bs : List ℕ) → numeralOf (bs ++ (32 ∷ [])) ≡ Malformed
+
+-- `-0` and `+0` mean 0, as codes and as floats
+abbrev pub SignedZero : Type 0
+SignedZero = (k : Kind) → (wordOf k (replicate 9 32 ++ (45 ∷ 48 ∷ [])) ≡ Of 0) × (wordOf k (replicate 9 32 ++ (43 ∷ 48 ∷ [])) ≡ Of 0)
+
+-- ---- a screen
+
+-- the bytes of a screen follow from its counts, and are at most 125,807
+abbrev pub ScreenSize : Type 0
+ScreenSize =
+    (text : List ℕ) → isScreen text ≡ true
+    → (length text ≡ 111 + itemCount text * 694 + candidateCount text * 144) × (itemCount text ≤ 128) × (candidateCount text ≤ 256) × (length text ≤ 125807)
+
+-- and so do its words
+abbrev pub ScreenWords : Type 0
+ScreenWords =
+    (text : List ℕ)
+    → (length (stylesOf text) ≡ itemCount text * 57) × (length (repliesOf text) ≡ itemCount text * 6) × (length (candidatesOf text) ≡ candidateCount text * 13)
+
+-- what is no screen is refused, and no word is written
+abbrev pub RefusalWritesNothing : Type 0
+RefusalWritesNothing =
+    (text : List ℕ) (r : Screen) (header₀ header₁ styles₀ styles₁ replies₀ replies₁ candidates₀ candidates₁ : List ℕ)
+    → isScreen text ≡ false
+    → ScreenRead text r header₀ header₁ styles₀ styles₁ replies₀ replies₁ candidates₀ candidates₁
+    → (r ≡ BadLine) × (header₁ ≡ header₀) × (styles₁ ≡ styles₀) × (replies₁ ≡ replies₀) × (candidates₁ ≡ candidates₀)
+
+-- ---- a field written and read back
+
+abbrev pub CodeBack : Type 0
+CodeBack = (w : ℕ) → w ≤ 4294967295 → wordOf Code (cells COLUMNS (Digits false w)) ≡ Of w
+
+abbrev pub CountBack : Type 0
+CountBack = (s : Bool) (n : ℕ) → n ≤ 9999999 → wordOf Eighths (cells COLUMNS (Digits s n)) ≡ Of (toBits binary32 (eighths s n))
+
+-- the word of a float that is a count of eighths comes back; of a zero, +0's
+abbrev pub FloatBack : Type 0
+FloatBack =
+    (w : ℕ) (s : Bool) (n : ℕ) → w < 4294967296 → countOf (ofBits binary32 w) ≡ Whole s n → 0 < n
+    → wordOf Eighths (cells COLUMNS (countInk (countOf (ofBits binary32 w)))) ≡ Of w
+
+abbrev pub ZeroBack : Type 0
+ZeroBack = (w : ℕ) (s : Bool) → countOf (ofBits binary32 w) ≡ Whole s 0 → wordOf Eighths (cells COLUMNS (countInk (countOf (ofBits binary32 w)))) ≡ Of 0

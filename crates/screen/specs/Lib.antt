@@ -1,0 +1,5 @@
+pub mod Format
+pub mod Field
+pub mod Place
+pub mod Screen
+pub mod Laws
