@@ -232,7 +232,7 @@ fn is_found(found: OofBoxLayout, w: &[u32; 127]) -> bool {
 }
 
 // Whether a box asks, lays out and contributes what was recorded.
-pub fn agrees(w: &[u32; 127]) -> bool {
+pub(crate) fn agrees(w: &[u32; 127]) -> bool {
     let style = decode::style_at(w, 0);
     let candidate = candidate::candidate_at(w, 5);
     let block = block_of(w);

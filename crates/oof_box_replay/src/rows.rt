@@ -374,7 +374,7 @@ fn overflow_rows() {
     print_rect(b"13", contribution(-39.0, forty, 0.0, true));
 }
 
-pub fn run() {
+pub(crate) fn run() {
     axis_rows();
     box_rows();
     overflow_rows();
