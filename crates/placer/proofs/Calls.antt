@@ -24,7 +24,7 @@ use Rattle.style.specs.declared.ContainingBlockClaims.{ContainingBlockClaims}
 use Rattle.placer_check.specs.Verdict.{thenRoom}
 use Rattle.placer_check.specs.declared.Verdict.the-variants.{Accepted}
 use Rattle.placer_check.proofs.Verdicts.{passed, room-number, neither}
-use Rattle.placer.specs.Entry.{AtHand, Cleared}
+use Rattle.placer.specs.Entry.{AtHand, ReplyCleared}
 use Rattle.placer.proofs.Nodes.{AllBelow, good-below, below-at, item-words}
 
 -- records that are not bad
@@ -65,7 +65,7 @@ few-records : (list : List ℕ) → badList list ≡ false → length list / can
 unfolding badList
 few-records list e = ltb-false _ _ (neither (ragged candidateWidth list) (ltb 4096 (length list / candidateWidth)) e .1)
 
-pub reply-passed : (s : State) (reply : Reply) (surfaced : List ℕ) (l : Lent) → Cleared s reply surfaced l → Passed s reply surfaced l
+pub reply-passed : (s : State) (reply : Reply) (surfaced : List ℕ) (l : Lent) → ReplyCleared s reply surfaced l → Passed s reply surfaced l
 unfolding replyVerdict badSlices candidatesIn
 reply-passed s reply surfaced l e =
     let full = listFull (s .opened .claims) l (s .counts .filled) (lentBy reply surfaced) in

@@ -16,12 +16,12 @@ use Rattle.sweep.specs.Sweep.{candidatesIn, moved, keep, appended, swept}
 use Rattle.run.specs.declared.Answer.the-variants as answer
 use Rattle.run.specs.declared.Opening.{Opening}
 use Rattle.run.specs.declared.Step.{Step}
-use Rattle.run.specs.Call.{Lent, Leaves}
+use Rattle.run.specs.Call.{Lent, Outcome, Leaves}
 use Rattle.run.specs.Refusals.{_when_else_, refused, listFull}
-use Rattle.run.specs.Run.{claimsOf, blockOf, extentsOf, noneFilled, openingVerdict, closed, begun, opened, proceeding}
+use Rattle.run.specs.Run.{claimsOf, blockOf, extentsOf, noneFilled, openingVerdict, closed, begun, openedBy, opened, proceeding}
 use Rattle.placer_check.specs.Verdict.{thenRoom}
 use Rattle.placer_check.specs.declared.Verdict.the-variants.{Accepted}
-use Rattle.placer.specs.Entry.{AtHand}
+use Rattle.placer.specs.Entry.{AtHand, OpeningCleared}
 use Rattle.placer.proofs.Nodes.{none-below}
 use Rattle.placer.proofs.Sweeps.{unmoved, was-full, had-room, next-at-hand}
 use Rattle.placer.proofs.Calls.{opening-nodes}
@@ -31,8 +31,9 @@ module _ (o : Opening) (candidates : List ℕ) (l : Lent) where
   abbrev pub sweeping : sweep.Outcome
   sweeping = swept (claimsOf o) (map (moved Unmoved) (candidatesIn candidates)) (l .working) (l .unclaimed) noneFilled
 
-  abbrev pub Cleared : Type 0
-  Cleared = openingVerdict o candidates l ≡ thenRoom Accepted (listFull (claimsOf o) l noneFilled candidates)
+  -- what is left to room
+  abbrev pub begins : Outcome
+  begins = openedBy (thenRoom Accepted (listFull (claimsOf o) l noneFilled candidates)) o candidates l
 
   pub turned-down : (r : Refusal) (step : Step) → openingVerdict o candidates l ≡ refused r
       → step ≡ record { state = closed l; answer = answer.Refused r }
@@ -40,16 +41,16 @@ module _ (o : Opening) (candidates : List ℕ) (l : Lent) where
   unfolding opened
   turned-down r step e s = rw e (record { step = s; layouts = refl; working = refl; unclaimed = refl })
 
-  pub no-room : (r : Refusal) (step : Step) (w u : List ℕ) → Cleared → sweep.Leaves (Refused r) w u sweeping
+  pub no-room : (r : Refusal) (step : Step) (w u : List ℕ) → sweep.Leaves (Refused r) w u sweeping
       → step ≡ record { state = closed l; answer = answer.Refused r }
-      → Leaves step (l .layouts) w u (opened o candidates l)
-  unfolding opened _when_else_
-  no-room r step w u e h s =
+      → Leaves step (l .layouts) w u begins
+  unfolding _when_else_
+  no-room r step w u h s =
       let f = was-full (claimsOf o) Unmoved candidates l noneFilled r w u h in
-      rw (e, f .0) (record { step = s ∙ rw (f .1) refl; layouts = refl; working = f .2; unclaimed = f .3 })
+      rw (f .0) (record { step = s ∙ rw (f .1) refl; layouts = refl; working = f .2; unclaimed = f .3 })
 
   -- the first box has its record and its style
-  pub first-at-hand : (after : Filled) (w u : List ℕ) → Cleared → sweep.Leaves (Into after) w u sweeping → 0 < after .working
+  pub first-at-hand : (after : Filled) (w u : List ℕ) → OpeningCleared o candidates l → sweep.Leaves (Into after) w u sweeping → 0 < after .working
       → AtHand (l .styles) w (0 + 1)
   first-at-hand after w u e h more =
       let f = had-room (claimsOf o) Unmoved candidates l noneFilled after w u h in
@@ -57,13 +58,18 @@ module _ (o : Opening) (candidates : List ℕ) (l : Lent) where
       (next-at-hand (claimsOf o) Unmoved candidates l noneFilled (l .styles) (none-below (items (l .styles)) (l .working)) (opening-nodes o candidates l e) (f .0) 0
       (rw (sym (ap (λ (x : Filled). x .working) (f .1))) more))
 
-  pub swept-in : (after : Filled) (step : Step) (w u : List ℕ) → Cleared → sweep.Leaves (Into after) w u sweeping
+  pub swept-in : (after : Filled) (step : Step) (w u : List ℕ) → sweep.Leaves (Into after) w u sweeping
       → step ≡ proceeding (l .styles) w (record { block = blockOf o; claims = claimsOf o; extents = extentsOf l }) (record { filled = after; begun = 0; answered = 0 }) zeroRect
-      → Leaves step (l .layouts) w u (opened o candidates l)
-  unfolding opened begun _when_else_
-  swept-in after step w u e h s =
+      → Leaves step (l .layouts) w u begins
+  unfolding begun _when_else_
+  swept-in after step w u h s =
       let f = had-room (claimsOf o) Unmoved candidates l noneFilled after w u h in
       let m = unmoved (candidatesIn candidates) in
       let ws : w ≡ appended (l .working) 0 (keep (claimsOf o) true (candidatesIn candidates)) = f .2 ∙ ap (λ (cs : List OofCandidate). appended (l .working) 0 (keep (claimsOf o) true cs)) m in
       let us : u ≡ appended (l .unclaimed) 0 (keep (claimsOf o) false (candidatesIn candidates)) = f .3 ∙ ap (λ (cs : List OofCandidate). appended (l .unclaimed) 0 (keep (claimsOf o) false cs)) m in
-      rw (e, f .0) (record { step = s ∙ rw (ws, f .1, zero-add, zero-add) refl; layouts = refl; working = ws; unclaimed = us })
+      rw (f .0) (record { step = s ∙ rw (ws, f .1, zero-add, zero-add) refl; layouts = refl; working = ws; unclaimed = us })
+
+  pub accepted : (step : Step) (layouts w u : List ℕ) → OpeningCleared o candidates l → Leaves step layouts w u begins
+      → Leaves step layouts w u (opened o candidates l)
+  unfolding opened
+  accepted step layouts w u e h = rw e h

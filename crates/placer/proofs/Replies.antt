@@ -39,7 +39,7 @@ use Rattle.run.specs.Refusals.{_when_else_, refused, lentBy, listFull}
 use Rattle.run.specs.Run.{boxAtHand, asking, proceeding, takenIn, takenBy, isWrong, replyVerdict, measuredOn, laidOut, repliedBy, replied}
 use Rattle.placer_check.specs.Verdict.{thenRoom}
 use Rattle.placer_check.specs.declared.Verdict.the-variants.{Accepted}
-use Rattle.placer.specs.Entry.{AtHand, Cleared}
+use Rattle.placer.specs.Entry.{AtHand, ReplyCleared}
 use Rattle.placer.proofs.Sweeps.{was-full, had-room, next-at-hand}
 use Rattle.placer.proofs.Calls.{Passed, reply-passed, counted, none-full}
 
@@ -182,10 +182,10 @@ module _ (s : State) (reply : Reply) (surfaced : List ℕ) (l : Lent) where
   turned-down r step e p = rw e (record { step = p; layouts = refl; working = refl; unclaimed = refl })
 
   -- a reply that no test turned down was not wrong
-  pub not-wrong : {A : Type 0} → Cleared s reply surfaced l → takenBy s reply ≡ Wrong → A
+  pub not-wrong : {A : Type 0} → ReplyCleared s reply surfaced l → takenBy s reply ≡ Wrong → A
   not-wrong e t = no (ap isWrong t) (reply-passed s reply surfaced l e .taken)
 
-  pub kept : (replies : Replies) (step : Step) → Cleared s reply surfaced l → takenBy s reply ≡ Kept replies
+  pub kept : (replies : Replies) (step : Step) → ReplyCleared s reply surfaced l → takenBy s reply ≡ Kept replies
       → step ≡ asking (l .styles) (l .working) (s .opened) (record { filled = s .counts .filled; begun = s .counts .begun; answered = s .counts .answered + 1 }) (s .overflow) replies
       → Leaves step (l .layouts) (l .working) (l .unclaimed) (replied s reply surfaced l)
   unfolding replied measuredOn _when_else_
@@ -194,10 +194,10 @@ module _ (s : State) (reply : Reply) (surfaced : List ℕ) (l : Lent) where
       rw (e, t, kept-lends-none s reply replies surfaced t, none-full (s .opened .claims) l (s .counts) n)
       (record { step = p; layouts = refl; working = refl; unclaimed = refl })
 
-  pub cleared-laid : (overflow : Rect) → Cleared s reply surfaced l → takenBy s reply ≡ Laid overflow → Cleared s (LaidOut overflow) surfaced l
+  pub cleared-laid : (overflow : Rect) → ReplyCleared s reply surfaced l → takenBy s reply ≡ Laid overflow → ReplyCleared s (LaidOut overflow) surfaced l
   cleared-laid overflow e t = rw (laid-is s reply overflow t) at e
 
-  pub laid : (overflow : Rect) (step : Step) (layouts w u : List ℕ) → Cleared s reply surfaced l → takenBy s reply ≡ Laid overflow
+  pub laid : (overflow : Rect) (step : Step) (layouts w u : List ℕ) → ReplyCleared s reply surfaced l → takenBy s reply ≡ Laid overflow
       → Leaves step layouts w u (settled s overflow surfaced l)
       → Leaves step layouts w u (replied s reply surfaced l)
   unfolding replied

@@ -14,7 +14,8 @@ use Rattle.style_record.specs.Record.{styleWords}
 use Rattle.oof_box.specs.declared.question.Reply.{Reply}
 use Rattle.run.specs.Call.{Lent}
 use Rattle.run.specs.Refusals.{lentBy, listFull}
-use Rattle.run.specs.Run.{replyVerdict}
+use Rattle.run.specs.Run.{claimsOf, noneFilled, openingVerdict, replyVerdict}
+use Rattle.run.specs.declared.Opening.{Opening}
 use Rattle.run.specs.declared.State.{State}
 use Rattle.placer_check.specs.Verdict.{thenRoom}
 use Rattle.placer_check.specs.declared.Verdict.the-variants.{Accepted}
@@ -27,9 +28,12 @@ pub record AtHand (styles working : List ℕ) (begun : ℕ) : Type 0 where
   pub listed : candidateWidth * (begun - 1) + candidateWidth ≤ length working
   pub styled : styleWords * candidateOf (recordAt candidateWidth working (begun - 1)) .node + styleWords ≤ length styles
 
--- no test before that of room turns the reply down
-abbrev pub Cleared : State → Reply → List ℕ → Lent → Type 0
-Cleared s reply surfaced lent =
+-- no test before that of room turns the call down
+abbrev pub OpeningCleared : Opening → List ℕ → Lent → Type 0
+OpeningCleared o candidates lent = openingVerdict o candidates lent ≡ thenRoom Accepted (listFull (claimsOf o) lent noneFilled candidates)
+
+abbrev pub ReplyCleared : State → Reply → List ℕ → Lent → Type 0
+ReplyCleared s reply surfaced lent =
     replyVerdict s reply surfaced lent ≡ thenRoom Accepted (listFull (s .opened .claims) lent (s .counts .filled) (lentBy reply surfaced))
 
 -- ---- `compute_oof_layout`'s own part

@@ -9,7 +9,7 @@ ghost use Rattle.run.specs.Call.{Leaves};
 ghost use Rattle.run.specs.Refusals.{listFull};
 ghost use Rattle.run.specs.Run.{boxAtHand, asking, finishing, proceeding, repliedBy};
 ghost use Rattle.placer_check.specs.Verdict.{lent, thenRoom};
-ghost use Rattle.placer.specs.Entry.{AtHand, Cleared};
+ghost use Rattle.placer.specs.Entry.{AtHand, ReplyCleared};
 use geometry::Rect;
 use oof_box::dialogue;
 use oof_box::question::Replies;
@@ -159,7 +159,7 @@ pub fn settle(
     working: &mut [u32],
     unclaimed: &mut [u32],
 ) -> Step
-    requires { ⌜ Cleared s (Reply.LaidOut overflow) (now surfaced) (lent (now styles) (now layouts) (now working) (now unclaimed)) ⌝ }
+    requires { ⌜ ReplyCleared s (Reply.LaidOut overflow) (now surfaced) (lent (now styles) (now layouts) (now working) (now unclaimed)) ⌝ }
     ensures { λ r. ⌜ Leaves r (now (layouts .exit)) (now (working .exit)) (now (unclaimed .exit)) (repliedBy (thenRoom Verdict.Accepted (listFull (s .opened .claims) (lent (now (styles .entry)) (now (layouts .entry)) (now (working .entry)) (now (unclaimed .entry))) (s .counts .filled) (now (surfaced .entry)))) (Taken.Laid overflow) s (now (surfaced .entry)) (lent (now (styles .entry)) (now (layouts .entry)) (now (working .entry)) (now (unclaimed .entry)))) ⌝ }
 {
     let run = s.opened;

@@ -2,9 +2,10 @@
 // after another until the run finishes.
 ghost use mathlib.Core.Path.{_≡_};
 ghost use Rattle.run.specs.Call.{Leaves};
-ghost use Rattle.run.specs.Run.{claimsOf, blockOf, extentsOf, closed, opened, replied};
-ghost use Rattle.placer_check.specs.Verdict.{lent};
-ghost use Rattle.placer.specs.Entry.{passNeeded, overflowAfter};
+ghost use Rattle.run.specs.Refusals.{listFull};
+ghost use Rattle.run.specs.Run.{claimsOf, blockOf, extentsOf, noneFilled, closed, openedBy, opened, replied};
+ghost use Rattle.placer_check.specs.Verdict.{lent, thenRoom};
+ghost use Rattle.placer.specs.Entry.{OpeningCleared, passNeeded, overflowAfter};
 use geometry::Point;
 use geometry::Rect;
 use geometry::Size;
@@ -13,6 +14,8 @@ use oof_box::question::Reply;
 use oof_box::question::Taken;
 use oof_resolve::ContainingBlock;
 use placer_check::Verdict;
+use placer_check::opening;
+use placer_check::reply as answer;
 use refusal::Refusal;
 use run::Counts;
 use run::Extents;
@@ -118,7 +121,47 @@ fn closed(styles: &[u32], layouts: &[u32], working: &[u32], unclaimed: &[u32]) -
     }
 }
 
-// Opens a run: the candidates are swept, then the first box begins.
+// The candidates are swept, then the first box begins.
+fn begin(
+    o: Opening,
+    styles: &[u32],
+    candidates: &[u32],
+    layouts: &[u32],
+    working: &mut [u32],
+    unclaimed: &mut [u32],
+) -> Step
+    requires { ⌜ OpeningCleared o (now candidates) (lent (now styles) (now layouts) (now working) (now unclaimed)) ⌝ }
+    ensures { λ r. ⌜ Leaves r (now (layouts .entry)) (now (working .exit)) (now (unclaimed .exit)) (openedBy (thenRoom Verdict.Accepted (listFull (claimsOf o) (lent (now (styles .entry)) (now (layouts .entry)) (now (working .entry)) (now (unclaimed .entry))) noneFilled (now (candidates .entry)))) o (now (candidates .entry)) (lent (now (styles .entry)) (now (layouts .entry)) (now (working .entry)) (now (unclaimed .entry)))) ⌝ }
+{
+    let none = closed(styles, layouts, &working[..], &unclaimed[..]);
+    let extents = none.opened.extents;
+    let claims = claims_of(o);
+    match sweep::sweep(
+        claims,
+        Shift::Unmoved,
+        candidates,
+        working,
+        unclaimed,
+        NONE_FILLED,
+    ) {
+        Swept::Refused(refusal) => boxes::refuse(none, refusal),
+        Swept::Into(filled) => {
+            let run = Opened {
+                block: block_of(o),
+                claims: claims,
+                extents: extents,
+            };
+            let counts = Counts {
+                filled: filled,
+                begun: 0,
+                answered: 0,
+            };
+            boxes::proceed(styles, &working[..], run, counts, Rect::ZERO)
+        }
+    }
+}
+
+// Opens a run.
 pub fn open(
     o: Opening,
     styles: &[u32],
@@ -129,9 +172,7 @@ pub fn open(
 ) -> Step
     ensures { λ r. ⌜ Leaves r (now (layouts .exit)) (now (working .exit)) (now (unclaimed .exit)) (opened o (now (candidates .entry)) (lent (now (styles .entry)) (now (layouts .entry)) (now (working .entry)) (now (unclaimed .entry)))) ⌝ }
 {
-    let none = closed(styles, &layouts[..], &working[..], &unclaimed[..]);
-    let extents = none.opened.extents;
-    match placer_check::opening::check_opening(
+    match opening::check_opening(
         o,
         styles,
         candidates,
@@ -139,33 +180,11 @@ pub fn open(
         &working[..],
         &unclaimed[..],
     ) {
-        Verdict::Refused(refusal) => boxes::refuse(none, refusal),
-        Verdict::Accepted => {
-            let claims = claims_of(o);
-            match sweep::sweep(
-                claims,
-                Shift::Unmoved,
-                candidates,
-                working,
-                unclaimed,
-                NONE_FILLED,
-            ) {
-                Swept::Refused(refusal) => boxes::refuse(none, refusal),
-                Swept::Into(filled) => {
-                    let run = Opened {
-                        block: block_of(o),
-                        claims: claims,
-                        extents: extents,
-                    };
-                    let counts = Counts {
-                        filled: filled,
-                        begun: 0,
-                        answered: 0,
-                    };
-                    boxes::proceed(styles, &working[..], run, counts, Rect::ZERO)
-                }
-            }
-        }
+        Verdict::Refused(refusal) => boxes::refuse(
+            closed(styles, &layouts[..], &working[..], &unclaimed[..]),
+            refusal,
+        ),
+        Verdict::Accepted => begin(o, styles, candidates, &layouts[..], working, unclaimed),
     }
 }
 
@@ -183,7 +202,7 @@ pub fn reply(
 ) -> Step
     ensures { λ r. ⌜ Leaves r (now (layouts .exit)) (now (working .exit)) (now (unclaimed .exit)) (replied s reply (now (surfaced .entry)) (lent (now (styles .entry)) (now (layouts .entry)) (now (working .entry)) (now (unclaimed .entry)))) ⌝ }
 {
-    match placer_check::reply::check_reply(
+    match answer::check_reply(
         s,
         reply,
         surfaced,
@@ -193,7 +212,7 @@ pub fn reply(
         &unclaimed[..],
     ) {
         Verdict::Refused(refusal) => boxes::refuse(s, refusal),
-        Verdict::Accepted => match placer_check::reply::taken_by(s, reply) {
+        Verdict::Accepted => match answer::taken_by(s, reply) {
             Taken::Wrong => boxes::refuse(s, Refusal::WrongReply),
             Taken::Kept(replies) => boxes::go_on(s, replies, styles, &working[..]),
             Taken::Laid(overflow) => {
