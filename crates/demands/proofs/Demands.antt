@@ -1,0 +1,320 @@
+-- The three demands of the entries, from their contracts and the theorems of `run`, `oof_box` and `mirror`. Assumes nothing.
+use Prim.Native.Nat.{ℕ, _+_, _*_, _≤_}
+use native.Mathlib.Omega.{arith}
+use mathlib.Core.Path.{_≡_, refl, sym, ap, subst, _∙_}
+use mathlib.Core.Bool.{Bool, true, false, cond, _||_}
+use mathlib.Core.List.{List, [], _∷_, _++_, foldl, foldl-append}
+use lib.ListN.{length}
+use Rattle.util.proofs.Floats.{no}
+use Rattle.geometry.specs.declared.Rect.{Rect}
+use Rattle.refusal.specs.declared.Refusal.{Refusal}
+use Rattle.refusal.specs.declared.Refusal.the-variants.{WrongReply}
+use Rattle.geometry.specs.Geometry.{zeroSize, bothPresent}
+use Rattle.geometry.specs.declared.MaybeSize.{MaybeSize}
+use Rattle.geometry.specs.declared.Size.{Size}
+use Rattle.style.specs.declared.Style.{Style}
+use Rattle.style_record.specs.Decode.{styleAt}
+use Rattle.tree.specs.declared.layout.OofCandidate.{OofCandidate}
+use Rattle.common.specs.declared.sizing_keyword.SizingKeywordResolution.{SizingKeywordResolution}
+use Rattle.common.specs.declared.sizing_keyword.SizingKeywordResolution.the-variants.{NoKeyword, Exact, Measure}
+use Rattle.common.specs.declared.sizing_keyword.SizingKeywords.{SizingKeywords}
+use Rattle.oof_resolve.specs.Resolved.{resolvedBox}
+use Rattle.oof_resolve.specs.declared.ContainingBlock.{ContainingBlock}
+use Rattle.oof_resolve.specs.declared.ResolvedBox.{ResolvedBox}
+use Rattle.oof_place.specs.Placing.{layoutOf, boxLayout}
+use Rattle.oof_box.specs.Box.{keywordStretch, sizeKeywords, finalSize}
+use Rattle.oof_box.specs.declared.question.Asked as asking
+use Rattle.oof_box.specs.declared.question.Replies as kept
+use Rattle.oof_box.specs.declared.question.Question.{Question}
+use Rattle.oof_box.specs.declared.question.Question.the-variants.{MeasureBoth, MeasureWidth, MeasureHeight}
+use Rattle.oof_box.specs.declared.question.Question.the-variants as question
+use Rattle.oof_box.specs.declared.question.Reply.{Reply}
+use Rattle.oof_box.specs.declared.question.Reply.the-variants.{LaidOut}
+use Rattle.oof_box.specs.declared.question.Stage.{Stage}
+use Rattle.oof_box.specs.declared.question.Stage.the-variants.{KeywordBoth, KeywordWidth, KeywordHeight, Fill, LayOut}
+use Rattle.oof_box.specs.declared.question.Taken.{Taken}
+use Rattle.oof_box.specs.declared.question.Taken.the-variants.{Wrong, Kept, Laid}
+use Rattle.oof_box.specs.Cut.{taken, takenLaidOut, isFilled, isFirst, measuredSize, stretchedBy, layOutAsked, fillAsked, sizeBy, keywordAsked, sizeAsked, orLater, askedOf, askedAfter, layoutAfter}
+use Rattle.oof_box.proofs.Floor.{size-law as box-size-law}
+use Rattle.run.specs.declared.Opening.{Opening}
+use Rattle.run.specs.declared.State.{State}
+use Rattle.run.specs.declared.Step.{Step}
+use Rattle.run.specs.declared.Progress.{Progress}
+use Rattle.run.specs.declared.Progress.the-variants.{Finished, Asking}
+use Rattle.run.specs.declared.Answer.{Answer}
+use Rattle.run.specs.declared.Answer.the-variants.{Ask, Finish, Refused}
+use Rattle.run.specs.Call.{Lent, Outcome, Leaves}
+use Rattle.run.specs.Theorems.{isRefused, Call, Asked, Heard, Stands, next, oneIfAsked, askedAtOpening, askedWith, talked}
+use Rattle.run.specs.Refusals.{Verdict, accepted, refused}
+use Rattle.run.specs.Run.{boxAtHand, opened, openedBy, openingVerdict, replied, repliedBy, replyVerdict, takenBy, takenIn, isWrong, laidOut, measuredOn}
+use Rattle.run.proofs.Refusals.{begun-accepts, measured-accepts, laid-accepts, refused-reply-keeps, refused-opening-keeps}
+use Rattle.run.proofs.Ways.{ReplyWay, measures, laysOut, reply-way, passed, neither}
+use Rattle.run.proofs.Questions.{three-questions-a-box, begun-are-hoisted}
+use Rattle.run.proofs.Straight.{straight-run}
+use Rattle.mirror.proofs.Mirror.{mirror}
+use Rattle.mirror.specs.Image.{imageOpening, imageCandidates}
+use Rattle.mirror.specs.Runs.{Message, runNext, imageNext, MirroredRuns}
+use Rattle.demands.specs.Entries.{LeftBy, Opens, Replies, AnyCalls, Run, BothRuns}
+use Rattle.demands.specs.Demands.{Iff, OpeningRefused, ReplyRefused, RefusedOpeningWritesNothing, RefusedReplyWritesNothing, ThreeQuestionsEach, EqualsStraightRun, SizedLayout, SizeLaw, LaidOutAsAsked, MirrorImage}
+
+-- what the host has is the outcome
+pub is-outcome : (has o : Outcome) → LeftBy has o → has ≡ o
+is-outcome has o l =
+    ap (λ (s : Step). record { step = s; layouts = has .layouts; working = has .working; unclaimed = has .unclaimed }) (l .step)
+    ∙ ap (λ (ws : List ℕ). record { step = o .step; layouts = ws; working = has .working; unclaimed = has .unclaimed }) (l .layouts)
+    ∙ ap (λ (ws : List ℕ). record { step = o .step; layouts = o .layouts; working = ws; unclaimed = has .unclaimed }) (l .working)
+    ∙ ap (λ (ws : List ℕ). record { step = o .step; layouts = o .layouts; working = o .working; unclaimed = ws }) (l .unclaimed)
+
+pub refused-opening-writes-nothing : RefusedOpeningWritesNothing
+refused-opening-writes-nothing o candidates lent has r c a =
+    let e = is-outcome has (opened o candidates lent) c in
+    e ∙ refused-opening-keeps o candidates lent r (sym (ap (λ (x : Outcome). x .step .answer) e) ∙ a)
+
+pub refused-reply-writes-nothing : RefusedReplyWritesNothing
+refused-reply-writes-nothing s reply surfaced lent has r c a =
+    let e = is-outcome has (replied s reply surfaced lent) c in
+    e ∙ refused-reply-keeps s reply surfaced lent r (sym (ap (λ (x : Outcome). x .step .answer) e) ∙ a)
+
+-- ---- refused exactly under the condition
+
+abbrev refusalIn : Answer → Refusal
+refusalIn (Ask q) = WrongReply
+refusalIn (Finish f) = WrongReply
+refusalIn (Refused r) = r
+
+same-refusal : {q r : Refusal} → Refused q ≡ Refused r → q ≡ r
+same-refusal e = ap refusalIn e
+
+refusedIn-no : {A : Type 0} {a : Answer} {r : Refusal} → isRefused a ≡ false → a ≡ Refused r → A
+refusedIn-no f e = no (ap isRefused e) f
+
+abbrev isAccepted : Verdict → Bool
+isAccepted accepted = true
+isAccepted (refused r) = false
+
+abbrev refusalBy : Verdict → Refusal
+refusalBy accepted = WrongReply
+refusalBy (refused r) = r
+
+same-verdict : {q r : Refusal} → refused q ≡ refused r → q ≡ r
+same-verdict e = ap refusalBy e
+
+opening-iff : (o : Opening) (candidates : List ℕ) (lent : Lent) (r : Refusal)
+    → Iff (opened o candidates lent .step .answer ≡ Refused r) (openingVerdict o candidates lent ≡ refused r)
+unfolding opened
+opening-iff o candidates lent r = go (openingVerdict o candidates lent) refl
+  where
+    go : (v : Verdict) → openingVerdict o candidates lent ≡ v
+        → Iff (openedBy v o candidates lent .step .answer ≡ Refused r) (v ≡ refused r)
+    go accepted d = (λ e. refusedIn-no (begun-accepts o candidates lent) e, λ e. no {b = true} refl (ap isAccepted e))
+    go (refused q) d = (λ e. ap refused (same-refusal e), λ e. ap Refused (same-verdict e))
+
+pub opening-refused : OpeningRefused
+opening-refused o candidates lent has r c =
+    subst (λ (x : Outcome). Iff (x .step .answer ≡ Refused r) (openingVerdict o candidates lent ≡ refused r))
+    (sym (is-outcome has (opened o candidates lent) c)) (opening-iff o candidates lent r)
+
+-- what is accepted is not of another kind than the question
+accepted-not-wrong : (s : State) (reply : Reply) (surfaced : List ℕ) (lent : Lent) → replyVerdict s reply surfaced lent ≡ accepted → isWrong (takenBy s reply) ≡ false
+unfolding replyVerdict
+accepted-not-wrong s reply surfaced lent e = neither (isWrong (takenBy s reply)) _ (passed _ _ _ (passed _ _ _ e .1) .0) .0
+
+reply-iff : (s : State) (reply : Reply) (surfaced : List ℕ) (lent : Lent) (r : Refusal)
+    → Iff (replied s reply surfaced lent .step .answer ≡ Refused r) (replyVerdict s reply surfaced lent ≡ refused r)
+unfolding replied
+reply-iff s reply surfaced lent r = go (replyVerdict s reply surfaced lent) (takenBy s reply) refl refl
+  where
+    go : (v : Verdict) (t : Taken) → replyVerdict s reply surfaced lent ≡ v → takenBy s reply ≡ t
+        → Iff (repliedBy v t s surfaced lent .step .answer ≡ Refused r) (v ≡ refused r)
+    go (refused q) t d e = (λ a. ap refused (same-refusal a), λ a. ap Refused (same-verdict a))
+    go accepted Wrong d e = no (ap isWrong e) (accepted-not-wrong s reply surfaced lent d)
+    go accepted (Kept replies) d e = (λ a. refusedIn-no (measured-accepts s replies lent) a, λ a. no {b = true} refl (ap isAccepted a))
+    go accepted (Laid overflow) d e = (λ a. refusedIn-no (laid-accepts s overflow surfaced lent) a, λ a. no {b = true} refl (ap isAccepted a))
+
+pub reply-refused : ReplyRefused
+reply-refused s reply surfaced lent has r c =
+    subst (λ (x : Outcome). Iff (x .step .answer ≡ Refused r) (replyVerdict s reply surfaced lent ≡ refused r))
+    (sym (is-outcome has (replied s reply surfaced lent) c)) (reply-iff s reply surfaced lent r)
+
+-- ---- at most three questions
+
+data Counted (n : ℕ) (s : State) : Type 0 where
+  counted :
+      (o : Opening) (candidates : List ℕ) (lent : Lent) (calls : List Call)
+      → foldl askedWith (askedAtOpening o candidates lent) calls ≡ record { questions = n; state = s }
+      → Counted n s
+
+count : {n : ℕ} {has : Outcome} → AnyCalls n has → Counted n (has .step .state)
+unfolding askedAtOpening askedWith
+count (AnyCalls.opening {has = has} o candidates lent c) =
+    counted o candidates lent [] (ap asked (sym (is-outcome has (opened o candidates lent) c)))
+  where
+    asked : Outcome → Asked
+    asked x = record { questions = oneIfAsked (x .step .answer); state = x .step .state }
+count (AnyCalls.reply {n = n} {before = before} {has = has} reply surfaced lent calls c) = go (count calls)
+  where
+    asked : Outcome → Asked
+    asked x = record { questions = n + oneIfAsked (x .step .answer); state = x .step .state }
+
+    call : Call
+    call = record { reply = reply; surfaced = surfaced; lent = lent }
+
+    go : Counted n (before .step .state) → Counted (n + oneIfAsked (has .step .answer)) (has .step .state)
+    go (counted o candidates first earlier e) =
+        counted o candidates first (earlier ++ (call ∷ []))
+        (foldl-append askedWith (askedAtOpening o candidates first) earlier (call ∷ []) ∙ ap (λ (a : Asked). askedWith a call) e
+        ∙ ap asked (sym (is-outcome has (replied (before .step .state) reply surfaced lent) c)))
+
+pub three-questions-each : ThreeQuestionsEach
+three-questions-each n has calls = go (count calls)
+  where
+    go : Counted n (has .step .state) → n ≤ 3 * has .step .state .counts .filled .working
+    go (counted o candidates lent earlier e) =
+        let a = three-questions-a-box o candidates lent earlier in
+        let b = begun-are-hoisted o candidates lent earlier in
+        let h = subst (λ (x : Asked). x .questions ≤ 3 * x .state .counts .begun) e a in
+        let k = subst (λ (x : Asked). x .state .counts .begun ≤ x .state .counts .filled .working) e b in
+        omega arith
+
+-- ---- a run is the list of its calls
+
+run-is : (o : Opening) (candidates : List ℕ) (lent : Lent) {heard : List Heard} {has : Outcome} → Run o candidates lent heard has
+    → has ≡ foldl (next (lent .styles)) (opened o candidates lent) heard
+run-is o candidates lent (Run.opening {has = has} c) = is-outcome has (opened o candidates lent) c
+run-is o candidates lent (Run.reply {heard = heard} {before = before} {has = has} h earlier c) =
+    is-outcome has (next (lent .styles) before h) c
+    ∙ ap (λ (x : Outcome). next (lent .styles) x h) (run-is o candidates lent earlier)
+    ∙ sym (foldl-append (next (lent .styles)) (opened o candidates lent) heard (h ∷ []))
+
+pub equals-straight-run : EqualsStraightRun
+equals-straight-run o candidates lent heard has calls taken =
+    subst (λ (x : Outcome). Stands lent (length heard) x (talked o candidates lent heard))
+    (sym (run-is o candidates lent calls)) (straight-run o candidates lent heard taken)
+
+-- ---- the size law
+
+abbrev isKept : Taken → Bool
+isKept Wrong = false
+isKept (Kept replies) = true
+isKept (Laid overflow) = false
+
+-- a lay out reply is never kept as a measure
+not-kept : (stage : Stage) (overflow : Rect) → isKept (takenLaidOut stage overflow) ≡ false
+not-kept KeywordBoth overflow = refl
+not-kept KeywordWidth overflow = refl
+not-kept KeywordHeight overflow = refl
+not-kept Fill overflow = refl
+not-kept LayOut overflow = refl
+
+never-kept : (s : State) (overflow : Rect) → isKept (takenBy s (LaidOut overflow)) ≡ false
+unfolding takenBy taken
+never-kept s overflow = go (s .progress)
+  where
+    go : (p : Progress) → isKept (takenIn p (s .replies) (LaidOut overflow)) ≡ false
+    go Finished = refl
+    go (Asking stage) = not-kept stage overflow
+
+sized : (s : State) (overflow : Rect) (surfaced : List ℕ) (lent : Lent) → SizedLayout s lent (laidOut s overflow surfaced lent .layouts)
+unfolding laidOut
+sized s overflow surfaced lent =
+    let box = boxAtHand (lent .working) (s .counts) in
+    let style = styleAt (lent .styles) (box .node) in
+    let law = box-size-law (s .opened .block) style box (s .replies) overflow in
+    record { layout = layoutAfter (s .opened .block) style box (s .replies) overflow .layout; wrote = refl; width = law .0; height = law .1 }
+
+pub size-law : SizeLaw
+size-law s overflow surfaced lent has c a = go (reply-way s (LaidOut overflow) surfaced lent)
+  where
+    e : has ≡ replied s (LaidOut overflow) surfaced lent
+    e = is-outcome has (replied s (LaidOut overflow) surfaced lent) c
+
+    go : ReplyWay s (LaidOut overflow) surfaced lent → SizedLayout s lent (has .layouts)
+    go (ReplyWay.turnedDown r f) = no (ap (λ (x : Outcome). isRefused (x .step .answer)) (e ∙ f)) a
+    go (measures replies v t f) = no (ap isKept t) (never-kept s overflow)
+    go (laysOut overflow v t f) = subst (λ (x : Outcome). SizedLayout s lent (x .layouts)) (sym (e ∙ f)) (sized s overflow surfaced lent)
+
+abbrev sizeIn : Question → Size
+sizeIn (MeasureBoth m) = zeroSize
+sizeIn (MeasureWidth m) = zeroSize
+sizeIn (MeasureHeight m) = zeroSize
+sizeIn (question.LayOut l) = l .size
+
+abbrev laysOutIn : Question → Bool
+laysOutIn (MeasureBoth m) = false
+laysOutIn (MeasureWidth m) = false
+laysOutIn (MeasureHeight m) = false
+laysOutIn (question.LayOut l) = true
+
+-- a question to lay out tells this size
+abbrev Tells : Size → asking.Asked → Type 0
+Tells size a = laysOutIn (a .question) ≡ true → size ≡ sizeIn (a .question)
+
+chosen : (size : Size) (b : Bool) (x y : asking.Asked) → Tells size x → Tells size y → Tells size (cond b x y)
+chosen size true x y h k = h
+chosen size false x y h k = k
+
+-- step 4 asks only to measure
+after-keywords : (size : Size) (node : ℕ) (across down : SizingKeywordResolution) (known : MaybeSize) (stretch : Size) (later : asking.Asked)
+    → Tells size later
+    → Tells size (orLater (keywordAsked node across down known stretch) later)
+unfolding keywordAsked
+after-keywords size node NoKeyword NoKeyword known stretch later h = h
+after-keywords size node NoKeyword (Exact y) known stretch later h = h
+after-keywords size node NoKeyword (Measure down) known stretch later h = λ e. no {b = false} e refl
+after-keywords size node (Exact w) NoKeyword known stretch later h = h
+after-keywords size node (Exact w) (Exact y) known stretch later h = h
+after-keywords size node (Exact w) (Measure down) known stretch later h = λ e. no {b = false} e refl
+after-keywords size node (Measure across) NoKeyword known stretch later h = λ e. no {b = false} e refl
+after-keywords size node (Measure across) (Exact y) known stretch later h = λ e. no {b = false} e refl
+after-keywords size node (Measure across) (Measure down) known stretch later h = λ e. no {b = false} e refl
+
+after-sizes : (node : ℕ) (style : Style) (box : ResolvedBox) (keywords : SizingKeywords) (replies : kept.Replies)
+    → Tells (sizeBy style box keywords replies) (sizeAsked node style box keywords replies)
+unfolding sizeAsked sizeBy
+after-sizes node style box keywords replies =
+    let at = stretchedBy style box keywords replies in
+    let size = finalSize box at (measuredSize (replies .fill)) in
+    chosen size (isFilled (replies .fill) || bothPresent (at .known)) (layOutAsked node size (box .space)) (fillAsked node (at .known) (box .space))
+    (λ e. refl) (λ e. no {b = false} e refl)
+
+asked-size : (block : ContainingBlock) (style : Style) (candidate : OofCandidate) (replies : kept.Replies)
+    → let b = resolvedBox block style candidate in
+    Tells (sizeBy style b (sizeKeywords style b) replies) (askedAfter block style candidate replies)
+unfolding askedAfter askedOf
+asked-size block style candidate replies =
+    let box = resolvedBox block style candidate in
+    let keywords = sizeKeywords style box in
+    let size = sizeBy style box keywords replies in
+    let later = sizeAsked (candidate .node) style box keywords replies in
+    let h = after-sizes (candidate .node) style box keywords replies in
+    chosen size (isFirst (replies .keyword) (replies .fill)) (orLater (keywordAsked (candidate .node) (keywords .width) (keywords .height) (box .size) (keywordStretch box)) later) later
+    (after-keywords size (candidate .node) (keywords .width) (keywords .height) (box .size) (keywordStretch box) later h) h
+
+pub laid-out-as-asked : LaidOutAsAsked
+unfolding layoutAfter boxLayout layoutOf
+laid-out-as-asked block style candidate replies overflow input e =
+    asked-size block style candidate replies (ap laysOutIn e) ∙ ap sizeIn e
+
+-- ---- the mirror image
+
+both-are : (o : Opening) (candidates : List ℕ) (lent lent' : Lent) {messages : List Message} {has has' : Outcome}
+    → BothRuns o candidates lent lent' messages has has'
+    → (has ≡ foldl (runNext (lent .styles)) (opened o candidates lent) messages)
+    × (has' ≡ foldl (imageNext (lent' .styles)) (opened (imageOpening o) (imageCandidates (o .area) candidates) lent') messages)
+both-are o candidates lent lent' (BothRuns.opening {has = has} {has' = has'} c c') = (is-outcome has _ c, is-outcome has' _ c')
+both-are o candidates lent lent' (BothRuns.reply {messages = messages} {before = before} {before' = before'} {has = has} {has' = has'} m earlier c c') =
+    let e = both-are o candidates lent lent' earlier in (
+      is-outcome has (runNext (lent .styles) before m) c
+          ∙ ap (λ (x : Outcome). runNext (lent .styles) x m) (e .0)
+          ∙ sym (foldl-append (runNext (lent .styles)) (opened o candidates lent) messages (m ∷ [])),
+      is-outcome has' (imageNext (lent' .styles) before' m) c'
+          ∙ ap (λ (x : Outcome). imageNext (lent' .styles) x m) (e .1)
+          ∙ sym (foldl-append (imageNext (lent' .styles)) (opened (imageOpening o) (imageCandidates (o .area) candidates) lent') messages (m ∷ [])),
+    )
+
+pub mirror-image : MirrorImage
+mirror-image o candidates lent lent' messages has has' area table quarter image same fair calls =
+    let e = both-are o candidates lent lent' calls in
+    subst (λ (x : Outcome). MirroredRuns (o .area) x has') (sym (e .0))
+    (subst (λ (x : Outcome). MirroredRuns (o .area) (foldl (runNext (lent .styles)) (opened o candidates lent) messages) x) (sym (e .1))
+    (mirror o candidates lent lent' messages area table quarter image same fair))
