@@ -1,0 +1,90 @@
+use native.Mathlib.Omega.{arith}
+use Prim.Native.Nat.{_-_}
+use lib.ListN.{length}
+use mathlib.Core.Path.{_≡_, refl, sym, ap, _∙_}
+use borrow.Author.Needs.{needs}
+use Rattle.script.specs.Script.{outcome, played, playedOut}
+use Rattle.script.proofs.Steps.{left, leaves, one-turn, no-turn}
+use Rattle.script.proofs.play_out.Statement.{statement}
+use Rattle.script.proofs.play_out.Tie as tie
+use Rattle.script.proofs.play_out.Reads as reads
+use Rattle.script.proofs.play_out.Lts as lts
+use Rattle.placer.proofs.open.Reads as open-reads
+use Rattle.script.proofs.play_on.Reads as play-on-reads
+
+abbrev Inv-loop : tie.InvT-loop
+Inv-loop replies styles candidates layouts₀ working₀ unclaimed₀ step₀ left₀ layouts working unclaimed step left =
+    (length layouts ≡ length layouts₀) × (length working ≡ length working₀) × (length unclaimed ≡ length unclaimed₀)
+    × (played left₀ replies styles (outcome step₀ layouts₀ working₀ unclaimed₀) ≡ played left replies styles (outcome step layouts working unclaimed))
+
+abbrev μ-loop : tie.MeasureT-loop
+μ-loop replies styles candidates layouts₀ working₀ unclaimed₀ step₀ left₀ layouts working unclaimed step left =
+    left
+
+-- src/lib.rt:112:9
+open-requires : tie.Need-open-requires Inv-loop μ-loop
+open-requires c κs = search needs
+
+-- src/lib.rt:113:20
+mul-left : tie.Need-mul-left Inv-loop μ-loop
+mul-left c = record { fits = omega (arith, c .before .before .before .before .before .before .before .before .before .before .before .before .before .before .before .before .good .1 .1 .1 .0 .0) }
+
+-- src/lib.rt:114:5
+loop-holds : tie.Need-loop-holds Inv-loop μ-loop
+loop-holds c = (refl, refl, refl, refl)
+
+-- src/lib.rt:115:9
+play-on-requires : tie.Need-play-on-requires Inv-loop μ-loop
+play-on-requires c κs = search needs
+
+-- src/lib.rt:116:9
+sub-left : tie.Need-sub-left Inv-loop μ-loop
+sub-left c = search needs
+
+-- src/lib.rt:114:5
+loop-less : tie.Need-loop-less Inv-loop μ-loop
+loop-less c = search needs
+
+-- src/lib.rt:114:5
+loop-again : tie.Need-loop-again Inv-loop μ-loop
+loop-again c =
+    let l = c .before .before .before .before .before .before .before .before .before .before .before .loop in
+    let p = c .before .before .before .before .before .before .play-on .ensures in
+    (search needs, search needs, search needs, l .inv .3 ∙ one-turn _ _ _ _ (c .before .before .before .before .before .before .before .before .before .before .loop-test .taken) ∙ ap (played (l .left - 1) _ _) (sym (left p)))
+
+-- src/lib.rt:101:1
+same-length : tie.Need-same-length Inv-loop μ-loop
+same-length c = search needs
+
+-- src/lib.rt:101:1
+same-length-2 : tie.Need-same-length-2 Inv-loop μ-loop
+same-length-2 c = search needs
+
+-- src/lib.rt:101:1
+same-length-3 : tie.Need-same-length-3 Inv-loop μ-loop
+same-length-3 c = search needs
+
+-- src/lib.rt:101:1
+returns : tie.Need-returns Inv-loop μ-loop
+unfolding playedOut
+returns c =
+    let l = c .before .loop .inv .3 in
+    leaves (sym (no-turn _ _ _ _ (c .loop-test .left)) ∙ sym l ∙ ap (played _ _ _) (left (c .before .before .before .before .before .before .before .before .«open» .ensures)))
+
+pub play-out-spec : {M : Type 1} → statement M
+play-out-spec =
+    tie.close
+    (tie.spec
+    Inv-loop
+    μ-loop
+    open-requires
+    mul-left
+    loop-holds
+    play-on-requires
+    sub-left
+    loop-less
+    loop-again
+    same-length
+    same-length-2
+    same-length-3
+    returns)
