@@ -6,6 +6,7 @@ use mathlib.Core.Path.{_≡_}
 use mathlib.Core.Bool.{true, false}
 use mathlib.Core.List.{List, []}
 use lib.ListN.{length}
+use Rattle.util.specs.Laws.{AtOrAbove}
 use Rattle.geometry.specs.Geometry.{sums, rectSum}
 use Rattle.geometry.specs.declared.Rect.{Rect}
 use Rattle.refusal.specs.declared.Refusal.{Refusal}
@@ -16,7 +17,6 @@ use Rattle.records.specs.Records.{written}
 use Rattle.tree_record.specs.Layout.{layoutWidth, layoutWords}
 use Rattle.oof_resolve.specs.declared.ContainingBlock.{ContainingBlock}
 use Rattle.oof_box.specs.Cut.{askedAfter, layoutAfter}
-use Rattle.oof_box.specs.Theorems.{AtLeast}
 use Rattle.oof_box.specs.declared.question.LayoutInput.{LayoutInput}
 use Rattle.oof_box.specs.declared.question.Question.the-variants.{LayOut}
 use Rattle.oof_box.specs.declared.question.Replies.{Replies}
@@ -91,8 +91,8 @@ EqualsStraightRun =
 pub record SizedLayout (s : State) (lent : Lent) (layouts : List ℕ) : Type 0 where
   pub layout : Layout
   pub wrote : layouts ≡ written (lent .layouts) (layoutWidth * boxAtHand (lent .working) (s .counts) .node) (layoutWords layout)
-  pub width : AtLeast (sums (rectSum (layout .padding) (layout .border)) .width) (layout .size .width)
-  pub height : AtLeast (sums (rectSum (layout .padding) (layout .border)) .height) (layout .size .height)
+  pub width : AtOrAbove (sums (rectSum (layout .padding) (layout .border)) .width) (layout .size .width)
+  pub height : AtOrAbove (sums (rectSum (layout .padding) (layout .border)) .height) (layout .size .height)
 
 abbrev pub SizeLaw : Type 0
 SizeLaw =

@@ -20,7 +20,8 @@ use Rattle.tree.specs.declared.layout.OofCandidate.{OofCandidate}
 use Rattle.tree.specs.declared.layout.OofPositioningArea.{OofPositioningArea}
 use Rattle.records.specs.Records.{whole, recordAt, records, every, wrong, breaks, good, goodRecords}
 use Rattle.records.proofs.Laws.{word-of-record, record-of-records, every-is, good-is-unbroken, rear-back}
-use Rattle.tree_record.specs.Codes.{positionCode, edgeCode, safetyCode}
+use Rattle.tree_record.specs.Codes.{positionCode, edgeCode}
+use Rattle.style.specs.Codes.{safetyCode}
 use Rattle.tree_record.specs.Candidate.{candidateWidth, candidateKinds, candidateOf, candidateWords}
 use Rattle.tree_record.proofs.Laws.{candidate-widths, decoded-fits}
 use Rattle.sweep.specs.Sweep.{firstCandidates, candidatesIn, keep, listWords, appended}

@@ -3,6 +3,7 @@ use mathlib.Core.Path.{_≡_, refl, sym, _∙_}
 use mathlib.Core.Bool.{Bool, true, false, cond, not, _&&_}
 use lib.Ieee.{Float, isNan, le}
 use Rattle.util.specs.Number.{0f}
+use Rattle.util.specs.Laws.{AtOrAbove}
 use Rattle.util.specs.Order.{larger}
 use Rattle.util.specs.Maybe.{present, orElse, unwrapOr, map, mapLarger, clamped}
 use Rattle.util.specs.declared.math.MaybeF32.{MaybeF32}
@@ -21,16 +22,16 @@ use Rattle.oof_resolve.specs.declared.ContainingBlock.{ContainingBlock}
 use Rattle.oof_resolve.specs.declared.ResolvedBox.{ResolvedBox}
 use Rattle.oof_box.specs.Box.{_by_, sizeKeywords, heightened, widened, stretchRatio, raisedMin, stretched, finalSize}
 use Rattle.oof_box.specs.Cut.{knownBy, stretchedBy, measuredSize, sizeBy, layoutAfter}
-use Rattle.oof_box.specs.Theorems.{AtLeast, SizeLaw}
+use Rattle.oof_box.specs.Theorems.{SizeLaw}
 use Rattle.oof_box.specs.declared.sizing.Stretched.{Stretched}
 
 -- what is at least a number that is at least e, is at least e
-onwards : (e low x : Float) → AtLeast e low → AtLeast low x → AtLeast e x
+onwards : (e low x : Float) → AtOrAbove e low → AtOrAbove low x → AtOrAbove e x
 onwards e low x h k p = let a = h p in let b = k (a .0) in (b .0, at-most-is-transitive e low x (a .1) (b .1))
 
 -- a bound that is present and at least e
 data Floor (e : Float) : MaybeF32 → Type 0 where
-  floor : (low : Float) → AtLeast e low → Floor e (Some low)
+  floor : (low : Float) → AtOrAbove e low → Floor e (Some low)
 
 -- step 2: min is raised to padding plus border, or is that sum
 raised : (e : Float) (min : MaybeF32) → Floor e (mapLarger (orElse min (Some e)) e)
@@ -45,7 +46,7 @@ raised-more e true _ fit (floor low h) = floor (larger low fit) (onwards e low (
 raised-more e false _ fit (floor low h) = floor low h
 
 -- step 6: min wins the clamp
-clamped-above : (e x : Float) (min max : MaybeF32) → Floor e min → AtLeast e (clamped x min max)
+clamped-above : (e x : Float) (min max : MaybeF32) → Floor e min → AtOrAbove e (clamped x min max)
 clamped-above e x _ max (floor low h) = onwards e low (clamped x (Some low) max) h (min-wins x low max)
 
 chosen : (e : Float) (side : Stretched → MaybeF32) (t : Bool) (a b : Stretched) → Floor e (side a) → Floor e (side b) → Floor e (side (cond t a b))

@@ -6,7 +6,8 @@ use mathlib.Core.Path.{_≡_}
 use mathlib.Core.Bool.{Bool, true, false}
 use mathlib.Core.List.{List, foldl}
 use mathlib.Core.Option.{Option, none, some}
-use lib.Ieee.{Float, isNan, le}
+use lib.Ieee.{Float}
+use Rattle.util.specs.Laws.{AtOrAbove}
 use Rattle.geometry.specs.Geometry.{sums, rectSum}
 use Rattle.geometry.specs.declared.Rect.{Rect}
 use Rattle.geometry.specs.declared.Size.{Size}
@@ -118,15 +119,12 @@ CodeIsDefinition =
 -- ---- The final size: where padding plus border of an axis isn't NaN, the size is no NaN and at least that, whatever was replied, in
 -- whatever stage, by whatever state.
 
-abbrev pub AtLeast : Float → Float → Type 0
-AtLeast low x = isNan low ≡ false → (isNan x ≡ false) × (le low x ≡ true)
-
 abbrev pub SizeLaw : Type 0
 SizeLaw =
     (block : ContainingBlock) (style : Style) (candidate : OofCandidate) (replies : Replies) (overflow : Rect)
     → let l = layoutAfter block style candidate replies overflow .layout in
     let edges = sums (rectSum (l .padding) (l .border)) in
-    (AtLeast (edges .width) (l .size .width)) × (AtLeast (edges .height) (l .size .height))
+    AtOrAbove (edges .width) (l .size .width) × AtOrAbove (edges .height) (l .size .height)
 
 -- ---- A box asks at most three questions: at most two to measure, then one to lay out, and no other.
 

@@ -135,7 +135,7 @@ pub fn proceed(styles: &[u32], working: &[u32], run: Opened, counts: Counts, ove
 
 // A size was replied: the box goes on.
 pub fn go_on(s: State, replies: Replies, styles: &[u32], working: &[u32]) -> Step
-    requires { ⌜ AtHand (now styles) (now working) (s .counts .begun) × (s .counts .answered ≤ 4294967295) ⌝ }
+    requires { ⌜ AtHand (now styles) (now working) (s .counts .begun) × (s .counts .answered ≤ 3 * s .counts .begun) ⌝ }
     ensures { λ r. ⌜ r ≡ asking (now (styles .entry)) (now (working .entry)) (s .opened) (record { filled = s .counts .filled; begun = s .counts .begun; answered = s .counts .answered + 1 }) (s .overflow) replies ⌝ }
 {
     let run = s.opened;

@@ -1,15 +1,24 @@
 // Lists of records in lent words: a record is a run of words of a fixed width, and a list is one record after another.
 ghost use mathlib.Core.Path.{_≡_};
-ghost use Prim.Native.Nat.{_+_, _≤_, _<_};
+ghost use Prim.Native.Nat.{_+_, _/_, _≤_};
 ghost use lib.ListN.{length};
 ghost use Rattle.records.specs.Records.{written, room};
 
+// The whole records in a list of `len` words.
+fn places(width: usize, len: usize) -> usize
+    ensures { λ r. ⌜ r ≡ len / width ⌝ }
+{
+    if width == 0 {
+        return 0;
+    }
+    len / width
+}
+
 // Whether a list of `len` words that holds `held` records has room for `more`.
 pub fn has_room(width: usize, len: usize, held: usize, more: usize) -> bool
-    requires { ⌜ 0 < width ⌝ }
     ensures { λ r. ⌜ r ≡ room width len held more ⌝ }
 {
-    let places = len / width;
+    let places = places(width, len);
     if held <= places {
         return more <= places - held;
     }

@@ -22,9 +22,9 @@ use Rattle.style.specs.declared.alignment.AlignItemsKeyword.the-variants
 use Rattle.style.specs.declared.alignment.AlignmentSafety.{AlignmentSafety}
 use Rattle.style.specs.declared.alignment.AlignmentSafety.the-variants.{Default, Unsafe, Safe}
 use Rattle.style.specs.Resolve.{autoIn, contentIn, keywordIn, byTag, resolved, isAllowed, takes}
-use Rattle.style.specs.Values.{keywordRelative, selfRelative}
+use Rattle.style.specs.Values.{isSelfRelative, keywordRelative, selfRelative}
 use Rattle.style.specs.Codes.{sizingCode, overflowCode, directionCode, safetyCode, keywordCode, bitsCode, sizingOf, overflowOf, directionOf, safetyOf, keywordOf, bit0, bit1}
-use Rattle.style.specs.Laws.{AdmissionIsOfTheTag, TakesItsTags, tagsOf, among, SizingCodes, OverflowCodes, DirectionCodes, SafetyCodes, KeywordCodes, BitsCodes, isSelfRelative, SelfRelativeIsResolved}
+use Rattle.style.specs.Laws.{AdmissionIsOfTheTag, TakesItsTags, tagsOf, among, SizingCodes, OverflowCodes, DirectionCodes, SafetyCodes, KeywordCodes, BitsCodes, SelfRelativeIsResolved}
 
 -- ---- tags
 

@@ -16,7 +16,7 @@ use Rattle.style.specs.declared.alignment.AlignItemsKeyword.the-variants
 use Rattle.style.specs.declared.alignment.AlignmentSafety.{AlignmentSafety}
 use Rattle.style.specs.declared.alignment.AlignItems.{AlignItems}
 use Rattle.style.specs.Resolve.{resolved, isAllowed, takes}
-use Rattle.style.specs.Values.{selfRelative}
+use Rattle.style.specs.Values.{isSelfRelative, selfRelative}
 use Rattle.style.specs.Codes.{sizingCode, overflowCode, directionCode, safetyCode, keywordCode, bitsCode, sizingOf, overflowOf, directionOf, safetyOf, keywordOf, bit0, bit1}
 
 -- ---- tags
@@ -62,18 +62,6 @@ abbrev pub BitsCodes : Type 0
 BitsCodes = ((low high : Bool) → (bit0 (bitsCode low high) ≡ low) × (bit1 (bitsCode low high) ≡ high)) × ((n : ℕ) → bitsCode (bit0 n) (bit1 n) ≡ n % 4)
 
 -- ---- self-alignment
-
-abbrev pub isSelfRelative : AlignItemsKeyword → Bool
-isSelfRelative keyword.Normal = false
-isSelfRelative keyword.Start = false
-isSelfRelative keyword.End = false
-isSelfRelative keyword.FlexStart = false
-isSelfRelative keyword.FlexEnd = false
-isSelfRelative keyword.SelfStart = true
-isSelfRelative keyword.SelfEnd = true
-isSelfRelative keyword.Center = false
-isSelfRelative keyword.Baseline = false
-isSelfRelative keyword.Stretch = false
 
 -- no self-start or self-end is left
 abbrev pub SelfRelativeIsResolved : Type 0

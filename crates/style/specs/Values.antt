@@ -74,6 +74,19 @@ differs Rtl d = not (isRtl d)
 
 -- ---- self-alignment: self-start and self-end by the containing block's start and end
 
+-- self-start and self-end: to be resolved against the container's direction first
+abbrev pub isSelfRelative : AlignItemsKeyword → Bool
+isSelfRelative keyword.Normal = false
+isSelfRelative keyword.Start = false
+isSelfRelative keyword.End = false
+isSelfRelative keyword.FlexStart = false
+isSelfRelative keyword.FlexEnd = false
+isSelfRelative keyword.SelfStart = true
+isSelfRelative keyword.SelfEnd = true
+isSelfRelative keyword.Center = false
+isSelfRelative keyword.Baseline = false
+isSelfRelative keyword.Stretch = false
+
 abbrev pub keywordRelative : AlignItemsKeyword → Bool → AlignItemsKeyword
 keywordRelative keyword.Normal flipped = keyword.Normal
 keywordRelative keyword.Start flipped = keyword.Start

@@ -1,11 +1,11 @@
 -- Static positions: where a box would stand in normal flow, as an area and an alignment in it (tree/layout.rs). Assumes nothing.
 use mathlib.Core.Bool.{Bool, true, false, cond}
 use lib.Ieee.{Float}
-use Rattle.util.specs.Number.{_⊕_}
-use Rattle.geometry.specs.Geometry.{_to_}
+use Rattle.geometry.specs.Geometry.{movedBy}
 use Rattle.geometry.specs.declared.Line.{Line}
 use Rattle.geometry.specs.declared.Point.{Point}
 use Rattle.refusal.specs.declared.Refusal.the-variants.{UnresolvedSide}
+use Rattle.style.specs.Values.{isSelfRelative}
 use Rattle.style.specs.declared.alignment.AlignItemsKeyword.{AlignItemsKeyword}
 use Rattle.style.specs.declared.alignment.AlignItemsKeyword.the-variants as keyword
 use Rattle.style.specs.declared.alignment.AlignmentSafety.{AlignmentSafety}
@@ -47,19 +47,6 @@ fallbackOf k Default = k
 fallbackOf k Unsafe = k
 fallbackOf k Safe = keyword.Start
 
--- self-start and self-end: to be resolved against the container's direction first
-abbrev pub isSelfRelative : AlignItemsKeyword → Bool
-isSelfRelative keyword.Normal = false
-isSelfRelative keyword.Start = false
-isSelfRelative keyword.End = false
-isSelfRelative keyword.FlexStart = false
-isSelfRelative keyword.FlexEnd = false
-isSelfRelative keyword.SelfStart = true
-isSelfRelative keyword.SelfEnd = true
-isSelfRelative keyword.Center = false
-isSelfRelative keyword.Baseline = false
-isSelfRelative keyword.Stretch = false
-
 -- the static position of a box aligned within an area, or refusal 7 exactly for self-start and self-end
 unfoldable pub fromAlignment : AlignItems → Line → Bool → Aligned
 fromAlignment a area rtl =
@@ -76,7 +63,7 @@ fromAlignment a area rtl =
 
 -- an area moved by a distance, each end rounded once; its alignment stays
 unfoldable pub shiftedAxis : AxisStaticPosition → Float → AxisStaticPosition
-shiftedAxis p by = record { area = p .area .start ⊕ by to p .area .end ⊕ by; align = p .align }
+shiftedAxis p by = record { area = movedBy (p .area) by; align = p .align }
 
 -- a candidate of a box, as one of its parent: the four areas' ends move by the box's location
 unfoldable pub translated : OofCandidate → Point → OofCandidate

@@ -1,6 +1,7 @@
 // tree/layout.rs: where an out-of-flow box would stand in normal flow, and where it stands when laid out.
 ghost use mathlib.Core.Path.{_≡_};
-ghost use Rattle.tree.specs.Static.{startEdge, endEdge, edgeFor, fallbackOf, isSelfRelative, fromAlignment, shiftedAxis, translated};
+ghost use Rattle.style.specs.Values.{isSelfRelative};
+ghost use Rattle.tree.specs.Static.{startEdge, endEdge, edgeFor, fallbackOf, fromAlignment, shiftedAxis, translated};
 use geometry::Line;
 use geometry::Point;
 use geometry::Rect;

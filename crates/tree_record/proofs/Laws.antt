@@ -21,7 +21,8 @@ use Rattle.style.specs.declared.alignment.AlignmentSafety.{AlignmentSafety}
 use Rattle.style.specs.declared.alignment.AlignmentSafety.the-variants.{Default, Unsafe, Safe}
 use Rattle.tree.specs.declared.layout.AxisStaticEdge.{AxisStaticEdge}
 use Rattle.tree.specs.declared.layout.AxisStaticEdge.the-variants.{Start, Center, End}
-use Rattle.tree_record.specs.Codes.{positionOf, positionCode, edgeOf, edgeCode, safetyOf, safetyCode}
+use Rattle.tree_record.specs.Codes.{positionOf, positionCode, edgeOf, edgeCode}
+use Rattle.style.specs.Codes.{safetyOf, safetyCode}
 use Rattle.tree_record.specs.Candidate.{candidateKinds, axisOf, candidateOf, candidateWords}
 use Rattle.tree_record.specs.Layout.{rectOf, layoutOf, layoutWords}
 use Rattle.tree_record.specs.Laws.{CandidateWidths, DecodedFits, CandidateBack, RecordRewritten, LayoutWidths, FitsSize, FitsPoint, FitsRect, FitsLayout, LayoutBack, LayoutRewritten}

@@ -5,9 +5,10 @@ use lib.ListN.{getD}
 use lib.Ieee.{Float, ofBits, toBits, binary32}
 use Rattle.geometry.specs.Geometry.{_to_}
 use Rattle.records.specs.Records.{Kind, code, whole, float}
+use Rattle.style.specs.Codes.{safetyOf, safetyCode}
 use Rattle.tree.specs.declared.layout.AxisStaticPosition.{AxisStaticPosition}
 use Rattle.tree.specs.declared.layout.OofCandidate.{OofCandidate}
-use Rattle.tree_record.specs.Codes.{positionOf, positionCode, edgeOf, edgeCode, safetyOf, safetyCode}
+use Rattle.tree_record.specs.Codes.{positionOf, positionCode, edgeOf, edgeCode}
 
 abbrev pub candidateWidth : ℕ
 candidateWidth = 13

@@ -1,12 +1,10 @@
 -- The codes of a candidate's record (document 01, "Candidate, 13 words"). A code outside its list is read as the last one: it is
--- refused before. Assumes nothing.
+-- refused before. The codes of safety are those of a style (style/specs/Codes.antt). Assumes nothing.
 use Prim.Native.Nat.{ℕ}
 use mathlib.Core.Bool.{Bool, true, false, cond}
 use lib.Dec.{eqb}
 use Rattle.style.specs.declared.Position.{Position}
 use Rattle.style.specs.declared.Position.the-variants as position
-use Rattle.style.specs.declared.alignment.AlignmentSafety.{AlignmentSafety}
-use Rattle.style.specs.declared.alignment.AlignmentSafety.the-variants.{Default, Unsafe, Safe}
 use Rattle.tree.specs.declared.layout.AxisStaticEdge.{AxisStaticEdge}
 use Rattle.tree.specs.declared.layout.AxisStaticEdge.the-variants.{Start, Center, End}
 
@@ -31,11 +29,3 @@ edgeCode End = 2
 
 unfoldable pub edgeOf : ℕ → AxisStaticEdge
 edgeOf n = cond (eqb n 0) Start (cond (eqb n 1) Center End)
-
-unfoldable pub safetyCode : AlignmentSafety → ℕ
-safetyCode Default = 0
-safetyCode Unsafe = 1
-safetyCode Safe = 2
-
-unfoldable pub safetyOf : ℕ → AlignmentSafety
-safetyOf n = cond (eqb n 0) Default (cond (eqb n 1) Unsafe Safe)

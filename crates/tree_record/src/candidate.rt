@@ -6,6 +6,7 @@ ghost use Rattle.records.specs.Records.{recordAt, written, good, goodRecords};
 ghost use Rattle.tree_record.specs.Candidate.{candidateWidth, axisKinds, candidateKinds, axisOf, candidateOf, candidateWords};
 use crate::codes;
 use geometry::Line;
+use style::alignment::AlignmentSafety;
 use tree::layout::AxisStaticAlign;
 use tree::layout::AxisStaticPosition;
 use tree::layout::OofCandidate;
@@ -84,7 +85,7 @@ fn axis_at(words: &[u32], at: usize) -> AxisStaticPosition
     };
     let align = AxisStaticAlign {
         keyword: codes::edge_of(words[at + 2]),
-        safety: codes::safety_of(words[at + 3]),
+        safety: AlignmentSafety::from_code(words[at + 3]),
         fallback: codes::edge_of(words[at + 4]),
     };
     AxisStaticPosition {

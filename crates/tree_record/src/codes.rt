@@ -1,6 +1,7 @@
 // The codes of a candidate's record. A code outside its list is read as the last one: it is refused before.
 ghost use mathlib.Core.Path.{_≡_};
-ghost use Rattle.tree_record.specs.Codes.{positionOf, positionCode, edgeOf, edgeCode, safetyOf, safetyCode};
+ghost use Rattle.style.specs.Codes.{safetyCode};
+ghost use Rattle.tree_record.specs.Codes.{positionOf, positionCode, edgeOf, edgeCode};
 use style::Position;
 use style::alignment::AlignmentSafety;
 use tree::layout::AxisStaticEdge;
@@ -46,16 +47,6 @@ pub fn edge_code(edge: AxisStaticEdge) -> u32
         AxisStaticEdge::Start => 0,
         AxisStaticEdge::Center => 1,
         AxisStaticEdge::End => 2,
-    }
-}
-
-pub fn safety_of(code: u32) -> AlignmentSafety
-    ensures { λ r. ⌜ r ≡ safetyOf code ⌝ }
-{
-    match code {
-        0 => AlignmentSafety::Default,
-        1 => AlignmentSafety::Unsafe,
-        _ => AlignmentSafety::Safe,
     }
 }
 

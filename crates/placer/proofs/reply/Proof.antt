@@ -1,6 +1,6 @@
 use native.Mathlib.Omega.{arith}
 use Rattle.placer.proofs.Replies.{turned-down, not-wrong, kept, cleared-laid, laid}
-use Rattle.placer.proofs.Calls.{reply-passed, at-hand, few-answered}
+use Rattle.placer.proofs.Calls.{reply-passed, counted, at-hand}
 use Rattle.placer_check.specs.Verdict.{lent}
 use mathlib.Core.Path.{sym, _∙_}
 use borrow.Author.Needs.{needs}
@@ -52,8 +52,7 @@ go-on-requires c κs =
     let a = c .before .before .before .before .before .before .before .before .before .before .before .before .before .before .before .before .args in
     let l = lent (a .styles .now) (a .layouts .now) (a .working .now) (a .unclaimed .now) in
     let p = reply-passed (a .s) (a .reply) (a .surfaced .now) l (rw (c .before .before .before .before .before .enum-told .given .1) at (c .before .before .before .before .before .before .before .check-reply .ensures)) in
-    let few = few-answered (a .s) (a .reply) (a .surfaced .now) l p in
-    (at-hand (a .s) (a .reply) (a .surfaced .now) l p, omega (arith, few))
+    (at-hand (a .s) (a .reply) (a .surfaced .now) l p, counted l (a .s .counts) (p .counts) .answered)
 
 -- src/lib.rt:199:25
 enum-known-overflow : tie.Need-enum-known-overflow

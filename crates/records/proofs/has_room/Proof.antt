@@ -7,17 +7,17 @@ use Rattle.records.proofs.has_room.Tie as tie
 use Rattle.records.proofs.has_room.Reads as reads
 use Rattle.records.proofs.has_room.Lts as lts
 
--- src/lib.rt:12:18
-div-places : tie.Need-div-places
-div-places c = search needs
+-- src/lib.rt:21:18
+places-requires : tie.Need-places-requires
+places-requires c κs = search needs
 
 -- src/lib.rt:14:9
 returns : tie.Need-returns
-returns c = sym (room-for _ _ _ _ (c .if1 .taken))
+returns c = rw (c .before .places .ensures) (sym (room-for _ _ _ _ (rw (c .before .places .ensures) at (c .if1 .taken))))
 
 -- src/lib.rt:8:1
 returns-2 : tie.Need-returns-2
 returns-2 c = sym (no-room _ _ _ _ (omega arith))
 
 pub has-room-spec : {M : Type 1} → statement M
-has-room-spec = tie.close (tie.spec div-places returns returns-2)
+has-room-spec = tie.close (tie.spec places-requires returns returns-2)

@@ -5,7 +5,7 @@ use Rattle.tree_record.proofs.candidate.axis_at.Tie as tie
 use Rattle.tree_record.proofs.candidate.axis_at.Reads as reads
 use Rattle.tree_record.proofs.candidate.axis_at.Lts as lts
 use Rattle.tree_record.proofs.codes.edge_of.Reads as edge-of-reads
-use Rattle.tree_record.proofs.codes.safety_of.Reads as safety-of-reads
+use Rattle.style.proofs.alignment.AlignmentSafety.from_code.Reads as from-code-reads
 use Rattle.util.proofs.bits.from_word.Reads as from-word-reads
 
 -- src/candidate.rt:78:32
@@ -53,20 +53,20 @@ edge-of-requires : tie.Need-edge-of-requires
 edge-of-requires c κs = search needs
 
 -- src/candidate.rt:83:40
-add-safety-of : tie.Need-add-safety-of
-add-safety-of c = search needs
+add-from-code : tie.Need-add-from-code
+add-from-code c = search needs
 
 -- src/candidate.rt:83:34
-mul-safety-of : tie.Need-mul-safety-of
-mul-safety-of c = search needs
+mul-from-code : tie.Need-mul-from-code
+mul-from-code c = search needs
 
 -- src/candidate.rt:83:34
-shared-slice-read-safety-of : tie.Need-shared-slice-read-safety-of
-shared-slice-read-safety-of c = search needs
+shared-slice-read-from-code : tie.Need-shared-slice-read-from-code
+shared-slice-read-from-code c = search needs
 
 -- src/candidate.rt:83:17
-safety-of-requires : tie.Need-safety-of-requires
-safety-of-requires c κs = search needs
+from-code-requires : tie.Need-from-code-requires
+from-code-requires c κs = search needs
 
 -- src/candidate.rt:84:40
 add-edge-of-2 : tie.Need-add-edge-of-2
@@ -87,7 +87,7 @@ edge-of-requires-2 c κs = search needs
 -- src/candidate.rt:73:1
 returns : tie.Need-returns
 unfolding axisOf
-returns c = simp (← c .before .before .before .before .before .before .before .before .from-word .ensures, ← c .before .before .before .before .before .before .from-word2 .ensures, ← c .before .before .before .before .edge-of .ensures, ← c .before .before .safety-of .ensures, ← c .edge-of2 .ensures)
+returns c = simp (← c .before .before .before .before .before .before .before .before .from-word .ensures, ← c .before .before .before .before .before .before .from-word2 .ensures, ← c .before .before .before .before .edge-of .ensures, ← c .before .before .from-code .ensures, ← c .edge-of2 .ensures)
 
 pub axis-at-spec : {M : Type 1} → statement M
 axis-at-spec =
@@ -104,10 +104,10 @@ axis-at-spec =
     mul-edge-of
     shared-slice-read-edge-of
     edge-of-requires
-    add-safety-of
-    mul-safety-of
-    shared-slice-read-safety-of
-    safety-of-requires
+    add-from-code
+    mul-from-code
+    shared-slice-read-from-code
+    from-code-requires
     add-edge-of-2
     mul-edge-of-2
     shared-slice-read-edge-of-2

@@ -1,4 +1,4 @@
-use Rattle.tree_record.specs.Codes.{safetyCode}
+use Rattle.style.specs.Codes.{safetyCode}
 use borrow.Author.Needs.{needs}
 use Rattle.tree_record.proofs.codes.safety_code.Statement.{statement}
 use Rattle.tree_record.proofs.codes.safety_code.Tie as tie
