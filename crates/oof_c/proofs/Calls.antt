@@ -1,0 +1,72 @@
+-- From what the placer's entries leave to what a C call leaves.
+use Prim.Native.Nat.{ℕ}
+use mathlib.Core.List.{List}
+use mathlib.Core.Path.{_≡_, ap, sym, _∙_}
+use Rattle.refusal.specs.Refusal.{numberOf}
+use Rattle.refusal.specs.declared.Refusal.{Refusal}
+use Rattle.oof_box.specs.declared.question.Question.{Question}
+use Rattle.run.specs.declared.Answer.{Answer}
+use Rattle.run.specs.declared.Answer.the-variants.{Ask, Finish, Refused}
+use Rattle.run.specs.declared.Finish as declared
+use Rattle.oof_c.specs.StateWords.{stateWords}
+use Rattle.oof_c.specs.AnswerWords.{questionWords, finishWords}
+use Rattle.run.specs.Call.{Outcome, Leaves}
+use Rattle.run.specs.declared.Step.{Step}
+use Rattle.oof_c.specs.Entry.{resultOf, stateLeft, answerLeft, Told, Words, words, Left}
+
+-- a step that refuses, asks or finishes
+pub refused-told :
+    (step : Step) (refusal : Refusal) (r : ℕ) (kept shown : List ℕ)
+    → step .answer ≡ Refused refusal
+    → r ≡ numberOf refusal
+    → Told r kept shown kept shown step
+unfolding resultOf stateLeft answerLeft
+refused-told step refusal r kept shown e n =
+    record {
+      result = n ∙ sym (ap resultOf e);
+      state = sym (ap (λ (a : Answer). stateLeft (step .state) a kept) e);
+      answer = sym (ap (λ (a : Answer). answerLeft a shown) e);
+    }
+
+pub asked-told :
+    (step : Step) (question : Question) (s a kept shown : List ℕ)
+    → step .answer ≡ Ask question
+    → s ≡ stateWords (step .state)
+    → a ≡ questionWords question
+    → Told 0 s a kept shown step
+unfolding resultOf stateLeft answerLeft
+asked-told step question s a kept shown e f g =
+    record {
+      result = sym (ap resultOf e);
+      state = f ∙ sym (ap (λ (x : Answer). stateLeft (step .state) x kept) e);
+      answer = g ∙ sym (ap (λ (x : Answer). answerLeft x shown) e);
+    }
+
+pub finished-told :
+    (step : Step) (finish : declared.Finish) (s a kept shown : List ℕ)
+    → step .answer ≡ Finish finish
+    → s ≡ stateWords (step .state)
+    → a ≡ finishWords finish
+    → Told 0 s a kept shown step
+unfolding resultOf stateLeft answerLeft
+finished-told step finish s a kept shown e f g =
+    record {
+      result = sym (ap resultOf e);
+      state = f ∙ sym (ap (λ (x : Answer). stateLeft (step .state) x kept) e);
+      answer = g ∙ sym (ap (λ (x : Answer). answerLeft x shown) e);
+    }
+
+pub told-of :
+    (r : ℕ) (step : Step) (l w u s a : List ℕ) (before : Words) (o : Outcome)
+    → Leaves step l w u o
+    → Told r s a (before .state) (before .answer) step
+    → Left r before (words l w u s a) o
+told-of r step l w u s a before o leaves told =
+    record {
+      result = told .result ∙ ap (λ (t : Step). resultOf (t .answer)) (leaves .step);
+      layouts = leaves .layouts;
+      working = leaves .working;
+      unclaimed = leaves .unclaimed;
+      state = told .state ∙ ap (λ (t : Step). stateLeft (t .state) (t .answer) (before .state)) (leaves .step);
+      answer = told .answer ∙ ap (λ (t : Step). answerLeft (t .answer) (before .answer)) (leaves .step);
+    }

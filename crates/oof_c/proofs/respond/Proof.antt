@@ -1,0 +1,53 @@
+use Rattle.oof_c.specs.Entry.{words}
+use Rattle.oof_c.proofs.Calls.{told-of}
+use borrow.Author.Needs.{needs}
+use Rattle.oof_c.proofs.respond.Statement.{statement}
+use Rattle.oof_c.proofs.respond.Tie as tie
+use Rattle.oof_c.proofs.respond.Reads as reads
+use Rattle.oof_c.proofs.respond.Lts as lts
+use Rattle.oof_c.proofs.state.state_of.Reads as state-of-reads
+use Rattle.oof_c.proofs.tell.Reads as tell-reads
+use Rattle.placer.proofs.reply.Reads as reply-reads
+
+-- src/lib.rt:92:9
+state-of-requires : tie.Need-state-of-requires
+state-of-requires c κs = search needs
+
+-- src/lib.rt:93:9
+reply-requires : tie.Need-reply-requires
+reply-requires c κs = search needs
+
+-- src/lib.rt:94:5
+tell-requires : tie.Need-tell-requires
+tell-requires c κs = search needs
+
+-- src/lib.rt:80:1
+same-length : tie.Need-same-length
+same-length c = search needs
+
+-- src/lib.rt:80:1
+same-length-2 : tie.Need-same-length-2
+same-length-2 c = search needs
+
+-- src/lib.rt:80:1
+same-length-3 : tie.Need-same-length-3
+same-length-3 c = search needs
+
+-- src/lib.rt:80:1
+returns : tie.Need-returns
+returns c =
+    let a = c .before .before .before .before .before .before .before .before .before .before .before .before .before .before .before .before .before .before .before .before .args in
+    told-of _ _ _ _ _ _ _ (words (a .layouts .now) (a .working .now) (a .unclaimed .now) (a .state .now) (a .answer .now)) _
+    (rw (c .before .before .before .before .before .before .before .before .before .before .before .before .before .state-of .ensures) at (c .before .before .before .before .before .before .before .before .before .reply .ensures)) (c .tell .ensures)
+
+pub respond-spec : {M : Type 1} → statement M
+respond-spec =
+    tie.close
+    (tie.spec
+    state-of-requires
+    reply-requires
+    tell-requires
+    same-length
+    same-length-2
+    same-length-3
+    returns)

@@ -1,0 +1,3 @@
+pub mod StateWords
+pub mod AnswerWords
+pub mod Entry
