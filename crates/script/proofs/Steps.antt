@@ -1,8 +1,8 @@
 -- The steps of the code are those of the definitions. Assumes nothing.
-use Prim.Native.Nat.{ℕ, zero, suc, _+_, _-_, _*_, _<_, _≤_}
+use Prim.Native.Nat.{ℕ, zero, suc, _-_, _<_, _≤_}
 use native.Mathlib.Omega.{arith}
 use native.Mathlib.Numerals.{unary-clauses}
-use mathlib.Core.Path.{_≡_, refl, sym, ap, _∙_, subst}
+use mathlib.Core.Path.{_≡_, refl, subst}
 use mathlib.Core.List.{List, []}
 use Rattle.oof_box.specs.declared.question.Question.{Question}
 use Rattle.oof_box.specs.declared.question.Reply.{Reply}
@@ -10,7 +10,7 @@ use Rattle.refusal.specs.declared.Refusal.{Refusal}
 use Rattle.run.specs.declared.Answer.the-variants.{Ask, Finish, Refused}
 use Rattle.run.specs.declared.Finish.{Finish as FinishOf}
 use Rattle.run.specs.declared.Step.{Step}
-use Rattle.run.specs.Call.{Lent, Outcome, Leaves}
+use Rattle.run.specs.Call.{Outcome, Leaves}
 use Rattle.run.specs.Run.{replied}
 use Rattle.run.specs.Theorems.{next}
 use Rattle.placer_check.specs.Verdict.{lent}

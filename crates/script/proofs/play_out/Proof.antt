@@ -50,7 +50,7 @@ loop-again : tie.Need-loop-again Inv-loop μ-loop
 loop-again c =
     let l = c .before .before .before .before .before .before .before .before .before .before .before .loop in
     let p = c .before .before .before .before .before .before .play-on .ensures in
-    (search needs, search needs, search needs, l .inv .3 ∙ one-turn _ _ _ _ (c .before .before .before .before .before .before .before .before .before .before .loop-test .taken) ∙ ap (played (l .left - 1) _ _) (sym (left p)))
+    (search needs, search needs, search needs, l .inv .3 ∙ one-turn _ _ _ (l .left) (omega (arith, c .before .before .before .before .before .before .before .before .before .before .loop-test .taken)) ∙ ap (played (l .left - 1) _ _) (sym (left p)))
 
 -- src/lib.rt:101:1
 same-length : tie.Need-same-length Inv-loop μ-loop
@@ -69,7 +69,7 @@ returns : tie.Need-returns Inv-loop μ-loop
 unfolding playedOut
 returns c =
     let l = c .before .loop .inv .3 in
-    leaves (sym (no-turn _ _ _ _ (c .loop-test .left)) ∙ sym l ∙ ap (played _ _ _) (left (c .before .before .before .before .before .before .before .before .«open» .ensures)))
+    leaves (sym (no-turn _ _ _ (c .before .loop .left) (omega (arith, c .loop-test .left))) ∙ sym l ∙ ap (played _ _ _) (left (c .before .before .before .before .before .before .before .before .«open» .ensures)))
 
 pub play-out-spec : {M : Type 1} → statement M
 play-out-spec =
