@@ -18,7 +18,8 @@ use Rattle.tree.specs.declared.layout.AxisStaticEdge.the-variants.{Start, Cente
 use Rattle.tree.specs.declared.layout.OofCandidate.{OofCandidate}
 use Rattle.records.specs.Records.{whole, recordAt, records, every, wrong, breaks, good, goodRecords}
 use Rattle.records.proofs.Laws.{word-of-record, record-of-records, every-is, good-is-unbroken, rear-back}
-use Rattle.tree_record.specs.Codes.{positionCode, edgeCode, safetyCode}
+use Rattle.style.specs.Codes.{safetyCode}
+use Rattle.tree_record.specs.Codes.{positionCode, edgeCode}
 use Rattle.tree_record.specs.Candidate.{candidateWidth, candidateKinds, candidateWords}
 use Rattle.tree_record.proofs.Laws.{candidate-widths}
 use Rattle.sweep.specs.Sweep.{listWords, appended}
