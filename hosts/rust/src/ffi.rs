@@ -1,0 +1,207 @@
+//! The five entries of the static library `oof_c`, over words. This is the only module with `unsafe`.
+//!
+//! Every entry takes any words in any number, and a call that it refuses writes none of them. So the functions here are safe:
+//! the slices are Rust's, and two of which one may be written don't overlap.
+#![allow(unsafe_code)]
+
+/// Words of a state. All zeros are the state of a finished run.
+pub const STATE: usize = 27;
+/// Words of an answer
+pub const ANSWER: usize = 10;
+
+/// Places of a state's words.
+pub mod state {
+    /// 0 finished, 1 keyword both, 2 keyword width, 3 keyword height, 4 fill, 5 lay out; any other is finished
+    pub const PROGRESS: usize = 0;
+    /// Reply to the keyword question: 0 none, 1 both, 2 width, 3 height; then a width and a height
+    pub const KEYWORD_REPLY: usize = 1;
+    /// Reply to the fill question: 0 none, 1 both; then a width and a height
+    pub const FILL_REPLY: usize = 4;
+    /// Records filled in the working list
+    pub const FILLED_WORKING: usize = 7;
+    /// Records filled in the unclaimed list
+    pub const FILLED_UNCLAIMED: usize = 8;
+    /// Boxes begun
+    pub const BEGUN: usize = 9;
+    /// Questions answered
+    pub const ANSWERED: usize = 10;
+    /// Overflow so far: left, right, top, bottom
+    pub const OVERFLOW: usize = 11;
+    /// Width, height, offset x and y
+    pub const AREA: usize = 15;
+    /// Direction, claims, overflow x and y
+    pub const CODES: usize = 19;
+    /// Words lent at the opening: styles, layouts, working, unclaimed
+    pub const LENGTHS: usize = 23;
+}
+
+/// What every call lends. `state` and `answer` are written when a call is accepted.
+pub struct Lent<'a> {
+    /// Whole styles, 57 words each
+    pub styles: &'a [u32],
+    /// As many layouts, 23 words each
+    pub layouts: &'a mut [u32],
+    /// Room for claimed candidates, 13 words each
+    pub working: &'a mut [u32],
+    /// Room for the others
+    pub unclaimed: &'a mut [u32],
+    /// What the run keeps between calls
+    pub state: &'a mut [u32; STATE],
+    /// The next question, or the finish
+    pub answer: &'a mut [u32; ANSWER],
+}
+
+/// A reply, by kind.
+#[derive(Copy, Clone, Debug, PartialEq)]
+pub enum Reply {
+    /// Width and height
+    Both(f32, f32),
+    /// Width
+    Width(f32),
+    /// Height
+    Height(f32),
+    /// The box's scrollable overflow: left, right, top, bottom
+    LaidOut([f32; 4]),
+}
+
+mod c {
+    extern "C" {
+        pub fn oof_open(
+            width: f32,
+            height: f32,
+            x: f32,
+            y: f32,
+            direction: u32,
+            claims: u32,
+            overflow_x: u32,
+            overflow_y: u32,
+            styles: *const u32,
+            styles_len: usize,
+            candidates: *const u32,
+            candidates_len: usize,
+            layouts: *mut u32,
+            layouts_len: usize,
+            working: *mut u32,
+            working_len: usize,
+            unclaimed: *mut u32,
+            unclaimed_len: usize,
+            state: *mut u32,
+            answer: *mut u32,
+        ) -> u32;
+        pub fn oof_reply_both(
+            width: f32,
+            height: f32,
+            styles: *const u32,
+            styles_len: usize,
+            layouts: *mut u32,
+            layouts_len: usize,
+            working: *mut u32,
+            working_len: usize,
+            unclaimed: *mut u32,
+            unclaimed_len: usize,
+            state: *mut u32,
+            answer: *mut u32,
+        ) -> u32;
+        pub fn oof_reply_width(
+            width: f32,
+            styles: *const u32,
+            styles_len: usize,
+            layouts: *mut u32,
+            layouts_len: usize,
+            working: *mut u32,
+            working_len: usize,
+            unclaimed: *mut u32,
+            unclaimed_len: usize,
+            state: *mut u32,
+            answer: *mut u32,
+        ) -> u32;
+        pub fn oof_reply_height(
+            height: f32,
+            styles: *const u32,
+            styles_len: usize,
+            layouts: *mut u32,
+            layouts_len: usize,
+            working: *mut u32,
+            working_len: usize,
+            unclaimed: *mut u32,
+            unclaimed_len: usize,
+            state: *mut u32,
+            answer: *mut u32,
+        ) -> u32;
+        pub fn oof_reply_laid_out(
+            left: f32,
+            right: f32,
+            top: f32,
+            bottom: f32,
+            surfaced: *const u32,
+            surfaced_len: usize,
+            styles: *const u32,
+            styles_len: usize,
+            layouts: *mut u32,
+            layouts_len: usize,
+            working: *mut u32,
+            working_len: usize,
+            unclaimed: *mut u32,
+            unclaimed_len: usize,
+            state: *mut u32,
+            answer: *mut u32,
+        ) -> u32;
+    }
+}
+
+/// The slices, state and answer as arguments of an entry, after the arguments before them
+macro_rules! call {
+    ($entry:ident, $lent:expr, $($before:expr),*) => {
+        // SAFETY: pointers and lengths come from Rust slices that live through the call; those that are written are borrowed
+        // uniquely, so none overlaps another; state and answer have the 27 and 10 words that the entry reads and writes.
+        unsafe {
+            c::$entry(
+                $($before,)*
+                $lent.layouts.as_mut_ptr(),
+                $lent.layouts.len(),
+                $lent.working.as_mut_ptr(),
+                $lent.working.len(),
+                $lent.unclaimed.as_mut_ptr(),
+                $lent.unclaimed.len(),
+                $lent.state.as_mut_ptr(),
+                $lent.answer.as_mut_ptr(),
+            )
+        }
+    };
+}
+
+/// Opens a run. `area` is width, height, offset x and y; `codes` are direction, claims, overflow x and y. The result is 0, or
+/// the number of a refusal.
+pub fn open(area: [f32; 4], codes: [u32; 4], candidates: &[u32], lent: &mut Lent) -> u32 {
+    let ([width, height, x, y], [direction, claims, overflow_x, overflow_y]) = (area, codes);
+    call!(
+        oof_open,
+        lent,
+        width,
+        height,
+        x,
+        y,
+        direction,
+        claims,
+        overflow_x,
+        overflow_y,
+        lent.styles.as_ptr(),
+        lent.styles.len(),
+        candidates.as_ptr(),
+        candidates.len()
+    )
+}
+
+/// Replies to the open question. `surfaced` holds the candidates that a box surfaced; only a lay-out reply has any. The result
+/// is 0, or the number of a refusal.
+pub fn reply(reply: Reply, surfaced: &[u32], lent: &mut Lent) -> u32 {
+    let (styles, length) = (lent.styles.as_ptr(), lent.styles.len());
+    match reply {
+        Reply::Both(width, height) => call!(oof_reply_both, lent, width, height, styles, length),
+        Reply::Width(width) => call!(oof_reply_width, lent, width, styles, length),
+        Reply::Height(height) => call!(oof_reply_height, lent, height, styles, length),
+        Reply::LaidOut([left, right, top, bottom]) => {
+            call!(oof_reply_laid_out, lent, left, right, top, bottom, surfaced.as_ptr(), surfaced.len(), styles, length)
+        }
+    }
+}

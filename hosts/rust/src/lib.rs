@@ -1,0 +1,45 @@
+//! Places absolutely positioned boxes, by the proved static library `oof_c`.
+//!
+//! [`compute_oof_layout_for_area`] reads like the function of that name in taffy 0.15.1: it takes an area, a table of styles
+//! and a list of candidates, calls the [`Host`] back to measure and to lay out, and returns where the boxes stand. Under it is
+//! the library's dialogue of questions and replies over lent words; [`ffi`] has its five entries, with slices checked by Rust.
+//!
+//! ```
+//! use oof::*;
+//!
+//! struct Font;
+//! impl Host for Font {
+//!     fn measure_both(&mut self, _: NodeId, _: Size<Option<f32>>, _: Size<AvailableSpace>) -> Size<f32> {
+//!         Size { width: 120.0, height: 18.0 }
+//!     }
+//! }
+//!
+//! let label = Style {
+//!     inset: Rect { left: LengthPercentageAuto::Length(20.0), top: LengthPercentageAuto::Length(12.0), ..Rect::AUTO },
+//!     ..Style::default()
+//! };
+//! let panel = Area { size: Size { width: 800.0, height: 480.0 }, ..Area::default() };
+//! let placed = compute_oof_layout_for_area(&mut Font, &panel, &[label], &[Candidate::default()]).unwrap();
+//! assert_eq!(placed.layouts[0].unwrap().location, Point { x: 20.0, y: 12.0 });
+//! ```
+#![deny(unsafe_code, missing_docs)]
+
+pub mod ffi;
+mod geometry;
+mod refusal;
+mod run;
+mod style;
+mod tree;
+pub mod words;
+
+pub use geometry::{Line, Point, Rect, Size};
+pub use refusal::Refusal;
+pub use run::{compute_oof_layout, compute_oof_layout_for_area, compute_oof_layout_with, Host, LaidOut, Placed, Room};
+pub use style::{
+    AlignSelf, AlignmentKeyword, AlignmentSafety, BoxSizing, Contain, Dimension, Direction, LengthPercentage,
+    LengthPercentageAuto, Overflow, Style,
+};
+pub use tree::{
+    Area, AvailableSpace, AxisStaticAlign, AxisStaticEdge, AxisStaticPosition, Candidate, Claims, Layout, NodeId,
+    Position,
+};

@@ -1,0 +1,58 @@
+//! Why a call is turned down.
+use std::fmt;
+
+/// Why a call was turned down. Such a call has written nothing.
+///
+/// From [`compute_oof_layout_for_area`](crate::compute_oof_layout_for_area) come only `BadExtent`, `BadCandidate` and
+/// `ListFull`: its types have no bad codes, and it replies what it was asked.
+#[derive(Copy, Clone, Debug, PartialEq, Eq, Hash)]
+pub enum Refusal {
+    /// A code of direction, claims or overflow is outside its list
+    BadArea = 1,
+    /// A slice isn't whole records, is too long, or (in a reply) has another length than at the opening
+    BadExtent = 2,
+    /// A code or tag isn't allowed in its field of a style
+    BadStyle = 3,
+    /// A candidate names no item of the table, or has a code outside its list
+    BadCandidate = 4,
+    /// The claimed or the unclaimed candidates would exceed their list
+    ListFull = 5,
+    /// The reply doesn't answer the open question, or the state is none that a run can have
+    WrongReply = 6,
+}
+
+impl Refusal {
+    /// All of them, by number
+    pub const ALL: [Refusal; 6] = [
+        Refusal::BadArea,
+        Refusal::BadExtent,
+        Refusal::BadStyle,
+        Refusal::BadCandidate,
+        Refusal::ListFull,
+        Refusal::WrongReply,
+    ];
+
+    /// Its number, 1 to 6
+    pub fn number(self) -> u32 {
+        self as u32
+    }
+    /// The refusal of this number, if there is one
+    pub fn from_number(number: u32) -> Option<Refusal> {
+        Refusal::ALL.into_iter().find(|r| r.number() == number)
+    }
+}
+
+impl fmt::Display for Refusal {
+    fn fmt(&self, f: &mut fmt::Formatter<'_>) -> fmt::Result {
+        f.write_str(match self {
+            Refusal::BadArea => "bad area",
+            Refusal::BadExtent => "bad extent",
+            Refusal::BadStyle => "bad style",
+            Refusal::BadCandidate => "bad candidate",
+            Refusal::ListFull => "list full",
+            Refusal::WrongReply => "wrong reply",
+        })
+    }
+}
+
+impl std::error::Error for Refusal {}

@@ -1,0 +1,274 @@
+//! Runs by callbacks, and every refusal by its name.
+use oof::ffi::{self, Lent, Reply};
+use oof::words::{CANDIDATE, LAYOUT};
+use oof::*;
+
+const FONT: Size<f32> = Size { width: 120.0, height: 18.0 };
+const PANEL: Size<f32> = Size { width: 800.0, height: 480.0 };
+
+/// Says what it was asked; the font's size to every measurement
+#[derive(Default)]
+struct Notes {
+    asked: Vec<String>,
+    surface: Vec<Candidate>,
+}
+impl Host for Notes {
+    fn measure_both(&mut self, node: NodeId, known: Size<Option<f32>>, space: Size<AvailableSpace>) -> Size<f32> {
+        self.asked.push(format!("both {node} {known:?} {space:?}"));
+        FONT
+    }
+    fn measure_width(&mut self, node: NodeId, known: Size<Option<f32>>, space: Size<AvailableSpace>) -> f32 {
+        self.asked.push(format!("width {node} {known:?} {space:?}"));
+        FONT.width
+    }
+    fn measure_height(&mut self, node: NodeId, known: Size<Option<f32>>, space: Size<AvailableSpace>) -> f32 {
+        self.asked.push(format!("height {node} {known:?} {space:?}"));
+        FONT.height
+    }
+    fn lay_out(&mut self, node: NodeId, size: Size<f32>, space: Size<AvailableSpace>) -> LaidOut {
+        self.asked.push(format!("lay out {node} {size:?} {space:?}"));
+        LaidOut { overflow: Rect::default(), surfaced: std::mem::take(&mut self.surface) }
+    }
+}
+
+fn px(v: f32) -> LengthPercentageAuto {
+    LengthPercentageAuto::Length(v)
+}
+fn pad(v: f32) -> LengthPercentage {
+    LengthPercentage::Length(v)
+}
+/// 20 from the left, 12 from the top, paddings 8 and 16
+fn label() -> Style {
+    Style {
+        inset: Rect { left: px(20.0), top: px(12.0), ..Rect::AUTO },
+        padding: Rect { left: pad(8.0), right: pad(16.0), ..Rect::<LengthPercentage>::ZERO },
+        ..Style::default()
+    }
+}
+fn panel() -> Area {
+    Area { size: PANEL, ..Area::default() }
+}
+
+#[test]
+fn worked_example() {
+    let mut host = Notes::default();
+    let placed = compute_oof_layout_for_area(&mut host, &panel(), &[label()], &[Candidate::default()]).unwrap();
+    let space = Size { width: AvailableSpace::Definite(780.0), height: AvailableSpace::Definite(468.0) };
+    let none: Size<Option<f32>> = Size { width: None, height: None };
+    assert_eq!(host.asked, [format!("both 0 {none:?} {space:?}"), format!("lay out 0 {FONT:?} {space:?}")]);
+    let layout = placed.layouts[0].unwrap();
+    assert_eq!((layout.location, layout.size), (Point { x: 20.0, y: 12.0 }, FONT));
+    assert_eq!((layout.padding.left, layout.padding.right), (8.0, 16.0));
+    assert_eq!((placed.hoisted, placed.unclaimed, placed.questions), (vec![0], vec![], 2));
+    assert_eq!(placed.overflow, Rect { left: 0.0, right: 140.0, top: 0.0, bottom: 30.0 });
+
+    // and its mirror image
+    let arabic = Style {
+        inset: Rect { right: px(20.0), top: px(12.0), ..Rect::AUTO },
+        padding: Rect { left: pad(16.0), right: pad(8.0), ..Rect::<LengthPercentage>::ZERO },
+        direction: Direction::Rtl,
+        ..Style::default()
+    };
+    let area = Area { direction: Direction::Rtl, ..panel() };
+    let mut there = Notes::default();
+    let mirrored = compute_oof_layout_for_area(&mut there, &area, &[arabic], &[Candidate::default()]).unwrap();
+    assert_eq!(there.asked, host.asked);
+    let image = mirrored.layouts[0].unwrap();
+    assert_eq!(layout.location.x + image.location.x + layout.size.width, PANEL.width);
+    assert_eq!((image.padding.left, image.padding.right, mirrored.overflow), (16.0, 8.0, placed.overflow));
+}
+
+#[test]
+fn one_side_is_asked_alone() {
+    let width =
+        Style { size: Size { width: Dimension::MinContent, height: Dimension::Length(30.0) }, ..Style::default() };
+    let height =
+        Style { size: Size { width: Dimension::Length(30.0), height: Dimension::MaxContent }, ..Style::default() };
+    let mut host = Notes::default();
+    let candidates = [Candidate::default(), Candidate { node: 1, ..Candidate::default() }];
+    let placed = compute_oof_layout_for_area(&mut host, &panel(), &[width, height], &candidates).unwrap();
+    let kinds: Vec<_> = host.asked.iter().map(|q| q.split_once(' ').unwrap().0).collect();
+    assert_eq!(kinds, ["width", "lay", "height", "lay"]);
+    assert_eq!(placed.layouts[0].unwrap().size, Size { width: 120.0, height: 30.0 });
+    assert_eq!(placed.layouts[1].unwrap().size, Size { width: 30.0, height: 18.0 });
+}
+
+#[test]
+fn surfaced_boxes_are_swept() {
+    let fixed = Candidate { node: 1, position: Position::Fixed, order: 5, ..Candidate::default() };
+    let sticky = Candidate { node: 2, position: Position::Sticky, order: 6, ..Candidate::default() };
+    let mut host = Notes { surface: vec![fixed, sticky], ..Notes::default() };
+    let styles = [label(), Style::default(), Style::default()];
+    let placed = compute_oof_layout_for_area(&mut host, &panel(), &styles, &[Candidate::default()]).unwrap();
+    assert_eq!(placed.hoisted, [0, 1]);
+    // shifted by the box's location, 20 and 12
+    let at = placed.layouts[1].unwrap();
+    assert_eq!((at.order, at.location), (5, Point { x: 20.0, y: 12.0 }));
+    assert_eq!((placed.unclaimed.len(), placed.layouts[2]), (1, None));
+    assert_eq!(placed.unclaimed[0].static_position.x.area, Line { start: 20.0, end: 20.0 });
+}
+
+#[test]
+fn wrapper_joins_or_leaves_the_rectangle() {
+    let mut host = Notes::default();
+    let mut overflow = Rect { left: -5.0, right: 10.0, top: 2.0, bottom: 400.0 };
+    let (before, styles, candidates) = (overflow, [label()], [Candidate::default()]);
+    assert_eq!(compute_oof_layout(&mut host, None, &styles, &candidates, &mut overflow), Ok(None));
+    assert_eq!(compute_oof_layout(&mut host, Some(&panel()), &styles, &[], &mut overflow), Ok(None));
+    assert_eq!((overflow, host.asked.len()), (before, 0));
+    let placed = compute_oof_layout(&mut host, Some(&panel()), &styles, &candidates, &mut overflow).unwrap();
+    assert_eq!(placed.unwrap().questions, 2);
+    assert_eq!(overflow, Rect { left: -5.0, right: 140.0, top: 0.0, bottom: 400.0 });
+}
+
+#[test]
+fn typed_refusals() {
+    let mut host = Notes::default();
+    let place = |host: &mut Notes, styles: &[Style], candidates: &[Candidate], room| {
+        compute_oof_layout_with(host, &panel(), styles, candidates, room).map(|placed| placed.questions)
+    };
+    let (styles, one) = ([label()], [Candidate::default()]);
+    let many = vec![Style::default(); 1025];
+    assert_eq!(place(&mut host, &many, &one, Room::MOST), Err(Refusal::BadExtent));
+    assert_eq!(place(&mut host, &styles, &one, Room { working: 4097, unclaimed: 0 }), Err(Refusal::BadExtent));
+    let nowhere = Candidate { node: 1, ..Candidate::default() };
+    assert_eq!(place(&mut host, &styles, &[nowhere], Room::MOST), Err(Refusal::BadCandidate));
+    assert_eq!(place(&mut host, &styles, &one, Room { working: 0, unclaimed: 0 }), Err(Refusal::ListFull));
+    let room = Room { working: 1, unclaimed: 0 };
+    assert_eq!(place(&mut host, &styles, &one, room), Ok(2));
+    host.surface = vec![Candidate::default()];
+    assert_eq!(place(&mut host, &styles, &one, room), Err(Refusal::ListFull));
+    host.surface = vec![nowhere];
+    assert_eq!(place(&mut host, &styles, &one, Room::MOST), Err(Refusal::BadCandidate));
+}
+
+#[test]
+fn names_and_numbers() {
+    let names = ["bad area", "bad extent", "bad style", "bad candidate", "list full", "wrong reply"];
+    for (at, refusal) in Refusal::ALL.into_iter().enumerate() {
+        assert_eq!((refusal.number(), refusal.to_string()), (at as u32 + 1, names[at].to_string()));
+        assert_eq!(Refusal::from_number(at as u32 + 1), Some(refusal));
+    }
+    assert_eq!((Refusal::from_number(0), Refusal::from_number(7)), (None, None));
+}
+
+/// All that one call is lent
+#[derive(Clone, PartialEq, Debug)]
+struct Words {
+    codes: [u32; 4],
+    styles: Vec<u32>,
+    candidates: Vec<u32>,
+    layouts: Vec<u32>,
+    working: Vec<u32>,
+    unclaimed: Vec<u32>,
+    state: [u32; ffi::STATE],
+    answer: [u32; ffi::ANSWER],
+}
+/// One label, lists of one record, and words that tell if they were written
+fn words() -> Words {
+    Words {
+        codes: [0, 3, 0, 0],
+        styles: label().to_words().to_vec(),
+        candidates: Candidate::default().to_words().to_vec(),
+        layouts: vec![0xDEAD_0001; LAYOUT],
+        working: vec![0xDEAD_0002; CANDIDATE],
+        unclaimed: vec![0xDEAD_0003; CANDIDATE],
+        state: std::array::from_fn(|i| 0xDEAD_0100 + i as u32),
+        answer: std::array::from_fn(|i| 0xDEAD_0200 + i as u32),
+    }
+}
+impl Words {
+    fn lent(&mut self) -> Lent<'_> {
+        Lent {
+            styles: &self.styles,
+            layouts: &mut self.layouts,
+            working: &mut self.working,
+            unclaimed: &mut self.unclaimed,
+            state: &mut self.state,
+            answer: &mut self.answer,
+        }
+    }
+    fn open(&mut self) -> u32 {
+        let (codes, candidates) = (self.codes, self.candidates.clone());
+        ffi::open([800.0, 480.0, 0.0, 0.0], codes, &candidates, &mut self.lent())
+    }
+    fn reply(&mut self, reply: Reply, surfaced: &[u32]) -> u32 {
+        ffi::reply(reply, surfaced, &mut self.lent())
+    }
+}
+fn refused(number: u32) -> Option<Refusal> {
+    Refusal::from_number(number)
+}
+
+/// Each refusal of an opening; no lent word is written, state and answer included
+#[test]
+fn refused_openings_write_nothing() {
+    use Refusal::*;
+    let damages: [(Refusal, fn(&mut Words)); 13] = [
+        (BadArea, |w| w.codes[0] = 2),
+        (BadArea, |w| w.codes[1] = 4),
+        (BadArea, |w| w.codes[2] = 4),
+        (BadArea, |w| w.codes[3] = u32::MAX),
+        (BadExtent, |w| w.styles.push(0)),
+        (BadExtent, |w| w.layouts.push(0)),
+        (BadExtent, |w| w.candidates.truncate(12)),
+        (BadExtent, |w| w.working.resize(13 * 4097, 0)),
+        (BadExtent, |w| w.unclaimed.push(0)),
+        (BadStyle, |w| w.styles[16] = 3),
+        (BadStyle, |w| w.styles[0] = 257),
+        (BadCandidate, |w| w.candidates[0] = 1),
+        (ListFull, |w| w.working.clear()),
+    ];
+    for (at, (refusal, damage)) in damages.into_iter().enumerate() {
+        let mut w = words();
+        damage(&mut w);
+        let before = w.clone();
+        assert_eq!(refused(w.open()), Some(refusal), "damage {at}");
+        assert_eq!(w, before, "damage {at}");
+    }
+    assert_eq!(words().open(), 0);
+}
+
+/// Each refusal of a reply, to the measure question and to the lay-out question; the run then goes on
+#[test]
+fn refused_replies_write_nothing() {
+    use Refusal::*;
+    let laid = Reply::LaidOut([0.0; 4]);
+    let mut w = words();
+    assert_eq!(w.open(), 0);
+    let refuse = |w: &mut Words, refusal, reply, surfaced: &[u32], damage: fn(&mut Words)| {
+        let (intact, mut damaged) = (w.clone(), w.clone());
+        damage(&mut damaged);
+        let before = damaged.clone();
+        assert_eq!(refused(damaged.reply(reply, surfaced)), Some(refusal));
+        assert_eq!(damaged, before);
+        *w = intact;
+    };
+    refuse(&mut w, WrongReply, Reply::Width(1.0), &[], |_| ());
+    refuse(&mut w, WrongReply, Reply::Height(1.0), &[], |_| ());
+    refuse(&mut w, WrongReply, laid, &[], |_| ());
+    refuse(&mut w, WrongReply, Reply::Both(1.0, 1.0), &[], |w| w.state[ffi::state::BEGUN] = 2);
+    refuse(&mut w, WrongReply, Reply::Both(1.0, 1.0), &[], |w| w.state[ffi::state::PROGRESS] = 6);
+    refuse(&mut w, BadExtent, Reply::Both(1.0, 1.0), &[], |w| w.unclaimed.truncate(0));
+    refuse(&mut w, BadStyle, Reply::Both(1.0, 1.0), &[], |w| w.styles[56] = 256);
+    refuse(&mut w, BadCandidate, Reply::Both(1.0, 1.0), &[], |w| w.working[2] = 5);
+    assert_eq!(w.reply(Reply::Both(120.0, 18.0), &[7]), 0); // a slice lent with it isn't looked at
+    refuse(&mut w, BadExtent, laid, &[0; 12], |_| ());
+    refuse(&mut w, BadCandidate, laid, &[9; 13], |_| ());
+    refuse(&mut w, ListFull, laid, &Candidate::default().to_words(), |_| ());
+    refuse(&mut w, WrongReply, Reply::Both(1.0, 1.0), &[0; 12], |_| ());
+    assert_eq!(w.layouts, words().layouts);
+    assert_eq!(w.reply(laid, &[]), 0);
+    assert_eq!((w.answer[0], w.answer[1]), (0, 2));
+    refuse(&mut w, WrongReply, laid, &[], |_| ()); // finished
+}
+
+/// A state of zeros is a finished run over no words
+#[test]
+fn a_state_of_zeros_is_finished() {
+    let mut w = words();
+    w.state = [0; ffi::STATE];
+    assert_eq!(refused(w.reply(Reply::Width(0.0), &[])), Some(Refusal::BadExtent));
+    let mut none = Words { styles: vec![], layouts: vec![], working: vec![], unclaimed: vec![], ..w };
+    assert_eq!(refused(none.reply(Reply::Width(0.0), &[])), Some(Refusal::WrongReply));
+}
