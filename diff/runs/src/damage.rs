@@ -1,0 +1,418 @@
+//! Damaged calls. What each must answer is the model's word; a refused call may write no lent word, and an accepted one only
+//! its own.
+use crate::model;
+use crate::rng::Rng;
+use crate::side::{question, Difference};
+use crate::words::{Library, Said, Words};
+use oof::ffi::state;
+use oracle::case::{float, CANDIDATE, LAYOUT, NAN, STYLE};
+use oracle::gen;
+use oracle::host::{Profile, Random};
+use oracle::run::{Host, Kind};
+
+/// Where a call is damaged
+#[derive(Copy, Clone, PartialEq, Debug)]
+pub enum Family {
+    /// Of an opening: codes of the area; lengths of slices; words of styles and candidates; room; several of these
+    OpenCodes,
+    OpenLengths,
+    OpenStyles,
+    OpenCandidates,
+    OpenRoom,
+    OpenSeveral,
+    /// Of a reply: its kind; lengths; rewritten styles; rewritten working list; surfaced records; several of these
+    ReplyKind,
+    ReplyLengths,
+    ReplyStyles,
+    ReplyWorking,
+    ReplySurfaced,
+    ReplySeveral,
+    /// Of a state: any words; counts; finished ones; one word
+    StateRandom,
+    StateCounts,
+    StateFinished,
+    StateWord,
+}
+use Family::*;
+
+pub const FAMILIES: [(Family, &str); 16] = [
+    (OpenCodes, "opening: codes of the area"),
+    (OpenLengths, "opening: lengths of slices"),
+    (OpenStyles, "opening: words of styles"),
+    (OpenCandidates, "opening: words of candidates"),
+    (OpenRoom, "opening: lists just too small"),
+    (OpenSeveral, "opening: several faults"),
+    (ReplyKind, "reply: of another kind"),
+    (ReplyLengths, "reply: lengths of slices"),
+    (ReplyStyles, "reply: styles rewritten"),
+    (ReplyWorking, "reply: working list rewritten"),
+    (ReplySurfaced, "reply: surfaced records"),
+    (ReplySeveral, "reply: several faults"),
+    (StateRandom, "state: any words"),
+    (StateCounts, "state: counts"),
+    (StateFinished, "state: finished"),
+    (StateWord, "state: one word"),
+];
+
+/// Damaged calls by what they answered: accepted, or a refusal's number
+pub type Answered = [u64; 7];
+
+/// A case's words, its lists with no place to spare or a few
+fn lend(rng: &mut Rng) -> (Words, Random) {
+    let profile = rng.of(&[Profile::Quarter, Profile::Wild, Profile::Typical]);
+    let (case, host_seed) = gen::case(profile, rng.next(), 0);
+    let claimed = model::claimed(&case.candidates.concat(), case.area[5]);
+    let spare = rng.below(4) as usize;
+    let words = Words::lend(&case, claimed + spare, case.candidates.len() - claimed + spare, rng);
+    let host = Random::new(host_seed, profile, case.styles.len(), rng.below(3));
+    (words, host)
+}
+
+/// Opens a run of a random case and goes through it, with damaged calls of the family on the way
+pub fn one(
+    family: Family,
+    library: &mut Library,
+    rng: &mut Rng,
+    seen: &mut Answered,
+    noticed: &mut bool,
+) -> Result<(), Difference> {
+    let (mut words, mut host) = lend(rng);
+    if matches!(family, OpenCodes | OpenLengths | OpenStyles | OpenCandidates | OpenRoom | OpenSeveral) {
+        damage_opening(family, &mut words, rng);
+        return opening(&mut words, library, seen, noticed);
+    }
+    let mut whole = Library::default();
+    if whole.open(&mut words) != 0 {
+        return Err("a good opening is refused".to_string());
+    }
+    while let Some(question) = question(&words) {
+        damaged_reply(family, question.kind, &words, library, rng, seen, noticed)?;
+        let mut said = Said::new(question.kind, &host.answer(&question));
+        let expected = model::reply(&said, &words);
+        let result = whole.reply(&said, &mut words);
+        if result != expected {
+            return Err(format!("a reply answers {result}, not {expected}"));
+        }
+        if result == 5 {
+            // the host may reply again with fewer records
+            said.surfaced.clear();
+            if whole.reply(&said, &mut words) != 0 {
+                return Err("a reply with fewer records is refused".to_string());
+            }
+        }
+    }
+    let kind = rng.of(&KINDS);
+    damaged_reply(family, kind, &words, library, rng, seen, noticed)
+}
+
+const KINDS: [Kind; 4] = [Kind::Both, Kind::Width, Kind::Height, Kind::LayOut];
+
+// ---- a call, checked
+
+fn opening(w: &mut Words, library: &mut Library, seen: &mut Answered, noticed: &mut bool) -> Result<(), Difference> {
+    let (before, expected) = (w.clone(), model::opening(w));
+    seen[expected as usize] += 1;
+    let result = library.open(w);
+    let filled = [0, 0];
+    let outcome = check("opening", expected, result, &before, w, filled, None);
+    tell(expected, outcome, noticed)
+}
+
+fn reply(
+    said: &Said,
+    w: &mut Words,
+    library: &mut Library,
+    seen: &mut Answered,
+    noticed: &mut bool,
+) -> Result<(), Difference> {
+    let (before, expected) = (w.clone(), model::reply(said, w));
+    seen[expected as usize] += 1;
+    let node = (expected == 0 && said.kind == Kind::LayOut).then(|| {
+        let begun = w.state[state::BEGUN] as usize;
+        w.working[CANDIDATE * (begun - 1)] as usize
+    });
+    let filled = match node {
+        Some(_) => [state::FILLED_WORKING, state::FILLED_UNCLAIMED].map(|at| w.state[at] as usize),
+        None => [usize::MAX / CANDIDATE; 2],
+    };
+    let result = library.reply(said, w);
+    let outcome = check(&format!("{said:?}"), expected, result, &before, w, filled, node);
+    tell(expected, outcome, noticed)
+}
+
+/// Under sabotage, only refused calls are spoilt in a way that must show: it is noted whether it does
+fn tell(expected: u32, outcome: Result<(), Difference>, noticed: &mut bool) -> Result<(), Difference> {
+    if outcome.is_err() && expected != 0 {
+        *noticed = true;
+    }
+    outcome
+}
+
+/// A refused call leaves every word; an accepted one writes the layout of the box at hand, the lists behind their filled
+/// records, state and answer
+fn check(
+    call: &str,
+    expected: u32,
+    result: u32,
+    before: &Words,
+    after: &Words,
+    filled: [usize; 2],
+    node: Option<usize>,
+) -> Result<(), Difference> {
+    if result != expected {
+        return Err(format!("{call}: result {result}, by the model {expected}"));
+    }
+    if expected != 0 {
+        return if before == after { Ok(()) } else { Err(format!("{call}: refused {result}, and a word was written")) };
+    }
+    let kept = |name: &str, before: &[u32], after: &[u32], may: &dyn Fn(usize) -> bool| match (0..before.len())
+        .find(|&at| before[at] != after[at] && !may(at))
+    {
+        Some(at) => Err(format!("{call}: {name} word {at} was written")),
+        None => Ok(()),
+    };
+    kept("styles", &before.styles, &after.styles, &|_| false)?;
+    kept("candidates", &before.candidates, &after.candidates, &|_| false)?;
+    kept("layouts", &before.layouts, &after.layouts, &|at| Some(at / LAYOUT) == node)?;
+    kept("working", &before.working, &after.working, &|at| at / CANDIDATE >= filled[0])?;
+    kept("unclaimed", &before.unclaimed, &after.unclaimed, &|at| at / CANDIDATE >= filled[1])?;
+    if let Some(node) = node {
+        laid_out(call, &after.layouts[LAYOUT * node..][..LAYOUT])?;
+    }
+    Ok(())
+}
+
+/// The words of a layout: every NaN is 7FC00000, and the size is no NaN and at least padding plus border where that is no NaN
+fn laid_out(call: &str, w: &[u32]) -> Result<(), Difference> {
+    if w[1..].iter().any(|&w| float(w).is_nan() && w != NAN) {
+        return Err(format!("{call}: another NaN is written"));
+    }
+    for (size, left, right) in [(1, 11, 12), (2, 13, 14)] {
+        let side = |at: usize| float(w[at]) + float(w[at + 4]);
+        let floor = side(left) + side(right);
+        if !floor.is_nan() && !(float(w[size]) >= floor) {
+            return Err(format!("{call}: size {} below {floor}", float(w[size])));
+        }
+    }
+    Ok(())
+}
+
+// ---- damage
+
+fn damage_opening(family: Family, w: &mut Words, rng: &mut Rng) {
+    match family {
+        OpenCodes => w.area[4 + rng.below(4) as usize] = rng.code(),
+        OpenLengths => {
+            if rng.one_in(100) {
+                long(w, rng);
+            } else {
+                let list = match rng.below(5) {
+                    0 => &mut w.styles,
+                    1 => &mut w.layouts,
+                    2 => &mut w.candidates,
+                    3 => &mut w.working,
+                    _ => &mut w.unclaimed,
+                };
+                resize(list, rng);
+            }
+        }
+        OpenStyles => rewrite_style(w, rng),
+        OpenCandidates => {
+            let items = w.items() as u32;
+            rewrite_record(&mut w.candidates, items, rng);
+        }
+        OpenRoom => {
+            let list = if rng.one_in(2) { &mut w.working } else { &mut w.unclaimed };
+            let less = list.len().saturating_sub(CANDIDATE * (1 + rng.below(4) as usize));
+            list.truncate(less);
+        }
+        _ => {
+            for _ in 0..2 + rng.below(2) {
+                let part = rng.of(&[OpenCodes, OpenLengths, OpenStyles, OpenCandidates, OpenRoom]);
+                damage_opening(part, w, rng);
+            }
+        }
+    }
+}
+
+/// Near the limits of 1,024 items and 4,096 records
+fn long(w: &mut Words, rng: &mut Rng) {
+    match rng.below(4) {
+        0 => {
+            let items = 1023 + rng.below(4) as usize;
+            w.styles = w.styles[..STYLE.min(w.styles.len())].repeat(items);
+            w.layouts.resize(LAYOUT * items, 1);
+        }
+        1 => w.working.resize(CANDIDATE * (4095 + rng.below(4) as usize), 1),
+        2 => w.unclaimed.resize(CANDIDATE * (4095 + rng.below(4) as usize), 1),
+        _ => {
+            let records = 4090 + rng.below(12) as usize;
+            w.candidates = w.candidates[..CANDIDATE.min(w.candidates.len())].repeat(records);
+            w.working.resize(CANDIDATE * 4096, 1);
+            w.unclaimed.resize(CANDIDATE * 4096, 1);
+        }
+    }
+}
+
+/// Another length, often by a word or by a record
+fn resize(list: &mut Vec<u32>, rng: &mut Rng) {
+    let by = rng.of(&[1, 1, 2, 12, CANDIDATE, LAYOUT, STYLE, 64]);
+    match rng.below(5) {
+        0 => list.clear(),
+        1 => list.truncate(rng.below(list.len() as u32 + 1) as usize),
+        2 => list.truncate(list.len().saturating_sub(by)),
+        _ => list.resize(list.len() + by, 1),
+    }
+}
+
+fn rewrite_style(w: &mut Words, rng: &mut Rng) {
+    if w.styles.is_empty() {
+        return;
+    }
+    // tags and codes three times out of four
+    let mut at = rng.below(w.styles.len() as u32) as usize;
+    if !rng.one_in(4) && at % STYLE < 44 {
+        at -= at % STYLE % 2;
+    }
+    w.styles[at] = if rng.one_in(3) { w.styles[at] ^ (1 << rng.below(32)) } else { rng.code() };
+}
+
+fn rewrite_record(list: &mut [u32], items: u32, rng: &mut Rng) {
+    if list.is_empty() {
+        return;
+    }
+    let at = rng.below(list.len() as u32) as usize;
+    list[at] = match rng.below(4) {
+        0 => rng.below(6),
+        1 => items.wrapping_add(rng.below(3)).wrapping_sub(1),
+        2 => list[at] ^ (1 << rng.below(32)),
+        _ => rng.code(),
+    };
+}
+
+/// One damaged reply, on a copy of the words
+fn damaged_reply(
+    family: Family,
+    asked: Kind,
+    words: &Words,
+    library: &mut Library,
+    rng: &mut Rng,
+    seen: &mut Answered,
+    noticed: &mut bool,
+) -> Result<(), Difference> {
+    let mut w = words.clone();
+    let mut said = Said { kind: asked, values: [(); 4].map(|_| rng.next() as u32), surfaced: vec![] };
+    if rng.one_in(3) {
+        surface(&mut said, &w, rng);
+    }
+    damage_reply(family, &mut said, &mut w, rng);
+    reply(&said, &mut w, library, seen, noticed)
+}
+
+fn damage_reply(family: Family, said: &mut Said, w: &mut Words, rng: &mut Rng) {
+    match family {
+        ReplyKind => said.kind = KINDS[(said.kind as usize + 1 + rng.below(3) as usize) % 4],
+        ReplyLengths => {
+            let which = rng.below(5) as usize;
+            let list = match which {
+                0 => &mut w.styles,
+                1 => &mut w.layouts,
+                2 => &mut w.working,
+                3 => &mut w.unclaimed,
+                _ => &mut said.surfaced,
+            };
+            resize(list, rng);
+            // the state may be made to agree
+            if which < 4 && rng.one_in(4) {
+                w.state[state::LENGTHS + which] = list.len() as u32;
+            }
+        }
+        ReplyStyles => rewrite_style(w, rng),
+        ReplyWorking => {
+            let items = w.items() as u32;
+            rewrite_record(&mut w.working, items, rng);
+        }
+        ReplySurfaced => {
+            if rng.one_in(8) {
+                said.kind = Kind::LayOut;
+            }
+            surface(said, w, rng);
+            let items = w.items() as u32;
+            match rng.below(4) {
+                0 => resize(&mut said.surfaced, rng),
+                1 => said.surfaced = said.surfaced.repeat(1 + rng.below(4) as usize),
+                2 => {}
+                _ => rewrite_record(&mut said.surfaced, items, rng),
+            }
+        }
+        ReplySeveral => {
+            for _ in 0..2 + rng.below(2) {
+                let part = rng.of(&[
+                    ReplyKind,
+                    ReplyLengths,
+                    ReplyStyles,
+                    ReplyStyles,
+                    ReplyWorking,
+                    ReplyWorking,
+                    ReplySurfaced,
+                    StateCounts,
+                ]);
+                damage_reply(part, said, w, rng);
+            }
+        }
+        StateRandom => {
+            let small = rng.one_in(2);
+            let kept = w.state;
+            w.state = [(); 27].map(|_| if small { rng.below(6) } else { rng.code() });
+            if !rng.one_in(4) {
+                w.state[state::LENGTHS..].copy_from_slice(&kept[state::LENGTHS..]);
+            }
+            if let Some(kind) = model::asked(w.state[state::PROGRESS]) {
+                said.kind = if rng.one_in(8) { rng.of(&KINDS) } else { kind };
+            }
+        }
+        StateCounts => {
+            for _ in 0..1 + rng.below(2) {
+                let at = state::FILLED_WORKING + rng.below(4) as usize;
+                let begun = w.state[state::BEGUN];
+                w.state[at] = match rng.below(6) {
+                    0 => w.state[at].wrapping_add(1),
+                    1 => w.state[at].wrapping_sub(1),
+                    2 => begun.wrapping_mul(3).wrapping_add(rng.below(3)).wrapping_sub(1),
+                    3 => (w.working.len() / CANDIDATE) as u32 + rng.below(2),
+                    4 => rng.of(&[u32::MAX, 0x5555_5556, 0x8000_0000, 0x5555_5555]),
+                    _ => rng.code(),
+                };
+            }
+        }
+        StateFinished => {
+            w.state[state::PROGRESS] = rng.of(&[0, 0, 0, 6, 7, 255, 256, 257, 261, 0x1_0005, u32::MAX]);
+            if rng.one_in(8) {
+                w.state = [0; 27];
+            }
+            if rng.one_in(8) {
+                for list in [&mut w.styles, &mut w.layouts, &mut w.working, &mut w.unclaimed] {
+                    list.clear();
+                }
+            }
+        }
+        _ => {
+            let at = rng.below(27) as usize;
+            w.state[at] = if rng.one_in(2) { w.state[at] ^ (1 << rng.below(32)) } else { rng.code() };
+        }
+    }
+}
+
+/// Records to surface, good ones for the most part
+fn surface(said: &mut Said, w: &Words, rng: &mut Rng) {
+    let items = w.items().max(1) as u32;
+    said.surfaced.clear();
+    for _ in 0..1 + rng.below(3) {
+        let mut record: [u32; CANDIDATE] = [(); CANDIDATE].map(|_| rng.below(3));
+        (record[0], record[2]) = (rng.below(items), rng.of(&[2, 3, 2, 3, 0, 1, 4]));
+        for at in [3, 4, 8, 9] {
+            record[at] = rng.next() as u32;
+        }
+        said.surfaced.extend(record);
+    }
+}

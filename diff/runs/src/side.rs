@@ -1,0 +1,258 @@
+//! One case, run by the Rust and by the library: after every call, every word that the library may write is held to what the
+//! Rust's run says.
+use crate::model;
+use crate::rng::Rng;
+use crate::words::{Library, Said, Words};
+use oof::ffi::state;
+use oracle::case::{bits, float, Case, CANDIDATE, LAYOUT};
+use oracle::host::{Profile, Random};
+use oracle::run::{run, Host, Kind, Question, Space, Transcript};
+use std::ops::AddAssign;
+
+/// What was compared
+#[derive(Default, Clone, Debug)]
+pub struct Counted {
+    pub cases: u64,
+    /// Openings refused by both, by number
+    pub refused: [u64; 7],
+    pub boxes: u64,
+    /// both, width, height, lay out
+    pub questions: [u64; 4],
+    pub surfaced: u64,
+    pub unclaimed: u64,
+    /// Words compared, those of them that are NaN, and zeros of another sign
+    pub words: u64,
+    pub nans: u64,
+    pub signs: u64,
+}
+impl AddAssign<&Counted> for Counted {
+    fn add_assign(&mut self, o: &Counted) {
+        self.cases += o.cases;
+        self.boxes += o.boxes;
+        self.surfaced += o.surfaced;
+        self.unclaimed += o.unclaimed;
+        self.words += o.words;
+        self.nans += o.nans;
+        self.signs += o.signs;
+        (0..7).for_each(|i| self.refused[i] += o.refused[i]);
+        (0..4).for_each(|i| self.questions[i] += o.questions[i]);
+    }
+}
+
+/// What differs, in words for a reader
+pub type Difference = String;
+
+/// How a case is run: its host, and places in the lists beyond what the run needs
+pub struct Setting {
+    pub host_seed: u32,
+    pub profile: Profile,
+    /// Candidates that the host surfaces at most
+    pub surfaced: u32,
+    pub spare: [usize; 2],
+}
+
+pub fn compare(
+    case: &Case,
+    setting: &Setting,
+    library: &mut Library,
+    rng: &mut Rng,
+    seen: &mut Counted,
+) -> Result<(), Difference> {
+    let host = || Random::new(setting.host_seed, setting.profile, case.styles.len(), setting.surfaced);
+    let rust = run(case, &mut host());
+    let (working, unclaimed) = rust.as_ref().map_or((4, 4), |t| (t.working.len(), t.unclaimed.len()));
+    let mut words = Words::lend(case, working + setting.spare[0], unclaimed + setting.spare[1], rng);
+    seen.cases += 1;
+
+    let mut wanted = words.clone();
+    let number = rust.as_ref().map_or_else(|&number| number, |_| 0);
+    held("the model of the refusals", number, model::opening(&words))?;
+    let result = library.open(&mut words);
+    let rust = match rust {
+        Ok(transcript) => transcript,
+        Err(number) => {
+            seen.refused[number as usize] += 1;
+            held("opening", number, result)?;
+            return hold("a refused opening", &words, &wanted, seen);
+        }
+    };
+    held("opening", 0, result)?;
+    let mut side = Side { rust: &rust, laid: 0, first: true };
+    side.opened(&mut wanted);
+    hold("opening", &words, &wanted, seen)?;
+
+    let mut host = host();
+    for at in 0..rust.questions.len() {
+        // the library's own question goes to a host of its own
+        let question = question(&words).ok_or_else(|| format!("question {at} is no question"))?;
+        let said = Said::new(question.kind, &host.answer(&question));
+        held(&format!("reply {at}"), 0, library.reply(&said, &mut words))?;
+        side.replied(at, &said, &mut wanted);
+        hold(&format!("reply {at}"), &words, &wanted, seen)?;
+        seen.questions[question.kind as usize] += 1;
+        seen.surfaced += (said.surfaced.len() / CANDIDATE) as u64;
+    }
+    let hoisted: Vec<u32> = words.working.chunks(CANDIDATE).take(rust.hoisted.len()).map(|w| w[0]).collect();
+    if hoisted != rust.hoisted {
+        return Err(format!("hoisted {hoisted:?}, by the Rust {:?}", rust.hoisted));
+    }
+    seen.boxes += rust.hoisted.len() as u64;
+    seen.unclaimed += rust.unclaimed.len() as u64;
+    Ok(())
+}
+
+fn held(call: &str, wanted: u32, result: u32) -> Result<(), Difference> {
+    if result == wanted {
+        return Ok(());
+    }
+    Err(format!("{call}: result {result}, not {wanted}"))
+}
+
+/// The question in an answer's words
+pub fn question(w: &Words) -> Option<Question> {
+    let a = &w.answer;
+    let known = |at: usize| (a[at] == 1).then_some(a[at + 1]);
+    let space = |at: usize| match a[at] {
+        0 => Space::Definite(a[at + 1]),
+        1 => Space::MinContent,
+        _ => Space::MaxContent,
+    };
+    let kind = match a[0] {
+        1 => Kind::Both,
+        2 => Kind::Width,
+        3 => Kind::Height,
+        4 => Kind::LayOut,
+        _ => return None,
+    };
+    Some(Question { kind, node: a[1], known: [known(2), known(4)], space: [space(6), space(8)] })
+}
+
+/// How far the Rust's run has been followed
+struct Side<'a> {
+    rust: &'a Transcript,
+    /// Boxes laid out
+    laid: usize,
+    /// No question of the box at hand was answered yet
+    first: bool,
+}
+impl Side<'_> {
+    /// Words after the opening
+    fn opened(&self, w: &mut Words) {
+        let s = &mut w.state;
+        *s = [0; 27];
+        for i in 0..4 {
+            s[state::AREA + i] = bits(float(w.area[i]));
+            s[state::CODES + i] = w.area[4 + i];
+        }
+        let lengths = [w.styles.len(), w.layouts.len(), w.working.len(), w.unclaimed.len()];
+        (0..4).for_each(|i| s[state::LENGTHS + i] = lengths[i] as u32);
+        let claimed = model::claimed(&w.candidates, w.area[5]);
+        self.fill(w, claimed, w.candidates.len() / CANDIDATE - claimed);
+        self.next(0, w);
+    }
+    /// The lists hold this many records
+    fn fill(&self, w: &mut Words, working: usize, unclaimed: usize) {
+        let from = w.state[state::FILLED_WORKING] as usize;
+        for at in from..working {
+            w.working[CANDIDATE * at..][..CANDIDATE].copy_from_slice(&self.rust.working[at]);
+        }
+        let from = w.state[state::FILLED_UNCLAIMED] as usize;
+        for at in from..unclaimed {
+            w.unclaimed[CANDIDATE * at..][..CANDIDATE].copy_from_slice(&self.rust.unclaimed[at]);
+        }
+        w.state[state::FILLED_WORKING] = working as u32;
+        w.state[state::FILLED_UNCLAIMED] = unclaimed as u32;
+    }
+    /// Words after the reply to question `at`
+    fn replied(&mut self, at: usize, said: &Said, w: &mut Words) {
+        w.state[state::ANSWERED] += 1;
+        let value = |i: usize| bits(float(said.values[i]));
+        match (said.kind, w.state[state::PROGRESS]) {
+            (Kind::Both, 4) => w.state[state::FILL_REPLY..][..3].copy_from_slice(&[1, value(0), value(1)]),
+            (Kind::Both, _) => w.state[state::KEYWORD_REPLY..][..3].copy_from_slice(&[1, value(0), value(1)]),
+            (Kind::Width, _) => w.state[state::KEYWORD_REPLY..][..3].copy_from_slice(&[2, value(0), 0]),
+            (Kind::Height, _) => w.state[state::KEYWORD_REPLY..][..3].copy_from_slice(&[3, 0, value(0)]),
+            (Kind::LayOut, _) => {
+                let laid = &self.rust.laid[self.laid];
+                w.layouts[LAYOUT * laid.node as usize..][..LAYOUT].copy_from_slice(&laid.layout);
+                self.fill(w, laid.working, laid.unclaimed);
+                w.state[state::OVERFLOW..][..4].copy_from_slice(&laid.overflow);
+                w.state[state::KEYWORD_REPLY..][..6].fill(0);
+                self.laid += 1;
+            }
+        }
+        self.first = said.kind == Kind::LayOut;
+        self.next(at + 1, w);
+    }
+    /// Question `at`, or the finish, in state and answer
+    fn next(&self, at: usize, w: &mut Words) {
+        w.answer = [0; 10];
+        let Some(q) = self.rust.questions.get(at) else {
+            w.state[state::PROGRESS] = 0;
+            w.answer[1] = at as u32;
+            w.answer[2..6].copy_from_slice(&self.rust.overflow);
+            return;
+        };
+        if self.first {
+            w.state[state::BEGUN] += 1;
+        }
+        // two size keywords that are measured are one question; any other that measures both is step 6's
+        let style = &w.styles[57 * q.node as usize..];
+        let keywords = [style[32], style[34]].iter().all(|tag| [11, 15, 27, 43, 59].contains(tag));
+        w.state[state::PROGRESS] = match q.kind {
+            Kind::Both if keywords => 1,
+            Kind::Both => 4,
+            Kind::Width => 2,
+            Kind::Height => 3,
+            Kind::LayOut => 5,
+        };
+        w.answer[0] = q.kind as u32 + 1;
+        w.answer[1] = q.node;
+        for axis in 0..2 {
+            if let Some(known) = q.known[axis] {
+                w.answer[2 + 2 * axis..][..2].copy_from_slice(&[1, known]);
+            }
+            w.answer[6 + 2 * axis..][..2].copy_from_slice(&match q.space[axis] {
+                Space::Definite(v) => [0, v],
+                Space::MinContent => [1, 0],
+                Space::MaxContent => [2, 0],
+            });
+        }
+    }
+}
+
+/// Every word as wanted: zeros are equal in floats. What the Rust computed has every NaN as 7FC00000, so a NaN of the
+/// library's with other bits differs.
+fn hold(call: &str, words: &Words, wanted: &Words, seen: &mut Counted) -> Result<(), Difference> {
+    let layout_float = |at: usize| at % LAYOUT != 0;
+    let candidate_float = |at: usize| [3, 4, 8, 9].contains(&(at % CANDIDATE));
+    let state_float = |at: usize| [2, 3, 5, 6].contains(&at) || (11..19).contains(&at);
+    let finish = wanted.answer[0] == 0;
+    let answer_float = |at: usize| if finish { (2..6).contains(&at) } else { [3, 5, 7, 9].contains(&at) };
+    let never = |_: usize| false;
+    let lists: [(&str, &[u32], &[u32], &dyn Fn(usize) -> bool); 7] = [
+        ("answer", &words.answer, &wanted.answer, &answer_float),
+        ("state", &words.state, &wanted.state, &state_float),
+        ("layouts", &words.layouts, &wanted.layouts, &layout_float),
+        ("working", &words.working, &wanted.working, &candidate_float),
+        ("unclaimed", &words.unclaimed, &wanted.unclaimed, &candidate_float),
+        ("styles", &words.styles, &wanted.styles, &never),
+        ("candidates", &words.candidates, &wanted.candidates, &never),
+    ];
+    for (name, words, wanted, is_float) in lists {
+        seen.words += words.len() as u64;
+        if words == wanted {
+            continue;
+        }
+        for (at, (&word, &want)) in words.iter().zip(wanted).enumerate() {
+            if word != want {
+                if !(is_float(at) && word << 1 == 0 && want << 1 == 0) {
+                    return Err(format!("{call}: {name} word {at} is {word:08x}, by the Rust {want:08x}"));
+                }
+                seen.signs += 1;
+            }
+        }
+    }
+    seen.nans += wanted.layouts.iter().filter(|&&w| w == oracle::case::NAN).count() as u64;
+    Ok(())
+}
