@@ -1,0 +1,21 @@
+#!/bin/sh
+# Prints the times of the same runs through the published Rust and through the static library, as two tables.
+#
+#     bench/run.sh [ROUNDS, 101 unless said]
+#
+# Needs what diff/runs/run.sh needs, and a machine with little else to do.
+set -eu
+here=$(cd "$(dirname "$0")" && pwd)
+root=$(cd "$here/.." && pwd)
+export CARGO_TARGET_DIR="$root/target/cargo"
+TAFFY_SRC=$("$root/diff/oracle/find-taffy.sh")
+export TAFFY_SRC
+if [ -z "$TAFFY_SRC" ]; then
+    echo "bench: not run, the published Rust files are not here (set TAFFY_SRC to the folder src of taffy 0.15.1)"
+    exit 0
+fi
+log=$(mktemp)
+trap 'rm -f "$log"' EXIT
+cd "$here"
+cargo build --offline --locked --release > "$log" 2>&1 || { cat "$log"; exit 1; }
+"$CARGO_TARGET_DIR/release/bench" "$@"

@@ -1,0 +1,165 @@
+//! Times the same runs through the published Rust and through the library, in one process.
+//!
+//!     bench [ROUNDS]
+//!     bench profile rust|library ITEMS BOXES RUNS      # one side alone, for a profiler
+//!
+//! Each figure is the median of ROUNDS (101 unless said) rounds, in CPU time, so that a busy machine matters less; the two
+//! sides take turns. Nothing is asserted about times; that both place the boxes alike is.
+mod library;
+mod rust;
+mod scene;
+
+use library::Words;
+use oof::ffi::Reply;
+use rust::Tree;
+use scene::scene;
+use std::hint::black_box;
+
+/// CPU time of this thread, in seconds
+fn now() -> f64 {
+    extern "C" {
+        fn clock_gettime(clock: i32, time: *mut [i64; 2]) -> i32;
+    }
+    const THREAD_CPU_TIME: i32 = 3;
+    let mut time = [0; 2];
+    // SAFETY: on 64-bit Linux a timespec is two 64-bit integers
+    assert_eq!(unsafe { clock_gettime(THREAD_CPU_TIME, &mut time) }, 0);
+    time[0] as f64 + time[1] as f64 * 1e-9
+}
+
+/// Median seconds of one call, for each of the functions, which take turns. A round lasts about a millisecond.
+fn medians<const N: usize>(rounds: usize, mut f: [&mut dyn FnMut(); N]) -> [f64; N] {
+    let repeats: [u32; N] = std::array::from_fn(|i| {
+        let mut repeats = 1;
+        loop {
+            let start = now();
+            (0..repeats).for_each(|_| f[i]());
+            if now() - start > 1e-3 || repeats >= 1 << 20 {
+                return repeats;
+            }
+            repeats *= 2;
+        }
+    });
+    let mut times: [Vec<f64>; N] = std::array::from_fn(|_| vec![]);
+    for _ in 0..rounds {
+        for i in 0..N {
+            let start = now();
+            (0..repeats[i]).for_each(|_| f[i]());
+            times[i].push((now() - start) / repeats[i] as f64);
+        }
+    }
+    times.map(|mut t| {
+        t.sort_by(f64::total_cmp);
+        t[t.len() / 2]
+    })
+}
+
+fn shown(seconds: f64) -> String {
+    match seconds {
+        s if s < 1e-6 => format!("{:.0} ns", s * 1e9),
+        s if s < 1e-3 => format!("{:.2} µs", s * 1e6),
+        s => format!("{:.2} ms", s * 1e3),
+    }
+}
+
+/// Both place every box alike
+fn agree(tree: &Tree, words: &Words) {
+    for (at, l) in tree.layouts.iter().enumerate() {
+        let w: Vec<f32> = words.layouts[23 * at..23 * at + 23].iter().map(|&w| f32::from_bits(w)).collect();
+        let ours = [w[1], w[2], w[9], w[10], w[19], w[20], w[21], w[22]];
+        let m = l.margin;
+        let theirs = [l.size.width, l.size.height, l.location.x, l.location.y, m.left, m.right, m.top, m.bottom];
+        assert_eq!(ours, theirs, "item {at}");
+    }
+}
+
+/// A scene through both sides: a line of the table
+fn side_by_side(name: &str, rounds: usize, scenes: &[(usize, usize)]) {
+    let scenes: Vec<_> = (0..).zip(scenes).map(|(seed, &(items, boxes))| scene(seed, items, boxes)).collect();
+    let mut trees: Vec<Tree> = scenes.iter().map(Tree::new).collect();
+    let mut words: Vec<Words> = scenes.iter().map(Words::new).collect();
+    let (mut questions, mut boxes) = (0, 0);
+    for (tree, words) in trees.iter_mut().zip(&mut words) {
+        boxes += tree.run().hoisted.len();
+        assert_eq!(words.run(), 0);
+        assert_eq!(words.answer[1], tree.questions);
+        questions += tree.questions;
+        agree(tree, words);
+    }
+    let count = scenes.len();
+    let mut rust = || {
+        for tree in &mut trees {
+            black_box(tree.run());
+        }
+    };
+    let mut library = || {
+        for words in &mut words {
+            black_box(words.run());
+        }
+    };
+    let [rust, library] = medians(rounds, [&mut rust, &mut library]);
+    let each = |time: f64| shown(time / count as f64);
+    println!(
+        "| {name} | {:.1} | {} | {} | {:.2} |",
+        questions as f64 / boxes as f64,
+        each(rust),
+        each(library),
+        library / rust
+    );
+}
+
+/// One call over a table, beside one sum of its words
+fn one_call(rounds: usize, items: usize) {
+    // the first box measures both
+    let scene = (0..).map(|seed| scene(seed, items, 1)).find(|scene| {
+        let mut words = Words::new(scene);
+        words.open() == 0 && words.answer[0] == 1
+    });
+    let mut words = Words::new(&scene.unwrap());
+    assert_eq!(words.open(), 0);
+    let (state, answer, table) = (words.state, words.answer, words.styles.clone());
+    let mut sum = || {
+        black_box(black_box(&table).iter().fold(0u32, |sum, word| sum.wrapping_add(*word)));
+    };
+    let mut call = || {
+        (words.state, words.answer) = (state, answer);
+        assert_eq!(black_box(words.reply(Reply::Both(120.0, 18.0))), 0);
+    };
+    let [sum, call] = medians(rounds, [&mut sum, &mut call]);
+    println!(
+        "| {items} | {} | {} | {:.1} | {:.2} ns |",
+        shown(sum),
+        shown(call),
+        call / sum,
+        call / items as f64 * 1e9
+    );
+}
+
+fn main() {
+    let args: Vec<String> = std::env::args().skip(1).collect();
+    if args.first().is_some_and(|arg| arg == "profile") {
+        let [items, boxes, runs] = [2, 3, 4].map(|i| args[i].parse::<usize>().expect("a number"));
+        let scene = scene(0, items, boxes);
+        let (mut tree, mut words) = (Tree::new(&scene), Words::new(&scene));
+        for _ in 0..runs {
+            match args[1].as_str() {
+                "rust" => drop(black_box(tree.run())),
+                _ => assert_eq!(words.run(), 0),
+            }
+        }
+        return;
+    }
+    let rounds = args.first().map_or(101, |s| s.parse().expect("rounds"));
+    println!("| a run | questions a box | the Rust | the library | ratio |");
+    println!("|---|---|---|---|---|");
+    side_by_side("1 box of 1 item (64 styles in turn)", rounds, &[(1, 1); 64]);
+    side_by_side("4 boxes of 4 items (64 tables in turn)", rounds, &[(4, 4); 64]);
+    side_by_side("100 boxes of 100 items", rounds, &[(100, 100)]);
+    side_by_side("4,096 boxes of 1,024 items", rounds.min(5), &[(1024, 4096)]);
+    println!();
+    println!("| items | one sum of the table | one call | ratio | call per item |");
+    println!("|---|---|---|---|---|");
+    for items in [1, 32, 128, 1024] {
+        one_call(rounds, items);
+    }
+}
