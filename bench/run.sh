@@ -14,6 +14,13 @@ if [ -z "$TAFFY_SRC" ]; then
     echo "bench: not run, the published Rust files are not here (set TAFFY_SRC to the folder src of taffy 0.15.1)"
     exit 0
 fi
+OOF_LIB=$(cd "${OOF_LIB:-$root/target/staticlib}" 2> /dev/null && pwd) || OOF_LIB=$root/target/staticlib
+export OOF_LIB
+archive=$OOF_LIB/liboof_c.a
+if [ ! -f "$archive" ]; then
+    echo "bench: $archive is not there (rt staticlib oof_c puts it into target/staticlib)"
+    exit 1
+fi
 log=$(mktemp)
 trap 'rm -f "$log"' EXIT
 cd "$here"

@@ -16,6 +16,13 @@ if [ -z "$TAFFY_SRC" ]; then
     echo "diff/runs: not run, the published Rust files are not here (set TAFFY_SRC to the folder src of taffy 0.15.1)"
     exit 0
 fi
+OOF_LIB=$(cd "${OOF_LIB:-$root/target/staticlib}" 2> /dev/null && pwd) || OOF_LIB=$root/target/staticlib
+export OOF_LIB
+archive=$OOF_LIB/liboof_c.a
+if [ ! -f "$archive" ]; then
+    echo "diff/runs: $archive is not there (rt staticlib oof_c puts it into target/staticlib)"
+    exit 1
+fi
 cases=${1:-17000}
 seed=${2:-$(date +%s)}
 [ $# -lt 2 ] || shift

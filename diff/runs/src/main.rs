@@ -10,6 +10,7 @@ mod damage;
 mod model;
 mod rng;
 mod side;
+mod typed;
 mod words;
 
 use oracle::case::{Case, CANDIDATE, STYLE};
