@@ -56,12 +56,13 @@ finished-told step finish s a kept shown e f g =
       answer = g ∙ sym (ap (λ (x : Answer). answerLeft x shown) e);
     }
 
+-- what the placer's entry left and what was told of its step
 pub told-of :
-    (r : ℕ) (step : Step) (l w u s a : List ℕ) (before : Words) (o : Outcome)
-    → Leaves step l w u o
+    (r : ℕ) (step : Step) (l w u s a : List ℕ) (call : Words → Outcome) (before : Words)
+    → Leaves step l w u (call before)
     → Told r s a (before .state) (before .answer) step
-    → Left r before (words l w u s a) o
-told-of r step l w u s a before o leaves told =
+    → Left r call before (words l w u s a)
+told-of r step l w u s a call before leaves told =
     record {
       result = told .result ∙ ap (λ (t : Step). resultOf (t .answer)) (leaves .step);
       layouts = leaves .layouts;

@@ -50,25 +50,23 @@ abbrev pub words : List ℕ → List ℕ → List ℕ → List ℕ → List ℕ 
 words layouts working unclaimed state answer =
     record { layouts = layouts; working = working; unclaimed = unclaimed; state = state; answer = answer }
 
--- a call's result, and its words before and after, are what an outcome leaves
-pub record Left (r : ℕ) (before after : Words) (o : Outcome) : Type 0 where
-  pub result : r ≡ resultOf (o .step .answer)
-  pub layouts : after .layouts ≡ o .layouts
-  pub working : after .working ≡ o .working
-  pub unclaimed : after .unclaimed ≡ o .unclaimed
-  pub state : after .state ≡ stateLeft (o .step .state) (o .step .answer) (before .state)
-  pub answer : after .answer ≡ answerLeft (o .step .answer) (before .answer)
-
--- the slices that both kinds of call are lent
+-- the slices that every call is lent
 abbrev pub lentIn : List ℕ → Words → Lent
 lentIn styles before =
     record { styles = styles; layouts = before .layouts; working = before .working; unclaimed = before .unclaimed }
 
--- an opening
-abbrev pub LeftByOpening : ℕ → Opening → List ℕ → List ℕ → Words → Words → Type 0
-LeftByOpening result o styles candidates before after = Left result before after (opened o candidates (lentIn styles before))
+-- the outcome of an opening, and of a reply to the question that the state's words keep
+abbrev pub opening : Opening → List ℕ → List ℕ → Words → Outcome
+opening o candidates styles before = opened o candidates (lentIn styles before)
 
--- a reply to the question that the state's words keep
-abbrev pub LeftByReply : ℕ → Reply → List ℕ → List ℕ → Words → Words → Type 0
-LeftByReply result reply surfaced styles before after =
-    Left result before after (replied (stateOf (before .state)) reply surfaced (lentIn styles before))
+abbrev pub replying : Reply → List ℕ → List ℕ → Words → Outcome
+replying reply surfaced styles before = replied (stateOf (before .state)) reply surfaced (lentIn styles before)
+
+-- a call's result, and its words before and after, are what its outcome leaves
+pub record Left (r : ℕ) (call : Words → Outcome) (before after : Words) : Type 0 where
+  pub result : r ≡ resultOf (call before .step .answer)
+  pub layouts : after .layouts ≡ call before .layouts
+  pub working : after .working ≡ call before .working
+  pub unclaimed : after .unclaimed ≡ call before .unclaimed
+  pub state : after .state ≡ stateLeft (call before .step .state) (call before .step .answer) (before .state)
+  pub answer : after .answer ≡ answerLeft (call before .step .answer) (before .answer)

@@ -1,3 +1,4 @@
 pub mod StateWords
 pub mod AnswerWords
 pub mod Entry
+pub mod Laws

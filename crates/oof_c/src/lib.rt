@@ -2,7 +2,7 @@
 // and answer pass as a pointer each. hosts/c/oof.h declares them for C.
 ghost use mathlib.Core.Path.{_≡_};
 ghost use mathlib.Core.List.{[]};
-ghost use Rattle.oof_c.specs.Entry.{Told, words, LeftByOpening, LeftByReply};
+ghost use Rattle.oof_c.specs.Entry.{Told, words, opening, replying, Left};
 use geometry::Point;
 use geometry::Rect;
 use geometry::Size;
@@ -59,7 +59,7 @@ pub extern "C" fn oof_open(
     state: &mut [u32; state::STATE_WORDS],
     answer: &mut [u32; answer::ANSWER_WORDS],
 ) -> u32
-    ensures { λ r. ⌜ LeftByOpening r (record { area = record { size = record { width = width; height = height }; offset = record { x = x; y = y } }; direction = direction; claims = claims; overflowx = «overflow_x»; overflowy = «overflow_y» }) (now (styles .entry)) (now (candidates .entry)) (words (now (layouts .entry)) (now (working .entry)) (now (unclaimed .entry)) (now (state .entry)) (now (answer .entry))) (words (now (layouts .exit)) (now (working .exit)) (now (unclaimed .exit)) (now (state .exit)) (now (answer .exit))) ⌝ }
+    ensures { λ r. ⌜ Left r (opening (record { area = record { size = record { width = width; height = height }; offset = record { x = x; y = y } }; direction = direction; claims = claims; overflowx = «overflow_x»; overflowy = «overflow_y» }) (now (candidates .entry)) (now (styles .entry))) (words (now (layouts .entry)) (now (working .entry)) (now (unclaimed .entry)) (now (state .entry)) (now (answer .entry))) (words (now (layouts .exit)) (now (working .exit)) (now (unclaimed .exit)) (now (state .exit)) (now (answer .exit))) ⌝ }
 {
     let area = OofPositioningArea {
         size: Size { width, height },
@@ -87,7 +87,7 @@ fn respond(
     state: &mut [u32; state::STATE_WORDS],
     answer: &mut [u32; answer::ANSWER_WORDS],
 ) -> u32
-    ensures { λ r. ⌜ LeftByReply r reply (now (surfaced .entry)) (now (styles .entry)) (words (now (layouts .entry)) (now (working .entry)) (now (unclaimed .entry)) (now (state .entry)) (now (answer .entry))) (words (now (layouts .exit)) (now (working .exit)) (now (unclaimed .exit)) (now (state .exit)) (now (answer .exit))) ⌝ }
+    ensures { λ r. ⌜ Left r (replying reply (now (surfaced .entry)) (now (styles .entry))) (words (now (layouts .entry)) (now (working .entry)) (now (unclaimed .entry)) (now (state .entry)) (now (answer .entry))) (words (now (layouts .exit)) (now (working .exit)) (now (unclaimed .exit)) (now (state .exit)) (now (answer .exit))) ⌝ }
 {
     let s = state::state_of(&*state);
     let step = placer::reply(s, reply, surfaced, styles, layouts, working, unclaimed);
@@ -106,7 +106,7 @@ pub extern "C" fn oof_reply_both(
     state: &mut [u32; state::STATE_WORDS],
     answer: &mut [u32; answer::ANSWER_WORDS],
 ) -> u32
-    ensures { λ r. ⌜ LeftByReply r (Reply.Both (record { width = width; height = height })) [] (now (styles .entry)) (words (now (layouts .entry)) (now (working .entry)) (now (unclaimed .entry)) (now (state .entry)) (now (answer .entry))) (words (now (layouts .exit)) (now (working .exit)) (now (unclaimed .exit)) (now (state .exit)) (now (answer .exit))) ⌝ }
+    ensures { λ r. ⌜ Left r (replying (Reply.Both (record { width = width; height = height })) [] (now (styles .entry))) (words (now (layouts .entry)) (now (working .entry)) (now (unclaimed .entry)) (now (state .entry)) (now (answer .entry))) (words (now (layouts .exit)) (now (working .exit)) (now (unclaimed .exit)) (now (state .exit)) (now (answer .exit))) ⌝ }
 {
     let reply = Reply::Both(Size { width, height });
     let none: [u32; 0] = [];
@@ -133,7 +133,7 @@ pub extern "C" fn oof_reply_width(
     state: &mut [u32; state::STATE_WORDS],
     answer: &mut [u32; answer::ANSWER_WORDS],
 ) -> u32
-    ensures { λ r. ⌜ LeftByReply r (Reply.Width width) [] (now (styles .entry)) (words (now (layouts .entry)) (now (working .entry)) (now (unclaimed .entry)) (now (state .entry)) (now (answer .entry))) (words (now (layouts .exit)) (now (working .exit)) (now (unclaimed .exit)) (now (state .exit)) (now (answer .exit))) ⌝ }
+    ensures { λ r. ⌜ Left r (replying (Reply.Width width) [] (now (styles .entry))) (words (now (layouts .entry)) (now (working .entry)) (now (unclaimed .entry)) (now (state .entry)) (now (answer .entry))) (words (now (layouts .exit)) (now (working .exit)) (now (unclaimed .exit)) (now (state .exit)) (now (answer .exit))) ⌝ }
 {
     let none: [u32; 0] = [];
     respond(
@@ -159,7 +159,7 @@ pub extern "C" fn oof_reply_height(
     state: &mut [u32; state::STATE_WORDS],
     answer: &mut [u32; answer::ANSWER_WORDS],
 ) -> u32
-    ensures { λ r. ⌜ LeftByReply r (Reply.Height height) [] (now (styles .entry)) (words (now (layouts .entry)) (now (working .entry)) (now (unclaimed .entry)) (now (state .entry)) (now (answer .entry))) (words (now (layouts .exit)) (now (working .exit)) (now (unclaimed .exit)) (now (state .exit)) (now (answer .exit))) ⌝ }
+    ensures { λ r. ⌜ Left r (replying (Reply.Height height) [] (now (styles .entry))) (words (now (layouts .entry)) (now (working .entry)) (now (unclaimed .entry)) (now (state .entry)) (now (answer .entry))) (words (now (layouts .exit)) (now (working .exit)) (now (unclaimed .exit)) (now (state .exit)) (now (answer .exit))) ⌝ }
 {
     let none: [u32; 0] = [];
     respond(
@@ -189,7 +189,7 @@ pub extern "C" fn oof_reply_laid_out(
     state: &mut [u32; state::STATE_WORDS],
     answer: &mut [u32; answer::ANSWER_WORDS],
 ) -> u32
-    ensures { λ r. ⌜ LeftByReply r (Reply.LaidOut (record { left = left; right = right; top = top; bottom = bottom })) (now (surfaced .entry)) (now (styles .entry)) (words (now (layouts .entry)) (now (working .entry)) (now (unclaimed .entry)) (now (state .entry)) (now (answer .entry))) (words (now (layouts .exit)) (now (working .exit)) (now (unclaimed .exit)) (now (state .exit)) (now (answer .exit))) ⌝ }
+    ensures { λ r. ⌜ Left r (replying (Reply.LaidOut (record { left = left; right = right; top = top; bottom = bottom })) (now (surfaced .entry)) (now (styles .entry))) (words (now (layouts .entry)) (now (working .entry)) (now (unclaimed .entry)) (now (state .entry)) (now (answer .entry))) (words (now (layouts .exit)) (now (working .exit)) (now (unclaimed .exit)) (now (state .exit)) (now (answer .exit))) ⌝ }
 {
     let overflow = Rect {
         left,

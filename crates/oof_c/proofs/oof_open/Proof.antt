@@ -32,7 +32,7 @@ same-length-3 c = search needs
 returns : tie.Need-returns
 returns c =
     let a = c .before .before .before .before .before .before .before .before .before .before .before .before .before .before .before .before .before .before .args in
-    told-of _ _ _ _ _ _ _ (words (a .layouts .now) (a .working .now) (a .unclaimed .now) (a .state .now) (a .answer .now)) _ (c .before .before .before .before .before .before .before .before .before .«open» .ensures) (c .tell .ensures)
+    told-of _ _ _ _ _ _ _ _ (words (a .layouts .now) (a .working .now) (a .unclaimed .now) (a .state .now) (a .answer .now)) (c .before .before .before .before .before .before .before .before .before .«open» .ensures) (c .tell .ensures)
 
 pub oof-open-spec : {M : Type 1} → statement M
 oof-open-spec =

@@ -1,4 +1,4 @@
-use Rattle.oof_c.specs.Entry.{words}
+use Rattle.oof_c.specs.Entry.{words, replying}
 use Rattle.oof_c.proofs.Calls.{told-of}
 use borrow.Author.Needs.{needs}
 use Rattle.oof_c.proofs.respond.Statement.{statement}
@@ -37,7 +37,7 @@ same-length-3 c = search needs
 returns : tie.Need-returns
 returns c =
     let a = c .before .before .before .before .before .before .before .before .before .before .before .before .before .before .before .before .before .before .before .before .args in
-    told-of _ _ _ _ _ _ _ (words (a .layouts .now) (a .working .now) (a .unclaimed .now) (a .state .now) (a .answer .now)) _
+    told-of _ _ _ _ _ _ _ (replying (a .reply) (a .surfaced .now) (a .styles .now)) (words (a .layouts .now) (a .working .now) (a .unclaimed .now) (a .state .now) (a .answer .now))
     (rw (c .before .before .before .before .before .before .before .before .before .before .before .before .before .state-of .ensures) at (c .before .before .before .before .before .before .before .before .before .reply .ensures)) (c .tell .ensures)
 
 pub respond-spec : {M : Type 1} → statement M
