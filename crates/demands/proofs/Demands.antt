@@ -44,7 +44,7 @@ use Rattle.run.specs.declared.Progress.the-variants.{Finished, Asking}
 use Rattle.run.specs.declared.Answer.{Answer}
 use Rattle.run.specs.declared.Answer.the-variants.{Ask, Finish, Refused}
 use Rattle.run.specs.Call.{Lent, Outcome, Leaves}
-use Rattle.run.specs.Theorems.{isRefused, Call, Asked, Heard, Stands, next, oneIfAsked, askedAtOpening, askedWith, talked}
+use Rattle.run.specs.Theorems.{isRefused, Call, Asked, Heard, Stands, next, oneIfAsked, askedAtOpening, askedWith, heededIn, courseOf}
 use Rattle.run.specs.Refusals.{Verdict, accepted, refused}
 use Rattle.run.specs.Run.{boxAtHand, opened, openedBy, openingVerdict, replied, repliedBy, replyVerdict, takenBy, takenIn, isWrong, laidOut, measuredOn}
 use Rattle.run.proofs.Refusals.{begun-accepts, measured-accepts, laid-accepts, refused-reply-keeps, refused-opening-keeps}
@@ -187,9 +187,9 @@ run-is o candidates lent (Run.reply {heard = heard} {before = before} {has = has
     ∙ sym (foldl-append (next (lent .styles)) (opened o candidates lent) heard (h ∷ []))
 
 pub equals-straight-run : EqualsStraightRun
-equals-straight-run o candidates lent heard has calls taken =
-    subst (λ (x : Outcome). Stands lent (length heard) x (talked o candidates lent heard))
-    (sym (run-is o candidates lent calls)) (straight-run o candidates lent heard taken)
+equals-straight-run o candidates lent heard has calls a =
+    subst (λ (x : Outcome). Stands lent (length (heededIn o candidates lent heard)) x (courseOf o candidates lent heard))
+    (sym (run-is o candidates lent calls)) (straight-run o candidates lent heard a)
 
 -- ---- the size law
 

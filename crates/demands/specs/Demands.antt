@@ -28,7 +28,7 @@ use Rattle.run.specs.declared.Answer.the-variants.{Refused}
 use Rattle.run.specs.Call.{Lent, Outcome, unwritten}
 use Rattle.run.specs.Refusals.{refused}
 use Rattle.run.specs.Run.{opened, openingVerdict, replyVerdict, closed, boxAtHand, extentsOf}
-use Rattle.run.specs.Theorems.{isRefused, allTaken, Stands, talked, Heard}
+use Rattle.run.specs.Theorems.{isRefused, Heard, Stands, heededIn, courseOf}
 use Rattle.mirror.specs.Image.{imageStyles}
 use Rattle.mirror.specs.Quarter.{QuarterArea, QuarterTable, QuarterCandidates}
 use Rattle.mirror.specs.Runs.{Message, AllFair, MirroredRuns}
@@ -76,15 +76,16 @@ RefusedReplyWritesNothing =
 abbrev pub ThreeQuestionsEach : Type 0
 ThreeQuestionsEach = (n : ℕ) (has : Outcome) → AnyCalls n has → n ≤ 3 * has .step .state .counts .filled .working
 
--- ---- Demand 2. "Questions, layouts, lists and overflow equal the definition": the contracts are equations with it, and the definition of
--- a call is the straight run (run/specs/Straight.antt) of boxes that each read straight through (oof_box/specs/Box.antt).
+-- ---- Demand 2. "Questions, layouts, lists and overflow equal the definition": the contracts are equations with it, and by the definition
+-- the calls are the straight run (run/specs/Straight.antt) of boxes that each read straight through (oof_box/specs/Box.antt). This holds
+-- after each call, whatever replies were refused before it.
 
 abbrev pub EqualsStraightRun : Type 0
 EqualsStraightRun =
     (o : Opening) (candidates : List ℕ) (lent : Lent) (heard : List Heard) (has : Outcome)
     → Run o candidates lent heard has
-    → allTaken (lent .styles) (opened o candidates lent) heard ≡ true
-    → Stands lent (length heard) has (talked o candidates lent heard)
+    → isRefused (opened o candidates lent .step .answer) ≡ false
+    → Stands lent (length (heededIn o candidates lent heard)) has (courseOf o candidates lent heard)
 
 -- the law of the final size, of the words that an accepted lay out reply writes, from any state, forged ones too: they are those of a
 -- layout whose size is no NaN and at least padding plus border, on each axis where that sum isn't NaN

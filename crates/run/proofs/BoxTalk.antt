@@ -1,4 +1,4 @@
--- Where the dialogue of one box stands after the replies kept, alone and as the front of a longer dialogue. Assumes nothing.
+-- Where the dialogue of one box stands after the replies kept, alone and in the course of a run. Assumes nothing.
 use mathlib.Core.Path.{_≡_, refl, sym, ap, _∙_, subst}
 use mathlib.Core.List.{List, [], _∷_, _++_, foldl, foldl-append}
 use mathlib.Core.Option.{Option, none, some}
@@ -6,7 +6,8 @@ use Rattle.geometry.specs.declared.Rect.{Rect}
 use Rattle.style.specs.declared.Style.{Style}
 use Rattle.tree.specs.declared.layout.OofCandidate.{OofCandidate}
 use Rattle.oof_resolve.specs.declared.ContainingBlock.{ContainingBlock}
-use Rattle.oof_box.specs.Talk.{Talk, done, ask, ReplyTo, _>>=_}
+use Rattle.sweep.specs.Sweep.{candidatesIn}
+use Rattle.oof_box.specs.Talk.{Talk, done, ask, ReplyTo}
 use Rattle.oof_box.specs.Box.{placed, Placed}
 use Rattle.oof_box.specs.Cut.{noReplies, taken, askedAfter, layoutAfter}
 use Rattle.oof_box.specs.Theorems.{Heard, replyTo, orStay, after, Standing, waiting, onTaken, step, begun, Seen, asked, ended, seenOf, seenBy}
@@ -15,17 +16,26 @@ use Rattle.oof_box.specs.declared.question.Question.{Question}
 use Rattle.oof_box.specs.declared.question.Replies.{Replies}
 use Rattle.oof_box.specs.declared.question.Taken.{Taken}
 use Rattle.oof_box.specs.declared.question.Taken.the-variants.{Kept, Laid}
+use Rattle.run.specs.Straight.{World, Course, during}
+use Rattle.run.specs.Theorems as run
+use Rattle.run.specs.Theorems.{hearing}
 
 -- a dialogue that asks this question
 pub data Asks {A : Type 0} (q : Question) : Talk A → Type 0 where
   asks : (next : ReplyTo q → Talk A) → Asks q (ask q next)
 
--- a reply to the front of a longer dialogue
-pub after-bind : {A B : Type 0} (k : A → Talk B) (h : Heard) {q : Question} {t : Talk A} → Asks q t → after (t >>= k) h ≡ after t h >>= k
-unfolding _>>=_
-after-bind k h {q} (asks next) = go (replyTo q h)
+-- what a box hears
+abbrev pub heardBy : run.Heard → Heard
+heardBy h = record { reply = h .reply; surfaced = candidatesIn (h .surfaced) }
+
+-- a reply to a box, in the course of a run
+pub hearing-during : (w : World) (k : Placed → Course) (h : run.Heard) {q : Question} {t : Talk Placed} → Asks q t
+    → hearing (during w t k) h ≡ during w (after t (heardBy h)) k
+unfolding during hearing
+hearing-during w k h {q} (asks next) = go (replyTo q (heardBy h))
   where
-    go : (r : Option (ReplyTo q)) → orStay r (λ x. next x >>= k) (ask q (λ x. next x >>= k)) ≡ orStay r next (ask q next) >>= k
+    go : (r : Option (ReplyTo q))
+        → run.orStay r (λ x. during w (next x) k) (Course.asks w q (λ x. during w (next x) k)) ≡ during w (orStay r next (ask q next)) k
     go none = refl
     go (some r) = refl
 

@@ -1,22 +1,24 @@
 -- A refused call writes nothing and returns the state as it came. Assumes nothing.
 use Prim.Native.Nat.{ℕ}
 use mathlib.Core.Path.{_≡_, refl, sym, ap, _∙_}
-use mathlib.Core.Bool.{Bool, false}
+use mathlib.Core.Bool.{Bool, true, false}
 use mathlib.Core.List.{List}
 use Rattle.util.proofs.Floats.{no}
 use Rattle.geometry.specs.declared.Rect.{Rect}
 use Rattle.refusal.specs.declared.Refusal.{Refusal}
 use Rattle.oof_box.specs.declared.question.Replies.{Replies}
+use Rattle.oof_box.specs.declared.question.Taken.{Taken}
 use Rattle.run.specs.declared.Opening.{Opening}
 use Rattle.run.specs.declared.Counts.{Counts}
 use Rattle.run.specs.declared.Opened.{Opened}
 use Rattle.run.specs.declared.State.{State}
+use Rattle.run.specs.declared.Progress.{Progress}
 use Rattle.run.specs.declared.Answer.{Answer}
 use Rattle.run.specs.declared.Answer.the-variants.{Refused}
 use Rattle.run.specs.declared.Step.{Step}
 use Rattle.run.specs.Call.{Lent, Outcome, unwritten}
-use Rattle.run.specs.Run.{asking, finishing, proceeding, closed, begun, opened, measuredOn, laidOut, replied}
-use Rattle.run.specs.Theorems.{isRefused, RefusedReplyKeeps, RefusedOpeningKeeps}
+use Rattle.run.specs.Run.{asking, finishing, proceeding, closed, begun, opened, takenIn, takenBy, isWrong, measuredOn, laidOut, replied}
+use Rattle.run.specs.Theorems.{isRefused, RefusedReplyKeeps, RefusedOpeningKeeps, FinishedRefuses}
 use Rattle.run.proofs.Ways.{NextWay, asks, ends, next-way, OpeningWay, begins, opening-way, ReplyWay, measures, laysOut, reply-way}
 
 abbrev pub refusedIn : Outcome → Bool
@@ -73,3 +75,17 @@ refused-opening-keeps o candidates lent r a = go (opening-way o candidates lent)
     go : OpeningWay o candidates lent → opened o candidates lent ≡ unwritten lent (record { state = closed lent; answer = Refused r })
     go (OpeningWay.turnedDown q e) = same-refusal lent (closed lent) e a
     go (begins v e) = not-accepted e (begun-accepts o candidates lent) a
+
+-- ---- a finished run
+
+pub finished-refuses : FinishedRefuses
+unfolding takenBy
+finished-refuses s reply surfaced lent f = go (reply-way s reply surfaced lent)
+  where
+    wrong : {t : Taken} → takenBy s reply ≡ t → isWrong t ≡ true
+    wrong e = ap isWrong (sym e) ∙ ap (λ (p : Progress). isWrong (takenIn p (s .replies) reply)) f
+
+    go : ReplyWay s reply surfaced lent → refusedIn (replied s reply surfaced lent) ≡ true
+    go (ReplyWay.turnedDown r e) = ap refusedIn e
+    go (measures replies v t e) = no (wrong t) refl
+    go (laysOut overflow v t e) = no (wrong t) refl

@@ -1,13 +1,12 @@
--- With nobody else writing the lent words, the calls are the straight dialogue: each call leaves the words of the world that it has come
--- to, and its question is the one at which the dialogue stands. Assumes nothing.
+-- With nobody else writing the lent words, the calls are the straight run: each call leaves the words of the world that it has come to, and
+-- its question is the one at which the course stands; a refused one changes neither. Assumes nothing.
 use Prim.Native.Nat.{ℕ, zero, suc, _+_, _-_, _/_, _≤_}
 use native.Mathlib.Omega.{arith}
 use native.Mathlib.Nat.{zero-add, add-zero}
 use mathlib.Core.Path.{_≡_, refl, sym, ap, _∙_, subst, subst₂}
-use mathlib.Core.Bool.{Bool, true, false, not, _&&_}
+use mathlib.Core.Bool.{Bool, true, false, cond}
 use mathlib.Core.List.{List, [], _∷_, _++_, map, foldl, append-nil, map-map}
 use lib.ListN.{length, length-append}
-use borrow.Author.Tests.{not-true}
 use Rattle.util.proofs.Floats.{no}
 use Rattle.geometry.specs.Geometry.{unionOf}
 use Rattle.geometry.specs.declared.Rect.{Rect}
@@ -19,10 +18,9 @@ use Rattle.style_record.specs.Decode.{styleAt}
 use Rattle.sweep.specs.Sweep.{candidatesIn, moved, keep, appended}
 use Rattle.sweep.specs.declared.Shift.the-variants.{By}
 use Rattle.sweep.proofs.Steps.{appended-length}
-use Rattle.oof_box.specs.Talk.{Talk, done, ask, _>>=_}
+use Rattle.oof_box.specs.Talk.{Talk}
 use Rattle.oof_box.specs.Box.{placed, Placed}
 use Rattle.oof_box.specs.Cut.{noReplies, taken, askedAfter, layoutAfter}
-use Rattle.oof_box.specs.Theorems as box
 use Rattle.oof_box.specs.Theorems.{after}
 use Rattle.oof_box.specs.declared.question.Question.{Question}
 use Rattle.oof_box.specs.declared.question.Reply.{Reply}
@@ -33,16 +31,17 @@ use Rattle.oof_box.specs.declared.question.Taken.the-variants.{Laid}
 use Rattle.run.specs.declared.Opening.{Opening}
 use Rattle.run.specs.declared.Counts.{Counts}
 use Rattle.run.specs.declared.Opened.{Opened}
-use Rattle.run.specs.declared.Answer.the-variants.{Ask}
+use Rattle.run.specs.declared.Answer.{Answer}
+use Rattle.run.specs.declared.Answer.the-variants.{Ask, Finish, Refused}
 use Rattle.run.specs.declared.Step.{Step}
 use Rattle.run.specs.Call.{Lent, Outcome}
 use Rattle.run.specs.Refusals.{accepted}
-use Rattle.run.specs.Run.{boxAtHand, asking, finishing, proceeding, claimsOf, blockOf, extentsOf, begun, opened, takenBy, isWrong, replyVerdict, measuredOn, laidOut}
-use Rattle.run.specs.Straight.{World, Box, atOpening, afterBox, boxes, straight}
-use Rattle.run.specs.Theorems.{Heard, next, allTaken, hearing, laidInto, claimedIn, Stands, called, talked, StraightRun, hoisted, HoistedOrder}
+use Rattle.run.specs.Run.{boxAtHand, asking, finishing, proceeding, claimsOf, blockOf, extentsOf, begun, opened, takenBy, replyVerdict, measuredOn, laidOut}
+use Rattle.run.specs.Straight.{World, Box, atOpening, afterBox, Course, ended, during, boxes, straight}
+use Rattle.run.specs.Theorems.{Heard, next, isRefused, heeded, hearing, soFar, saidAfter, laidInto, claimedIn, Stands, called, heededIn, courseOf, StraightRun, hoisted, HoistedOrder}
 use Rattle.run.proofs.Ways.{NextWay, asks, ends, next-way, OpeningWay, begins, opening-way, ReplyWay, measures, laysOut, reply-way, opening-room, reply-room, lent-all}
-use Rattle.run.proofs.Refusals.{refusedIn}
-use Rattle.run.proofs.BoxTalk.{Asks, after-bind, At, at-first, asks-at, kept-at, laid-at}
+use Rattle.run.proofs.Refusals.{refusedIn, refused-reply-keeps, finished-refuses}
+use Rattle.run.proofs.BoxTalk.{Asks, heardBy, hearing-during, At, at-first, asks-at, kept-at, laid-at}
 use Rattle.run.proofs.Worlds.{list-back, rear, rear-count, laidIn, laid-last, claimed-count, claimed-after, unclaimed-after, laid-after, Sound, opening-sound, First, first-back, after-sound}
 
 module _ (o : Opening) (lent : Lent) where
@@ -188,14 +187,14 @@ module _ (o : Opening) (lent : Lent) where
 
   -- ---- where a run stands
 
-  abbrev boxesFrom : ℕ → World → List OofCandidate → Talk World
+  abbrev boxesFrom : ℕ → World → List OofCandidate → Course
   boxesFrom most w waiting = boxes most (blockOf o) (claimsOf o) style w waiting
 
-  -- the dialogue goes on after a box
-  abbrev onward : ℕ → World → OofCandidate → List OofCandidate → Placed → Talk World
+  -- the course after a box
+  abbrev onward : ℕ → World → OofCandidate → List OofCandidate → Placed → Course
   onward most w c rest p = let v = afterBox (claimsOf o) w c rest p in boxesFrom most v (v .waiting)
 
-  data Position (answered : ℕ) (x : Outcome) (talk : Talk World) : Type 0 where
+  data Position (answered : ℕ) (x : Outcome) (course : Course) : Type 0 where
     -- in the dialogue of the first box that waits; `most` more may follow
     waits :
         (w : World) (c : OofCandidate) (rest : List OofCandidate) (most : ℕ) (replies : Replies) (t : Talk Placed)
@@ -203,18 +202,18 @@ module _ (o : Opening) (lent : Lent) where
         → most + suc (length (w .laid)) ≡ 4096
         → At (blockOf o) (style (c .node)) c replies t
         → x ≡ askingAt w replies answered
-        → talk ≡ t >>= onward most w c rest
-        → Position answered x talk
+        → course ≡ during w t (onward most w c rest)
+        → Position answered x course
     -- at the end
     over :
         (w : World)
         → w .waiting ≡ []
         → Sound (lent .working) w
         → x ≡ finishingAt w answered
-        → talk ≡ done w
-        → Position answered x talk
+        → course ≡ ended w
+        → Position answered x course
 
-  moved-to : {answered : ℕ} {x y : Outcome} {t u : Talk World} → x ≡ y → t ≡ u → Position answered y u → Position answered x t
+  moved-to : {answered : ℕ} {x y : Outcome} {t u : Course} → x ≡ y → t ≡ u → Position answered y u → Position answered x t
   moved-to p q (waits w c rest most replies t f m a d k) = waits w c rest most replies t f m a (p ∙ d) (q ∙ k)
   moved-to p q (over w e s d k) = over w e s (p ∙ d) (q ∙ k)
 
@@ -228,15 +227,15 @@ module _ (o : Opening) (lent : Lent) where
       held : (waiting : List OofCandidate) → w .waiting ≡ waiting → length (claimedIn w) ≡ length (w .laid) + length waiting
       held waiting e = claimed-count w ∙ ap (λ (l : List OofCandidate). length (w .laid) + length l) e
 
-      ended : (most : ℕ) → boxesFrom most w [] ≡ done w
-      ended zero = refl
-      ended (suc most) = refl
+      none-left : (most : ℕ) → boxesFrom most w [] ≡ ended w
+      none-left zero = refl
+      none-left (suc most) = refl
 
       go : (waiting : List OofCandidate) (most : ℕ) → w .waiting ≡ waiting → most + length (w .laid) ≡ 4096
           → NextWay (lent .styles) (workingAt w) run (countsAt w (length (w .laid)) answered) (w .overflow)
           → Position answered (proceedingAt w answered) (boxesFrom most w (w .waiting))
       go [] most e m (asks h d) = absurd (omega (arith, held [] e))
-      go [] most e m (ends h d) = over w e s (ap (leaving w) d) (ap (boxesFrom most w) e ∙ ended most)
+      go [] most e m (ends h d) = over w e s (ap (leaving w) d) (ap (boxesFrom most w) e ∙ none-left most)
       go (c ∷ rest) zero e m n = absurd (let r = s .room in let l = s .most in omega (arith, held (c ∷ rest) e))
       go (c ∷ rest) (suc most) e m (asks h d) =
           waits w c rest most noReplies (placed (blockOf o) (style (c .node)) c) (record { waiting = e; sound = s }) (omega arith)
@@ -247,28 +246,24 @@ module _ (o : Opening) (lent : Lent) where
 
   -- ---- a call moves it on
 
-  -- what the box hears
-  abbrev heardBy : Heard → box.Heard
-  heardBy h = record { reply = h .reply; surfaced = candidatesIn (h .surfaced) }
-
   replied-on : (w : World) (c : OofCandidate) (rest : List OofCandidate) (most : ℕ) (replies : Replies) (t : Talk Placed) (answered : ℕ) (h : Heard)
       → IsFirst w c rest
       → most + suc (length (w .laid)) ≡ 4096
       → At (blockOf o) (style (c .node)) c replies t
       → refusedIn (next (lent .styles) (askingAt w replies answered) h) ≡ false
-      → Position (answered + 1) (next (lent .styles) (askingAt w replies answered) h) (hearing (t >>= onward most w c rest) h)
-  unfolding next hearing _>>=_
+      → Position (answered + 1) (next (lent .styles) (askingAt w replies answered) h) (hearing (during w t (onward most w c rest)) h)
+  unfolding next during
   replied-on w c rest most replies t answered h f m a n =
       go (reply-way (askingAt w replies answered .step .state) (h .reply) (h .surfaced) (lentAt w))
     where
       takes : {k : Taken} → takenBy (askingAt w replies answered .step .state) (h .reply) ≡ k → taken replies (stageOf c replies) (h .reply) ≡ k
       takes k = sym (taken-at replies answered (h .reply) f) ∙ k
 
-      front : after (t >>= onward most w c rest) (heardBy h) ≡ after t (heardBy h) >>= onward most w c rest
-      front = after-bind (onward most w c rest) (heardBy h) (asks-at (blockOf o) (style (c .node)) c a)
+      front : hearing (during w t (onward most w c rest)) h ≡ during w (after t (heardBy h)) (onward most w c rest)
+      front = hearing-during w (onward most w c rest) h (asks-at (blockOf o) (style (c .node)) c a)
 
       go : ReplyWay (askingAt w replies answered .step .state) (h .reply) (h .surfaced) (lentAt w)
-          → Position (answered + 1) (next (lent .styles) (askingAt w replies answered) h) (hearing (t >>= onward most w c rest) h)
+          → Position (answered + 1) (next (lent .styles) (askingAt w replies answered) h) (hearing (during w t (onward most w c rest)) h)
       go (ReplyWay.turnedDown r x) = no (ap refusedIn x) n
       go (measures r v k x) =
           waits w c rest most r (after t (heardBy h)) f m (kept-at (blockOf o) (style (c .node)) c (heardBy h) a (takes k))
@@ -277,72 +272,138 @@ module _ (o : Opening) (lent : Lent) where
       go (laysOut overflow v k x) =
           let p = placedBy c replies overflow (h .surfaced) in
           moved-to (x ∙ laid-out-at replies overflow (h .surfaced) answered f)
-          (front ∙ ap (λ (u : Talk Placed). u >>= onward most w c rest) (laid-at (blockOf o) (style (c .node)) c (heardBy h) a (takes k)))
+          (front ∙ ap (λ (u : Talk Placed). during w u (onward most w c rest)) (laid-at (blockOf o) (style (c .node)) c (heardBy h) a (takes k)))
           (proceed (afterBox (claimsOf o) w c rest p) most (answered + 1)
           (after-sound (claimsOf o) (lent .working) p (h .surfaced) refl f (room-at w replies answered h _ v (takes k)))
           (ap (λ (n : ℕ). most + n) (laid-after (claimsOf o) w c rest p) ∙ m))
 
   -- an ended run takes no reply
   never-after : {A : Type 0} (w : World) (answered : ℕ) (h : Heard) → refusedIn (next (lent .styles) (finishingAt w answered) h) ≡ false → A
-  unfolding next finishing takenBy
-  never-after {A} w answered h n = go (reply-way (finishingAt w answered .step .state) (h .reply) (h .surfaced) (lentAt w))
-    where
-      go : ReplyWay (finishingAt w answered .step .state) (h .reply) (h .surfaced) (lentAt w) → A
-      go (ReplyWay.turnedDown r x) = no (ap refusedIn x) n
-      go (measures r v k x) = no {b = true} refl (ap isWrong k)
-      go (laysOut overflow v k x) = no {b = true} refl (ap isWrong k)
+  unfolding next finishing
+  never-after w answered h n = no (finished-refuses (finishingAt w answered .step .state) (h .reply) (h .surfaced) (lentAt w) refl) n
 
-  one-call : {answered : ℕ} {x : Outcome} {talk : Talk World} (h : Heard) → Position answered x talk → refusedIn (next (lent .styles) x h) ≡ false
-      → Position (answered + 1) (next (lent .styles) x h) (hearing talk h)
+  one-call : {answered : ℕ} {x : Outcome} {course : Course} (h : Heard) → Position answered x course → refusedIn (next (lent .styles) x h) ≡ false
+      → Position (answered + 1) (next (lent .styles) x h) (hearing course h)
   one-call {answered} h (waits w c rest most replies t f m a d k) n =
-      moved-to (ap (λ (x : Outcome). next (lent .styles) x h) d) (ap (λ (talk : Talk World). hearing talk h) k)
+      moved-to (ap (λ (x : Outcome). next (lent .styles) x h) d) (ap (λ (course : Course). hearing course h) k)
       (replied-on w c rest most replies t answered h f m a (sym (ap (λ (x : Outcome). refusedIn (next (lent .styles) x h)) d) ∙ n))
   one-call {answered} h (over w e s d k) n = never-after w answered h (sym (ap (λ (x : Outcome). refusedIn (next (lent .styles) x h)) d) ∙ n)
 
   -- ---- over a whole list of replies
 
-  both : (a b : Bool) → a && b ≡ true → (a ≡ true) × (b ≡ true)
-  both true b e = (refl, e)
-  both false b e = no {b = true} refl (sym e)
+  -- a state and words, with an answer
+  abbrev saying : Answer → Outcome → Outcome
+  saying a x = record { step = record { state = x .step .state; answer = a }; layouts = x .layouts; working = x .working; unclaimed = x .unclaimed }
 
-  first-taken : (x : Outcome) (heard : List Heard) → allTaken (lent .styles) x heard ≡ true → refusedIn x ≡ false
-  unfolding allTaken
-  first-taken x [] e = not-true _ e
-  first-taken x (h ∷ heard) e = not-true _ (both (not (refusedIn x)) _ e .0)
+  -- x has the state and the words that the last call left that wasn't refused
+  record Through (answered : ℕ) (x : Outcome) (course : Course) : Type 0 where
+    last : Outcome
+    position : Position answered last course
+    same : x ≡ saying (x .step .answer) last
+    itself : refusedIn x ≡ false → x ≡ last
 
-  all-calls : (answered : ℕ) (x : Outcome) (talk : Talk World) (heard : List Heard) → Position answered x talk
-      → allTaken (lent .styles) x heard ≡ true
-      → Position (answered + length heard) (foldl (next (lent .styles)) x heard) (foldl hearing talk heard)
-  unfolding allTaken
-  all-calls answered x talk [] p e = rw add-zero p
-  all-calls answered x talk (h ∷ heard) p e =
+  next-same : {x : Outcome} (y : Outcome) (h : Heard) → x ≡ saying (x .step .answer) y → next (lent .styles) x h ≡ next (lent .styles) y h
+  unfolding next
+  next-same y h e = ap (λ (z : Outcome). next (lent .styles) z h) e
+
+  -- a refused call leaves what it was given
+  next-refused : (x : Outcome) (h : Heard) → refusedIn (next (lent .styles) x h) ≡ true
+      → next (lent .styles) x h ≡ saying (next (lent .styles) x h .step .answer) x
+  unfolding next
+  next-refused x h e = go (next (lent .styles) x h .step .answer) refl
+    where
+      go : (a : Answer) → next (lent .styles) x h .step .answer ≡ a → next (lent .styles) x h ≡ saying (next (lent .styles) x h .step .answer) x
+      go (Ask q) d = no e (ap isRefused d)
+      go (Finish f) d = no e (ap isRefused d)
+      go (Refused r) d =
+          refused-reply-keeps (x .step .state) (h .reply) (h .surfaced) _ r d ∙ ap (λ (a : Answer). saying a x) (sym d)
+
+  -- one call more
+  after-refused : {answered : ℕ} {x : Outcome} {course : Course} (h : Heard) → refusedIn (next (lent .styles) x h) ≡ true → Through answered x course
+      → Through answered (next (lent .styles) x h) course
+  after-refused {x = x} h e p =
+      record {
+        last = p .last;
+        position = p .position;
+        same = next-refused x h e ∙ ap (saying (next (lent .styles) x h .step .answer)) (p .same);
+        itself = λ f. no e f;
+      }
+
+  after-heeded : {answered : ℕ} {x : Outcome} {course : Course} (h : Heard) → refusedIn (next (lent .styles) x h) ≡ false → Through answered x course
+      → Through (answered + 1) (next (lent .styles) x h) (hearing course h)
+  after-heeded {x = x} h e p =
+      let d = next-same (p .last) h (p .same) in
+      record {
+        last = next (lent .styles) x h;
+        position = moved-to d refl (one-call h (p .position) (sym (ap refusedIn d) ∙ e));
+        same = refl;
+        itself = λ f. refl;
+      }
+
+  -- any number of them
+  abbrev After : ℕ → Course → List Heard → Outcome → Type 0
+  After answered course taken x = Through (answered + length taken) x (foldl hearing course taken)
+
+  all-calls : (answered : ℕ) (x : Outcome) (course : Course) (heard : List Heard) → Through answered x course
+      → After answered course (heeded (lent .styles) x heard) (foldl (next (lent .styles)) x heard)
+  unfolding heeded
+  all-calls answered x course [] p = rw add-zero p
+  all-calls answered x course (h ∷ heard) p =
       let y = next (lent .styles) x h in
-      let later = both (not (refusedIn x)) _ e .1 in
-      subst (λ (n : ℕ). Position n (foldl (next (lent .styles)) y heard) (foldl hearing (hearing talk h) heard)) (one-on answered (length heard))
-      (all-calls (answered + 1) y (hearing talk h) heard (one-call h p (first-taken y heard later)) later)
+      go y (heeded (lent .styles) y heard) (refusedIn y) (λ e. all-calls answered y course heard (after-refused h e p))
+      (λ e. all-calls (answered + 1) y (hearing course h) heard (after-heeded h e p))
+      refl
     where
       one-on : (m n : ℕ) → m + 1 + n ≡ m + suc n
       one-on m n = omega arith
 
+      go : (y : Outcome) (later : List Heard) (b : Bool) → (refusedIn y ≡ true → After answered course later (foldl (next (lent .styles)) y heard))
+          → (refusedIn y ≡ false → After (answered + 1) (hearing course h) later (foldl (next (lent .styles)) y heard))
+          → refusedIn y ≡ b
+          → After answered course (cond b later (h ∷ later)) (foldl (next (lent .styles)) y heard)
+      go y later true refused taken e = refused e
+      go y later false refused taken e =
+          subst (λ (n : ℕ). Through n (foldl (next (lent .styles)) y heard) (foldl hearing (hearing course h) later)) (one-on answered (length later))
+          (taken e)
+
   -- ---- what stands there
 
-  stands-asking : {answered : ℕ} {x : Outcome} (k : Placed → Talk World) {q : Question} {t : Talk Placed} → Asks q t → x .step .answer ≡ Ask q
-      → Stands lent answered x (t >>= k)
-  unfolding _>>=_
-  stands-asking k (Asks.asks reply) a = Stands.asks a
+  says-asking : (w : World) (k : Placed → Course) (answered : ℕ) {q : Question} {t : Talk Placed} → Asks q t
+      → (soFar (during w t k) ≡ w) × (saidAfter answered (during w t k) ≡ Ask q)
+  unfolding during
+  says-asking w k answered (Asks.asks reply) = (refl, refl)
 
-  stands-ended : (w : World) (answered : ℕ) {x : Outcome} → x ≡ finishingAt w answered → Stands lent answered x (done w)
-  unfolding finishing
-  stands-ended w answered d =
-      Stands.ends (ap (λ (y : Outcome). y .step .answer) d) (ap (λ (y : Outcome). y .layouts) d) (ap (λ (y : Outcome). y .working) d)
-      (ap (λ (y : Outcome). y .unclaimed) d)
+  -- at a world
+  stands-at : (w : World) (answered : ℕ) (step : Step) {x y : Outcome} {course : Course} → x ≡ saying (x .step .answer) y
+      → (refusedIn x ≡ false → x ≡ y)
+      → y ≡ leaving w step
+      → step .state .counts .filled ≡ countsAt w 0 0 .filled
+      → step .answer ≡ saidAfter answered course
+      → soFar course ≡ w
+      → Stands lent answered x course
+  stands-at w answered step d i e f a s =
+      record {
+        layouts = ap (λ (z : Outcome). z .layouts) d ∙ ap (λ (z : Outcome). z .layouts) e ∙ ap (λ (v : World). laidInto (lent .layouts) (v .laid)) (sym s);
+        working = ap (λ (z : Outcome). z .working) d ∙ ap (λ (z : Outcome). z .working) e ∙ ap workingAt (sym s);
+        unclaimed =
+            ap (λ (z : Outcome). z .unclaimed) d ∙ ap (λ (z : Outcome). z .unclaimed) e ∙ ap (λ (v : World). appended (lent .unclaimed) 0 (v .unclaimed)) (sym s);
+        filled =
+            ap (λ (z : Outcome). z .step .state .counts .filled) d ∙ ap (λ (z : Outcome). z .step .state .counts .filled) e ∙ f
+            ∙ ap (λ (v : World). countsAt v 0 0 .filled) (sym s);
+        answer = λ n. ap (λ (z : Outcome). z .step .answer) (i n) ∙ ap (λ (z : Outcome). z .step .answer) e ∙ a;
+      }
 
-  stands : {answered : ℕ} {x : Outcome} {talk : Talk World} → Position answered x talk → Stands lent answered x talk
-  stands {answered} {x} (waits w c rest most replies t f m a d k) =
-      subst (Stands lent answered x) (sym k)
-      (stands-asking (onward most w c rest) (asks-at (blockOf o) (style (c .node)) c a)
-      (ap (λ (y : Outcome). y .step .answer) d ∙ asked-at replies answered f))
-  stands {answered} {x} (over w e s d k) = subst (Stands lent answered x) (sym k) (stands-ended w answered d)
+  stands : {answered : ℕ} {x : Outcome} {course : Course} → Through answered x course → Stands lent answered x course
+  unfolding asking finishing
+  stands {answered} {x} {course} p = go (p .position)
+    where
+      go : Position answered (p .last) course → Stands lent answered x course
+      go (waits w c rest most replies t f m a d k) =
+          let says = says-asking w (onward most w c rest) answered (asks-at (blockOf o) (style (c .node)) c a) in
+          subst (Stands lent answered x) (sym k)
+          (stands-at w answered (askingAt w replies answered .step) (p .same) (p .itself) d refl (asked-at replies answered f ∙ sym (says .1)) (says .0))
+      go (over w e s d k) =
+          subst (Stands lent answered x) (sym k) (stands-at w answered (finishingAt w answered .step) (p .same) (p .itself) d refl refl refl)
 
   -- at the end the hoisted order is that of the boxes laid out
   ended-order : (w : World) (answered : ℕ) → w .waiting ≡ [] → Sound (lent .working) w
@@ -355,46 +416,55 @@ module _ (o : Opening) (lent : Lent) where
 
 -- ---- the opening, then every call
 
-at-last : (o : Opening) (candidates : List ℕ) (lent : Lent) (heard : List Heard) → allTaken (lent .styles) (opened o candidates lent) heard ≡ true
-    → Position o lent (length heard) (called o candidates lent heard) (talked o candidates lent heard)
+at-last : (o : Opening) (candidates : List ℕ) (lent : Lent) (heard : List Heard) → refusedIn (opened o candidates lent) ≡ false
+    → Through o lent (length (heededIn o candidates lent heard)) (called o candidates lent heard) (courseOf o candidates lent heard)
 unfolding straight atOpening
 at-last o candidates lent heard e = go (opening-way o candidates lent)
   where
-    go : OpeningWay o candidates lent → Position o lent (length heard) (called o candidates lent heard) (talked o candidates lent heard)
-    go (OpeningWay.turnedDown r x) = no (ap refusedIn x) (first-taken o lent (opened o candidates lent) heard e)
+    go : OpeningWay o candidates lent
+        → Through o lent (length (heededIn o candidates lent heard)) (called o candidates lent heard) (courseOf o candidates lent heard)
+    go (OpeningWay.turnedDown r x) = no (ap refusedIn x) e
     go (begins v x) =
         rw zero-add at
-        (all-calls o lent 0 (opened o candidates lent) (talked o candidates lent []) heard
-        (moved-to o lent (x ∙ begun-at o lent candidates) refl
-        (proceed o lent (atOpening (claimsOf o) (candidatesIn candidates)) 4096 0
-        (opening-sound (claimsOf o) (lent .working) candidates (opening-room o candidates lent v))
-        refl))
-        e)
+        (all-calls o lent 0 (opened o candidates lent) (straight 4096 (blockOf o) (claimsOf o) (style o lent) (candidatesIn candidates)) heard
+        (record {
+          last = opened o candidates lent;
+          position =
+              moved-to o lent (x ∙ begun-at o lent candidates) refl
+              (proceed o lent (atOpening (claimsOf o) (candidatesIn candidates)) 4096 0
+              (opening-sound (claimsOf o) (lent .working) candidates (opening-room o candidates lent v))
+              refl);
+          same = refl;
+          itself = λ f. refl;
+        }))
 
 pub straight-run : StraightRun
 straight-run o candidates lent heard e = stands o lent (at-last o candidates lent heard e)
 
 -- ---- the hoisted order
 
--- the world at the end of a dialogue
-abbrev EndsIn : World → Talk World → Type 0
-EndsIn w (done v) = v ≡ w
-EndsIn w (ask q reply) = ⊥
+-- the world at the end of a course
+abbrev EndsIn : World → Course → Type 0
+EndsIn w (ended v) = v ≡ w
+EndsIn w (Course.asks v q reply) = ⊥
 
-not-asking : {A : Type 0} (w : World) (k : Placed → Talk World) {q : Question} {t : Talk Placed} → Asks q t → EndsIn w (t >>= k) → A
-unfolding _>>=_
-not-asking w k (Asks.asks reply) e = absurd e
+not-asking : {A : Type 0} (w v : World) (k : Placed → Course) {q : Question} {t : Talk Placed} → Asks q t → EndsIn w (during v t k) → A
+unfolding during
+not-asking w v k (Asks.asks reply) e = absurd e
 
 pub hoisted-order : HoistedOrder
-hoisted-order o candidates lent heard w e d = go (at-last o candidates lent heard e)
+hoisted-order o candidates lent heard w e d = go (p .position)
   where
-    ending : EndsIn w (talked o candidates lent heard)
+    p : Through o lent (length (heededIn o candidates lent heard)) (called o candidates lent heard) (courseOf o candidates lent heard)
+    p = at-last o candidates lent heard e
+
+    ending : EndsIn w (courseOf o candidates lent heard)
     ending = subst (EndsIn w) (sym d) refl
 
-    go : Position o lent (length heard) (called o candidates lent heard) (talked o candidates lent heard)
+    go : Position o lent (length (heededIn o candidates lent heard)) (p .last) (courseOf o candidates lent heard)
         → hoisted (called o candidates lent heard) ≡ map (λ (b : Box). b .candidate .node) (w .laid)
-    go (waits v c rest most replies t f m a p k) =
-        not-asking w (onward o lent most v c rest) (asks-at (blockOf o) (style o lent (c .node)) c a) (subst (EndsIn w) k ending)
-    go (over v f s p k) =
-        ap hoisted p ∙ ended-order o lent v (length heard) f s
+    go (waits v c rest most replies t f m a x k) =
+        not-asking w v (onward o lent most v c rest) (asks-at (blockOf o) (style o lent (c .node)) c a) (subst (EndsIn w) k ending)
+    go (over v f s x k) =
+        ap hoisted (p .same) ∙ ap hoisted x ∙ ended-order o lent v (length (heededIn o candidates lent heard)) f s
         ∙ ap (λ (v : World). map (λ (b : Box). b .candidate .node) (v .laid)) (subst (EndsIn w) k ending)

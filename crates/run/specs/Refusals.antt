@@ -1,15 +1,13 @@
 -- When a call is refused: the rows of document 01's table, and the order in which they are tested. Assumes nothing.
-use Prim.Native.Nat.{ℕ, _+_, _*_, _/_, _%_}
-use mathlib.Core.Bool.{Bool, true, false, cond, not, _&&_, _||_}
+use Prim.Native.Nat.{ℕ, _*_, _/_, _%_}
+use mathlib.Core.Bool.{Bool, true, false, cond, not, _||_}
 use mathlib.Core.List.{List, []}
 use lib.Dec.{eqb, ltb}
 use lib.ListN.{length}
 use Rattle.refusal.specs.declared.Refusal.{Refusal}
-use Rattle.refusal.specs.declared.Refusal.the-variants.{BadArea, BadExtent, BadStyle, BadCandidate, ListFull, WrongReply}
-use Rattle.tree.specs.declared.layout.OofCandidate.{OofCandidate}
 use Rattle.records.specs.Records.{goodRecords, room}
 use Rattle.style.specs.declared.ContainingBlockClaims.{ContainingBlockClaims}
-use Rattle.sweep.specs.Sweep.{candidatesIn, keep}
+use Rattle.sweep.specs.Sweep.{candidatesIn, claimed, others}
 use Rattle.sweep.specs.declared.Filled.{Filled}
 use Rattle.tree_record.specs.Candidate.{candidateWidth, candidateKinds}
 use Rattle.tree_record.specs.Layout.{layoutWidth}
@@ -22,7 +20,6 @@ use Rattle.oof_box.specs.declared.question.Reply.the-variants.{Both, Width, Hei
 use Rattle.run.specs.declared.Opening.{Opening}
 use Rattle.run.specs.declared.Counts.{Counts}
 use Rattle.run.specs.declared.Extents.{Extents}
-use Rattle.run.specs.declared.State.{State}
 use Rattle.run.specs.Call.{Lent}
 
 infixr 20 _when_else_
@@ -94,8 +91,8 @@ badCandidates styles list = badCandidate styles list (length list / candidateWid
 
 unfoldable pub listFull : ContainingBlockClaims → Lent → Filled → List ℕ → Bool
 listFull by lent filled candidates =
-    not (room candidateWidth (length (lent .working)) (filled .working) (length (keep by true (candidatesIn candidates))))
-    || not (room candidateWidth (length (lent .unclaimed)) (filled .unclaimed) (length (keep by false (candidatesIn candidates))))
+    not (room candidateWidth (length (lent .working)) (filled .working) (length (claimed by (candidatesIn candidates))))
+    || not (room candidateWidth (length (lent .unclaimed)) (filled .unclaimed) (length (others by (candidatesIn candidates))))
 
 -- ---- 6: wrong reply
 

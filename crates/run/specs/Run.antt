@@ -2,11 +2,9 @@
 -- last of each part, first. Assumes nothing.
 use Prim.Native.Nat.{ℕ, _+_, _-_, _*_}
 use mathlib.Core.Bool.{Bool, true, false, cond, _||_}
-use mathlib.Core.List.{List, [], map}
-use lib.Dec.{ltb, eqb}
+use mathlib.Core.List.{List, map}
+use lib.Dec.{ltb}
 use lib.ListN.{length}
-use lib.Ieee.{Float}
-use Rattle.util.specs.Number.{0f}
 use Rattle.geometry.specs.Geometry.{unionOf, zeroRect, zeroSize, zeroPoint}
 use Rattle.geometry.specs.declared.Rect.{Rect}
 use Rattle.refusal.specs.declared.Refusal.{Refusal}
@@ -20,9 +18,9 @@ use Rattle.records.specs.Records.{recordAt, written}
 use Rattle.tree_record.specs.Candidate.{candidateWidth, candidateOf}
 use Rattle.tree_record.specs.Layout.{layoutWidth, layoutWords}
 use Rattle.style_record.specs.Decode.{styleAt}
-use Rattle.sweep.specs.Sweep.{candidatesIn, moved, keep, appended}
+use Rattle.sweep.specs.Sweep.{candidatesIn, moved, claimed, others, appended}
 use Rattle.sweep.specs.declared.Filled.{Filled}
-use Rattle.sweep.specs.declared.Shift.the-variants.{Unmoved, By}
+use Rattle.sweep.specs.declared.Shift.the-variants.{By}
 use Rattle.oof_resolve.specs.declared.ContainingBlock.{ContainingBlock}
 use Rattle.oof_box.specs.Cut.{noReplies, askedAfter, layoutAfter, taken}
 use Rattle.oof_box.specs.declared.question.Reply.{Reply}
@@ -126,8 +124,8 @@ closed lent =
 unfoldable pub begun : Opening → List ℕ → Lent → Outcome
 begun o candidates lent =
     let cs = candidatesIn candidates in
-    let inside = keep (claimsOf o) true cs in
-    let outside = keep (claimsOf o) false cs in
+    let inside = claimed (claimsOf o) cs in
+    let outside = others (claimsOf o) cs in
     let working = appended (lent .working) 0 inside in
     let run : Opened = record { block = blockOf o; claims = claimsOf o; extents = extentsOf lent } in
     let counts : Counts = record { filled = record { working = length inside; unclaimed = length outside }; begun = 0; answered = 0 } in
@@ -183,8 +181,8 @@ laidOut s overflow surfaced lent =
     let box = boxAtHand (lent .working) (s .counts) in
     let placed = layoutAfter (run .block) (styleAt (lent .styles) (box .node)) box (s .replies) overflow in
     let cs = map (moved (By (placed .layout .location))) (candidatesIn surfaced) in
-    let inside = keep (run .claims) true cs in
-    let outside = keep (run .claims) false cs in
+    let inside = claimed (run .claims) cs in
+    let outside = others (run .claims) cs in
     let filled = s .counts .filled in
     let working = appended (lent .working) (filled .working) inside in
     let counts : Counts =
@@ -212,8 +210,3 @@ repliedBy accepted (Laid overflow) s surfaced lent = laidOut s overflow surfaced
 
 unfoldable pub replied : State → Reply → List ℕ → Lent → Outcome
 replied s reply surfaced lent = repliedBy (replyVerdict s reply surfaced lent) (takenBy s reply) s surfaced lent
-
--- ---- the node whose question a reply answered, if it was accepted: what counts of questions by item will read
-
-unfoldable pub answeredNode : State → Lent → ℕ
-answeredNode s lent = boxAtHand (lent .working) (s .counts) .node

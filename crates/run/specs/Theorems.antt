@@ -2,8 +2,9 @@
 -- prove each, under its name in small letters. Assumes nothing.
 use Prim.Native.Nat.{ℕ, _+_, _*_, _≤_}
 use mathlib.Core.Path.{_≡_}
-use mathlib.Core.Bool.{Bool, true, false, not, _&&_}
+use mathlib.Core.Bool.{Bool, true, false, cond}
 use mathlib.Core.List.{List, [], _∷_, _++_, map, foldl}
+use mathlib.Core.Option.{Option, none, some}
 use lib.ListN.{length}
 use Rattle.refusal.specs.declared.Refusal.{Refusal}
 use Rattle.tree.specs.declared.layout.OofCandidate.{OofCandidate}
@@ -11,17 +12,21 @@ use Rattle.records.specs.Records.{written}
 use Rattle.tree_record.specs.Layout.{layoutWidth, layoutWords}
 use Rattle.style_record.specs.Decode.{styleAt}
 use Rattle.sweep.specs.Sweep.{firstCandidates, candidatesIn, appended}
-use Rattle.oof_box.specs.Talk.{Talk, done, ask, ReplyTo}
-use Rattle.oof_box.specs.Theorems.{after}
-use Rattle.oof_box.specs.declared.question.Question.{Question}
+use Rattle.oof_box.specs.Theorems.{replyTo}
 use Rattle.oof_box.specs.declared.question.Reply.{Reply}
 use Rattle.run.specs.declared.Opening.{Opening}
 use Rattle.run.specs.declared.State.{State}
+use Rattle.run.specs.declared.Progress.the-variants.{Finished}
 use Rattle.run.specs.declared.Answer.{Answer}
 use Rattle.run.specs.declared.Answer.the-variants.{Ask, Finish, Refused}
 use Rattle.run.specs.Call.{Lent, Outcome, unwritten}
 use Rattle.run.specs.Run.{opened, replied, closed, claimsOf, blockOf}
-use Rattle.run.specs.Straight.{World, Box, straight}
+use Rattle.run.specs.Straight.{World, Box, Course, ended, asks, straight}
+
+abbrev pub isRefused : Answer → Bool
+isRefused (Ask q) = false
+isRefused (Finish f) = false
+isRefused (Refused r) = true
 
 -- ---- A refused call writes no lent word and returns the state as it came; a refused opening, that of a finished run with all counts 0.
 
@@ -36,6 +41,13 @@ RefusedOpeningKeeps =
     (o : Opening) (candidates : List ℕ) (lent : Lent) (r : Refusal)
     → opened o candidates lent .step .answer ≡ Refused r
     → opened o candidates lent ≡ unwritten lent (record { state = closed lent; answer = Refused r })
+
+-- a finished run refuses every reply, as does one whose opening was refused
+abbrev pub FinishedRefuses : Type 0
+FinishedRefuses =
+    (s : State) (reply : Reply) (surfaced : List ℕ) (lent : Lent)
+    → s .progress ≡ Finished
+    → isRefused (replied s reply surfaced lent .step .answer) ≡ true
 
 -- ---- At most three questions are asked for each box begun, over any list of calls: the caller may rewrite any word between them, and
 -- lend other slices.
@@ -79,8 +91,9 @@ BegunAreHoisted =
     → let a = foldl askedWith (askedAtOpening o candidates lent) calls in
     a .state .counts .begun ≤ a .state .counts .filled .working
 
--- ---- With nobody else writing the lent words, the calls are the straight dialogue: the same questions, and at the finish the same
--- layouts, lists, overflow and count.
+-- ---- With nobody else writing the lent words, the calls are the straight run: after an opening that isn't refused and any list of
+-- replies, refused ones among them, the words are those of the boxes so far, and a call that isn't refused says what the run says next.
+-- A list may end anywhere, so this holds after each call.
 
 -- a reply, and the words of the candidates lent with it
 pub record Heard : Type 0 where
@@ -93,19 +106,31 @@ next styles o h =
     replied (o .step .state) (h .reply) (h .surfaced)
     (record { styles = styles; layouts = o .layouts; working = o .working; unclaimed = o .unclaimed })
 
-abbrev pub isRefused : Answer → Bool
-isRefused (Ask q) = false
-isRefused (Finish f) = false
-isRefused (Refused r) = true
+-- the replies that are not refused
+unfoldable pub heeded : List ℕ → Outcome → List Heard → List Heard
+heeded styles o [] = []
+heeded styles o (h ∷ hs) =
+    let later = heeded styles (next styles o h) hs in
+    cond (isRefused (next styles o h .step .answer)) later (h ∷ later)
 
--- no call is refused
-unfoldable pub allTaken : List ℕ → Outcome → List Heard → Bool
-allTaken styles o [] = not (isRefused (o .step .answer))
-allTaken styles o (h ∷ hs) = not (isRefused (o .step .answer)) && allTaken styles (next styles o h) hs
+-- the course after a reply to its question; a reply of another kind changes nothing
+abbrev pub orStay : {R : Type 0} → Option R → (R → Course) → Course → Course
+orStay none next stay = stay
+orStay (some r) next stay = next r
 
--- the dialogue after a reply to its question; a reply of another kind changes nothing
-unfoldable pub hearing : Talk World → Heard → Talk World
-hearing talk h = after talk (record { reply = h .reply; surfaced = candidatesIn (h .surfaced) })
+unfoldable pub hearing : Course → Heard → Course
+hearing (ended w) h = ended w
+hearing (asks w q next) h = orStay (replyTo q (record { reply = h .reply; surfaced = candidatesIn (h .surfaced) })) next (asks w q next)
+
+-- how far it has come
+abbrev pub soFar : Course → World
+soFar (ended w) = w
+soFar (asks w q next) = w
+
+-- what it says next, after so many replies
+abbrev pub saidAfter : ℕ → Course → Answer
+saidAfter answered (ended w) = Finish (record { overflow = w .overflow; count = answered })
+saidAfter answered (asks w q next) = Ask q
 
 -- the layouts of a run's boxes, written in turn, each at its node's place: a node claimed twice has its last layout
 unfoldable pub laidInto : List ℕ → List Box → List ℕ
@@ -116,31 +141,32 @@ laidInto layouts (b ∷ bs) = laidInto (written layouts (layoutWidth * b .candid
 abbrev pub claimedIn : World → List OofCandidate
 claimedIn w = map (λ (b : Box). b .candidate) (w .laid) ++ w .waiting
 
--- what a call left is where the dialogue stands: its question; or, at its end, the finish and every word
-pub data Stands (lent : Lent) (answered : ℕ) : Outcome → Talk World → Type 0 where
-  asks : {o : Outcome} {q : Question} {reply : ReplyTo q → Talk World} → o .step .answer ≡ Ask q → Stands lent answered o (ask q reply)
-  ends :
-      {o : Outcome} {w : World}
-      → o .step .answer ≡ Finish (record { overflow = w .overflow; count = answered })
-      → o .layouts ≡ laidInto (lent .layouts) (w .laid)
-      → o .working ≡ appended (lent .working) 0 (claimedIn w)
-      → o .unclaimed ≡ appended (lent .unclaimed) 0 (w .unclaimed)
-      → Stands lent answered o (done w)
+-- what a call left is where the course stands: every word of the lent slices, the records filled, and the answer unless it is a refusal
+pub record Stands (lent : Lent) (answered : ℕ) (o : Outcome) (course : Course) : Type 0 where
+  pub layouts : o .layouts ≡ laidInto (lent .layouts) (soFar course .laid)
+  pub working : o .working ≡ appended (lent .working) 0 (claimedIn (soFar course))
+  pub unclaimed : o .unclaimed ≡ appended (lent .unclaimed) 0 (soFar course .unclaimed)
+  pub filled : o .step .state .counts .filled ≡ record { working = length (claimedIn (soFar course)); unclaimed = length (soFar course .unclaimed) }
+  pub answer : isRefused (o .step .answer) ≡ false → o .step .answer ≡ saidAfter answered course
 
 -- what an opening and the calls after it leave
 abbrev pub called : Opening → List ℕ → Lent → List Heard → Outcome
 called o candidates lent heard = foldl (next (lent .styles)) (opened o candidates lent) heard
 
--- and where the dialogue stands; 4,096 records are the most that a working list holds
-abbrev pub talked : Opening → List ℕ → Lent → List Heard → Talk World
-talked o candidates lent heard =
-    foldl hearing (straight 4096 (blockOf o) (claimsOf o) (styleAt (lent .styles)) (candidatesIn candidates)) heard
+-- the replies among them that are not refused
+abbrev pub heededIn : Opening → List ℕ → Lent → List Heard → List Heard
+heededIn o candidates lent heard = heeded (lent .styles) (opened o candidates lent) heard
+
+-- and where the straight run stands after these; 4,096 records are the most that a working list holds
+abbrev pub courseOf : Opening → List ℕ → Lent → List Heard → Course
+courseOf o candidates lent heard =
+    foldl hearing (straight 4096 (blockOf o) (claimsOf o) (styleAt (lent .styles)) (candidatesIn candidates)) (heededIn o candidates lent heard)
 
 abbrev pub StraightRun : Type 0
 StraightRun =
     (o : Opening) (candidates : List ℕ) (lent : Lent) (heard : List Heard)
-    → allTaken (lent .styles) (opened o candidates lent) heard ≡ true
-    → Stands lent (length heard) (called o candidates lent heard) (talked o candidates lent heard)
+    → isRefused (opened o candidates lent .step .answer) ≡ false
+    → Stands lent (length (heededIn o candidates lent heard)) (called o candidates lent heard) (courseOf o candidates lent heard)
 
 -- ---- The hoisted order.
 
@@ -152,10 +178,10 @@ claimedSoFar o = firstCandidates (o .step .state .counts .filled .working) (o .w
 abbrev pub hoisted : Outcome → List ℕ
 hoisted o = map (λ (c : OofCandidate). c .node) (claimedSoFar o)
 
--- at the end of a run it is that of the dialogue's boxes
+-- at the end of a run it is that of the boxes laid out
 abbrev pub HoistedOrder : Type 0
 HoistedOrder =
     (o : Opening) (candidates : List ℕ) (lent : Lent) (heard : List Heard) (w : World)
-    → allTaken (lent .styles) (opened o candidates lent) heard ≡ true
-    → talked o candidates lent heard ≡ done w
+    → isRefused (opened o candidates lent .step .answer) ≡ false
+    → courseOf o candidates lent heard ≡ ended w
     → hoisted (called o candidates lent heard) ≡ map (λ (b : Box). b .candidate .node) (w .laid)
