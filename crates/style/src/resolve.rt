@@ -91,10 +91,13 @@ pub fn resolve(field: Field, length: CompactLength, basis: f32) -> Resolved
     }
 }
 
-// Whether a tag is one of the ten.
+// Whether a tag is one of the ten. Those below 60 are bits of one word to the compiler; with 75 among them it would jump by a table.
 fn is_tag(tag: u32) -> bool
     ensures { λ r. ⌜ r ≡ takes Field.Size tag ⌝ }
 {
+    if 59 < tag {
+        return tag == 75;
+    }
     match tag {
         1 => true,
         3 => true,
@@ -105,7 +108,6 @@ fn is_tag(tag: u32) -> bool
         35 => true,
         43 => true,
         59 => true,
-        75 => true,
         _ => false,
     }
 }
