@@ -25,15 +25,16 @@ fn tell(
 {
     let s = step.state;
     let a = step.answer;
+    let words = state::state_words(s);
     match a {
         Answer::Refused(refusal) => refusal.number(),
         Answer::Ask(question) => {
-            *state = state::state_words(s);
+            *state = words;
             *answer = answer::question_words(question);
             0
         }
         Answer::Finish(finish) => {
-            *state = state::state_words(s);
+            *state = words;
             *answer = answer::finish_words(finish);
             0
         }

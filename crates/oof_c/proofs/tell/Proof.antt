@@ -9,35 +9,31 @@ use Rattle.oof_c.proofs.answer.question_words.Reads as question-words-r
 use Rattle.oof_c.proofs.state.state_words.Reads as state-words-reads
 use Rattle.refusal.proofs.Refusal.number.Reads as number-reads
 
--- src/lib.rt:29:25
-enum-known-a : tie.Need-enum-known-a
-enum-known-a c = search needs
-
--- src/lib.rt:29:37
-number-requires : tie.Need-number-requires
-number-requires c κs = search needs
-
--- src/lib.rt:30:21
-enum-known-a-2 : tie.Need-enum-known-a-2
-enum-known-a-2 c = search needs
-
--- src/lib.rt:31:22
+-- src/lib.rt:28:9
 state-words-requires : tie.Need-state-words-requires
 state-words-requires c κs = search needs
 
--- src/lib.rt:32:23
+-- src/lib.rt:30:25
+enum-known-a : tie.Need-enum-known-a
+enum-known-a c = search needs
+
+-- src/lib.rt:30:37
+number-requires : tie.Need-number-requires
+number-requires c κs = search needs
+
+-- src/lib.rt:31:21
+enum-known-a-2 : tie.Need-enum-known-a-2
+enum-known-a-2 c = search needs
+
+-- src/lib.rt:33:23
 question-words-requires : tie.Need-question-words-requires
 question-words-requires c κs = search needs
 
--- src/lib.rt:35:24
+-- src/lib.rt:36:24
 enum-known-a-3 : tie.Need-enum-known-a-3
 enum-known-a-3 c = search needs
 
--- src/lib.rt:36:22
-state-words-requires-2 : tie.Need-state-words-requires-2
-state-words-requires-2 c κs = search needs
-
--- src/lib.rt:37:23
+-- src/lib.rt:38:23
 finish-words-requires : tie.Need-finish-words-requires
 finish-words-requires c κs = search needs
 
@@ -47,23 +43,22 @@ returns c = refused-told _ _ _ _ _ (c .before .before .a .given .1) (c .number .
 
 -- src/lib.rt:19:1
 returns-2 : tie.Need-returns-2
-returns-2 c = asked-told _ _ _ _ _ _ (c .before .before .before .a2 .given .1) (c .before .state-words .ensures) (c .question-words .ensures)
+returns-2 c = asked-told _ _ _ _ _ _ (c .before .before .a2 .given .1) (c .before .before .before .before .state-words .ensures) (c .question-words .ensures)
 
 -- src/lib.rt:19:1
 returns-3 : tie.Need-returns-3
-returns-3 c = finished-told _ _ _ _ _ _ (c .before .before .before .a3 .given .1) (c .before .state-words2 .ensures) (c .finish-words .ensures)
+returns-3 c = finished-told _ _ _ _ _ _ (c .before .before .a3 .given .1) (c .before .before .before .before .state-words .ensures) (c .finish-words .ensures)
 
 pub tell-spec : {M : Type 1} → statement M
 tell-spec =
     tie.close
     (tie.spec
+    state-words-requires
     enum-known-a
     number-requires
     enum-known-a-2
-    state-words-requires
     question-words-requires
     enum-known-a-3
-    state-words-requires-2
     finish-words-requires
     returns
     returns-2
