@@ -1,0 +1,230 @@
+/* An English panel and its Arabic mirror image, placed by callbacks and printed side by side. A label stands 20 pixels from
+ * the start edge and 12 from the top of an 800 by 480 panel; its size is what the font says. */
+#include <stdio.h>
+#include <stdlib.h>
+#include "oof.h"
+
+/* ---- what a toolkit provides: how large a node's content is, and its layout at a given size */
+
+typedef struct {
+    float width, height;
+} size;
+
+typedef struct {
+    void *context;
+    size (*measure)(void *context, const uint32_t *question);
+    void (*lay_out)(void *context, const uint32_t *question, float overflow[4]);
+} host;
+
+/* ---- a panel: the words of one run, and what was said */
+
+enum { LINES = 4, COLUMN = 96 };
+
+typedef struct {
+    uint32_t direction;
+    uint32_t styles[OOF_STYLE_WORDS];
+    uint32_t candidates[OOF_CANDIDATE_WORDS];
+    uint32_t layouts[OOF_LAYOUT_WORDS];
+    uint32_t working[OOF_CANDIDATE_WORDS];
+    uint32_t unclaimed[OOF_CANDIDATE_WORDS];
+    uint32_t state[OOF_STATE_WORDS];
+    uint32_t answer[OOF_ANSWER_WORDS];
+    char said[LINES][COLUMN];
+    int lines;
+} panel;
+
+/* the words that every call is lent */
+#define LENT(p)                                                                                                       \
+    (p)->styles, OOF_STYLE_WORDS, (p)->layouts, OOF_LAYOUT_WORDS, (p)->working, OOF_CANDIDATE_WORDS, (p)->unclaimed,   \
+        OOF_CANDIDATE_WORDS, (p)->state, (p)->answer
+
+static const float panel_width = 800, panel_height = 480;
+
+/* a label whose lengths are auto or 0, but for those of its panel */
+static panel panel_of(uint32_t direction)
+{
+    panel p;
+    memset(&p, 0, sizeof p); /* a state of zeros is a finished run */
+    p.direction = direction;
+    for (size_t at = OOF_INSET_LEFT; at <= OOF_INSET_BOTTOM; at += 2)
+        oof_set_length(p.styles, at, OOF_AUTO, 0);
+    for (size_t at = OOF_MARGIN_LEFT; at <= OOF_BORDER_BOTTOM; at += 2)
+        oof_set_length(p.styles, at, OOF_PX, 0);
+    for (size_t at = OOF_WIDTH; at <= OOF_MAX_HEIGHT; at += 2)
+        oof_set_length(p.styles, at, OOF_AUTO, 0);
+    p.styles[OOF_DIRECTION] = direction;
+    p.styles[OOF_JUSTIFY] = OOF_ALIGN_ABSENT;
+    p.styles[OOF_ALIGN] = OOF_ALIGN_ABSENT;
+    oof_set_length(p.styles, OOF_INSET_TOP, OOF_PX, 12);
+    p.candidates[OOF_POSITION] = OOF_ABSOLUTE;
+    return p;
+}
+
+static panel english(void)
+{
+    panel p = panel_of(OOF_LEFT_TO_RIGHT);
+    oof_set_length(p.styles, OOF_INSET_LEFT, OOF_PX, 20);
+    oof_set_length(p.styles, OOF_PADDING_LEFT, OOF_PX, 8);
+    oof_set_length(p.styles, OOF_PADDING_RIGHT, OOF_PX, 16);
+    return p;
+}
+
+/* the mirror image: direction flipped, left and right exchanged, the static position reflected */
+static panel arabic(void)
+{
+    panel p = panel_of(OOF_RIGHT_TO_LEFT);
+    oof_set_length(p.styles, OOF_INSET_RIGHT, OOF_PX, 20);
+    oof_set_length(p.styles, OOF_PADDING_LEFT, OOF_PX, 16);
+    oof_set_length(p.styles, OOF_PADDING_RIGHT, OOF_PX, 8);
+    p.candidates[OOF_X_START] = oof_word(panel_width);
+    p.candidates[OOF_X_END] = oof_word(panel_width);
+    p.candidates[OOF_X_EDGE] = OOF_END;
+    p.candidates[OOF_X_FALLBACK] = OOF_END;
+    return p;
+}
+
+/* ---- the host's side: callbacks that also note what they were asked */
+
+static char *next_line(panel *p)
+{
+    return p->said[p->lines < LINES ? p->lines++ : LINES - 1];
+}
+
+static const char *known(const uint32_t *question, int at, char *text, size_t room)
+{
+    if (question[at] == OOF_NOT_KNOWN)
+        return "none";
+    snprintf(text, room, "%g", oof_float(question[at + 1]));
+    return text;
+}
+
+static const char *space(const uint32_t *question, int at, char *text, size_t room)
+{
+    if (question[at] == OOF_SPACE_MIN_CONTENT)
+        return "min-content";
+    if (question[at] == OOF_SPACE_MAX_CONTENT)
+        return "max-content";
+    snprintf(text, room, "%g", oof_float(question[at + 1]));
+    return text;
+}
+
+static void note_question(panel *p, const uint32_t *question)
+{
+    char text[4][16];
+    snprintf(next_line(p), COLUMN, "%s by %s in %s by %s",
+             known(question, OOF_KNOWN_WIDTH, text[0], sizeof text[0]),
+             known(question, OOF_KNOWN_HEIGHT, text[1], sizeof text[1]),
+             space(question, OOF_AVAILABLE_WIDTH, text[2], sizeof text[2]),
+             space(question, OOF_AVAILABLE_HEIGHT, text[3], sizeof text[3]));
+}
+
+static size measure_label(void *context, const uint32_t *question)
+{
+    panel *p = context;
+    size font = {120, 18};
+    note_question(p, question);
+    snprintf(next_line(p), COLUMN, "%g by %g", font.width, font.height);
+    return font;
+}
+
+static void lay_out_label(void *context, const uint32_t *question, float overflow[4])
+{
+    panel *p = context;
+    note_question(p, question);
+    for (int side = 0; side < 4; side++)
+        overflow[side] = 0;
+    snprintf(next_line(p), COLUMN, "no overflow, nothing surfaced");
+}
+
+/* ---- a run: from the opening to the finish, one callback a question */
+
+static uint32_t answer_question(panel *p, const host *h)
+{
+    const uint32_t none[1] = {0}; /* a pointer isn't null, also where nothing is lent */
+    float overflow[4];
+    switch (p->answer[OOF_ANSWER_KIND]) {
+    case OOF_MEASURE_BOTH: {
+        size s = h->measure(h->context, p->answer);
+        return oof_reply_both(s.width, s.height, LENT(p));
+    }
+    case OOF_MEASURE_WIDTH:
+        return oof_reply_width(h->measure(h->context, p->answer).width, LENT(p));
+    case OOF_MEASURE_HEIGHT:
+        return oof_reply_height(h->measure(h->context, p->answer).height, LENT(p));
+    default: /* OOF_LAY_OUT */
+        h->lay_out(h->context, p->answer, overflow);
+        return oof_reply_laid_out(overflow[0], overflow[1], overflow[2], overflow[3], none, 0, LENT(p));
+    }
+}
+
+static uint32_t place(panel *p)
+{
+    const host toolkit = {p, measure_label, lay_out_label};
+    uint32_t result = oof_open(panel_width, panel_height, 0, 0, p->direction, OOF_CLAIMS_ABSOLUTE, OOF_VISIBLE,
+                               OOF_VISIBLE, p->styles, OOF_STYLE_WORDS, p->candidates, OOF_CANDIDATE_WORDS,
+                               p->layouts, OOF_LAYOUT_WORDS, p->working, OOF_CANDIDATE_WORDS, p->unclaimed,
+                               OOF_CANDIDATE_WORDS, p->state, p->answer);
+    while (result == OOF_ACCEPTED && p->answer[OOF_ANSWER_KIND] != OOF_FINISH)
+        result = answer_question(p, &toolkit);
+    return result;
+}
+
+/* ---- side by side */
+
+static float layout(const panel *p, int word)
+{
+    return oof_float(p->layouts[word]);
+}
+
+static void row(const char *what, const char *left, const char *right)
+{
+    printf("%-14s| %-31s| %s\n", what, left, right);
+}
+
+static void print_both(const panel *e, const panel *a)
+{
+    const char *what[LINES] = {"measure both", "  reply", "lay out", "  reply"};
+    const panel *both[2] = {e, a};
+    char text[3][2][COLUMN];
+    for (int k = 0; k < 2; k++) {
+        const uint32_t *f = both[k]->answer;
+        snprintf(text[0][k], COLUMN, "%g to %g, %g to %g; %u questions", oof_float(f[OOF_FINISH_LEFT]),
+                 oof_float(f[OOF_FINISH_RIGHT]), oof_float(f[OOF_FINISH_TOP]), oof_float(f[OOF_FINISH_BOTTOM]),
+                 (unsigned)f[OOF_FINISH_COUNT]);
+        snprintf(text[1][k], COLUMN, "x %g, y %g, %g by %g", layout(both[k], OOF_LAYOUT_X),
+                 layout(both[k], OOF_LAYOUT_Y), layout(both[k], OOF_LAYOUT_WIDTH), layout(both[k], OOF_LAYOUT_HEIGHT));
+        snprintf(text[2][k], COLUMN, "left %g, right %g", layout(both[k], OOF_LAYOUT_PADDING),
+                 layout(both[k], OOF_LAYOUT_PADDING + 1));
+    }
+    row("", "English panel", "Arabic panel");
+    for (int k = 0; k < LINES; k++)
+        row(what[k], e->said[k], a->said[k]);
+    row("finish", text[0][0], text[0][1]);
+    row("layout", text[1][0], text[1][1]);
+    row("  padding", text[2][0], text[2][1]);
+}
+
+/* a reply that no question waits for: refused, and no word is written */
+static int refused_by_name(panel *p)
+{
+    const panel before = *p;
+    uint32_t result = oof_reply_width(120, LENT(p));
+    printf("a width after the finish: refused %u, %s; %s\n", (unsigned)result, oof_refusal_name(result),
+           memcmp(&before, p, sizeof before) == 0 ? "no word changed" : "WORDS CHANGED");
+    return result == OOF_WRONG_REPLY && memcmp(&before, p, sizeof before) == 0;
+}
+
+int main(void)
+{
+    panel e = english(), a = arabic();
+    uint32_t first = place(&e), second = place(&a);
+    if (first != OOF_ACCEPTED || second != OOF_ACCEPTED) {
+        printf("refused: %s, %s\n", oof_refusal_name(first), oof_refusal_name(second));
+        return EXIT_FAILURE;
+    }
+    print_both(&e, &a);
+    float x = layout(&e, OOF_LAYOUT_X), image = layout(&a, OOF_LAYOUT_X), width = layout(&e, OOF_LAYOUT_WIDTH);
+    int mirrored = x + image + width == panel_width;
+    printf("%g + %g + %g is %g: %s\n", x, image, width, x + image + width, mirrored ? "mirrored" : "NOT MIRRORED");
+    return refused_by_name(&e) && mirrored ? EXIT_SUCCESS : EXIT_FAILURE;
+}

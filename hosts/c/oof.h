@@ -1,0 +1,337 @@
+/* Out-of-flow placement for C: places absolutely positioned boxes by a dialogue between a run and its host.
+ *
+ * A host opens a run with oof_open, reads the question that stands in the answer's words, and replies with the entry of
+ * that question's kind, until the answer is a finish. Then the layouts hold each placed box.
+ *
+ *     result = oof_open(.., state, answer);
+ *     while (result == 0 && answer[OOF_ANSWER_KIND] != OOF_FINISH)
+ *         result = oof_reply_..(.., state, answer);
+ *
+ * RESULT. 0: the call was accepted, and the answer's words say what comes next. 1 to 6: it was refused, for the reason
+ * of that number (enum oof_refusal), and NO LENT WORD WAS WRITTEN: layouts, lists, state and answer keep every bit, so
+ * the call can be mended and made again.
+ *
+ * POINTERS. Each slice is a pointer, then its length in 32-bit words. What a host owes:
+ *   - every pointer is aligned for uint32_t and points at so many words that may be read (and written, where it isn't
+ *     const); `state` at OOF_STATE_WORDS of them, `answer` at OOF_ANSWER_WORDS;
+ *   - no pointer is null, also where the length is 0;
+ *   - no two slices of a call overlap, state and answer included;
+ *   - nobody else writes the words during a call.
+ * The words themselves may be any: whatever bits they hold, the call does what is defined, or is refused as defined.
+ * No pointer is kept after a call, nothing is allocated and there are no globals: runs over different words may go on
+ * in any order, and in different threads.
+ *
+ * NUMBERS. Floats stand in words by their bits (oof_word, oof_float). Every NaN written is 7FC00000 hex. */
+#ifndef OOF_H
+#define OOF_H
+
+#include <stddef.h>
+#include <stdint.h>
+#include <string.h>
+
+#ifdef __cplusplus
+extern "C" {
+#endif
+
+/* ---- widths of the records, in words, and limits */
+
+enum {
+    OOF_STYLE_WORDS = 57,
+    OOF_CANDIDATE_WORDS = 13,
+    OOF_LAYOUT_WORDS = 23,
+    OOF_STATE_WORDS = 27,
+    OOF_ANSWER_WORDS = 10,
+    OOF_MOST_ITEMS = 1024,  /* of a table of styles */
+    OOF_MOST_RECORDS = 4096 /* of a working or an unclaimed list */
+};
+
+/* ---- refusals */
+
+enum oof_refusal {
+    OOF_ACCEPTED = 0,
+    OOF_BAD_AREA = 1,      /* an opening's direction, claims or overflow code is outside its list */
+    OOF_BAD_EXTENT = 2,    /* a slice isn't whole records, is too long, or has another length than at the opening */
+    OOF_BAD_STYLE = 3,     /* a tag or code that its field doesn't take, in any item of the table */
+    OOF_BAD_CANDIDATE = 4, /* a node outside the table, or a code outside its list */
+    OOF_LIST_FULL = 5,     /* the claimed or the unclaimed records would exceed their list */
+    OOF_WRONG_REPLY = 6    /* not the open question's kind, no question open, or a state whose counts don't fit */
+};
+
+static inline const char *oof_refusal_name(uint32_t result)
+{
+    switch (result) {
+    case OOF_ACCEPTED: return "accepted";
+    case OOF_BAD_AREA: return "bad area";
+    case OOF_BAD_EXTENT: return "bad extent";
+    case OOF_BAD_STYLE: return "bad style";
+    case OOF_BAD_CANDIDATE: return "bad candidate";
+    case OOF_LIST_FULL: return "list full";
+    case OOF_WRONG_REPLY: return "wrong reply";
+    default: return "no result of these entries";
+    }
+}
+
+/* ---- floats by their bits */
+
+static inline uint32_t oof_word(float value)
+{
+    uint32_t word;
+    memcpy(&word, &value, sizeof word);
+    return word;
+}
+
+static inline float oof_float(uint32_t word)
+{
+    float value;
+    memcpy(&value, &word, sizeof value);
+    return value;
+}
+
+/* ---- codes */
+
+enum { OOF_LEFT_TO_RIGHT = 0, OOF_RIGHT_TO_LEFT = 1 };
+enum { OOF_CLAIMS_ABSOLUTE = 1, OOF_CLAIMS_FIXED = 2 }; /* bits: 3 is both */
+enum { OOF_VISIBLE = 0, OOF_CLIP = 1, OOF_HIDDEN = 2, OOF_SCROLL = 3 };
+enum { OOF_STATIC = 0, OOF_RELATIVE = 1, OOF_ABSOLUTE = 2, OOF_FIXED = 3, OOF_STICKY = 4 };
+enum { OOF_START = 0, OOF_CENTER = 1, OOF_END = 2 };           /* a static position's edge */
+enum { OOF_DEFAULT = 0, OOF_UNSAFE = 1, OOF_SAFE = 2 };        /* safety */
+enum { OOF_BORDER_BOX = 0, OOF_CONTENT_BOX = 1 };
+enum { OOF_REPLACED = 1, OOF_TABLE = 2 };                      /* bits of the flags */
+enum { OOF_CONTAIN_LAYOUT = 1, OOF_CONTAIN_PAINT = 2 };        /* bits of contain, 0 to 255 */
+
+/* justify and align */
+enum {
+    OOF_ALIGN_NORMAL = 0,
+    OOF_ALIGN_START = 1,
+    OOF_ALIGN_END = 2,
+    OOF_ALIGN_FLEX_START = 3,
+    OOF_ALIGN_FLEX_END = 4,
+    OOF_ALIGN_SELF_START = 5,
+    OOF_ALIGN_SELF_END = 6,
+    OOF_ALIGN_CENTER = 7,
+    OOF_ALIGN_BASELINE = 8,
+    OOF_ALIGN_STRETCH = 9,
+    OOF_ALIGN_ABSENT = 10 /* normal with default safety; its safety word is ignored */
+};
+
+/* tags of lengths. Insets and margins take px, auto and percent; padding and border px and percent; the sizes all. */
+enum {
+    OOF_PX = 1,
+    OOF_AUTO = 3,
+    OOF_PERCENT = 5, /* the value is a fraction: 0.5 is 50 % */
+    OOF_MIN_CONTENT = 11,
+    OOF_FIT_CONTENT_PERCENT = 15,
+    OOF_MAX_CONTENT = 27,
+    OOF_CONTENT = 35,
+    OOF_FIT_CONTENT_PX = 43,
+    OOF_FIT_CONTENT = 59,
+    OOF_STRETCH = 75
+};
+
+/* ---- a style, 57 words: 22 lengths of two words each (tag, value), then 13 words. The name is the tag's word number;
+ * the value's is one more. Item i of a table begins at word OOF_STYLE_WORDS * i. */
+
+enum {
+    OOF_INSET_LEFT = 0,
+    OOF_INSET_RIGHT = 2,
+    OOF_INSET_TOP = 4,
+    OOF_INSET_BOTTOM = 6,
+    OOF_MARGIN_LEFT = 8,
+    OOF_MARGIN_RIGHT = 10,
+    OOF_MARGIN_TOP = 12,
+    OOF_MARGIN_BOTTOM = 14,
+    OOF_PADDING_LEFT = 16,
+    OOF_PADDING_RIGHT = 18,
+    OOF_PADDING_TOP = 20,
+    OOF_PADDING_BOTTOM = 22,
+    OOF_BORDER_LEFT = 24,
+    OOF_BORDER_RIGHT = 26,
+    OOF_BORDER_TOP = 28,
+    OOF_BORDER_BOTTOM = 30,
+    OOF_WIDTH = 32,
+    OOF_HEIGHT = 34,
+    OOF_MIN_WIDTH = 36,
+    OOF_MIN_HEIGHT = 38,
+    OOF_MAX_WIDTH = 40,
+    OOF_MAX_HEIGHT = 42,
+    OOF_RATIO_PRESENT = 44, /* 0 or 1 */
+    OOF_RATIO = 45,         /* float: width by height */
+    OOF_BOX_SIZING = 46,
+    OOF_FLAGS = 47,
+    OOF_DIRECTION = 48,
+    OOF_JUSTIFY = 49,
+    OOF_JUSTIFY_SAFETY = 50,
+    OOF_ALIGN = 51,
+    OOF_ALIGN_SAFETY = 52,
+    OOF_OVERFLOW_X = 53,
+    OOF_OVERFLOW_Y = 54,
+    OOF_SCROLLBAR_WIDTH = 55, /* float */
+    OOF_CONTAIN = 56
+};
+
+/* Writes a length of a style: `at` is the tag's word number. */
+static inline void oof_set_length(uint32_t *style, size_t at, uint32_t tag, float value)
+{
+    style[at] = tag;
+    style[at + 1] = oof_word(value);
+}
+
+/* ---- a candidate, 13 words */
+
+enum {
+    OOF_NODE = 0,  /* which item of the table of styles */
+    OOF_ORDER = 1, /* copied to the layout */
+    OOF_POSITION = 2,
+    OOF_X_START = 3, /* float: the static area in x, in the area's coordinates */
+    OOF_X_END = 4,
+    OOF_X_EDGE = 5,
+    OOF_X_SAFETY = 6,
+    OOF_X_FALLBACK = 7, /* an edge */
+    OOF_Y_START = 8,
+    OOF_Y_END = 9,
+    OOF_Y_EDGE = 10,
+    OOF_Y_SAFETY = 11,
+    OOF_Y_FALLBACK = 12
+};
+
+/* ---- a layout, 23 words, all floats but the order. Node i's begins at word OOF_LAYOUT_WORDS * i. */
+
+enum {
+    OOF_LAYOUT_ORDER = 0,
+    OOF_LAYOUT_WIDTH = 1,
+    OOF_LAYOUT_HEIGHT = 2,
+    OOF_LAYOUT_OVERFLOW = 3, /* four words, as the three below: left, right, top, bottom */
+    OOF_LAYOUT_SCROLLBAR_WIDTH = 7,
+    OOF_LAYOUT_SCROLLBAR_HEIGHT = 8,
+    OOF_LAYOUT_X = 9, /* the offset of the area included */
+    OOF_LAYOUT_Y = 10,
+    OOF_LAYOUT_PADDING = 11,
+    OOF_LAYOUT_BORDER = 15,
+    OOF_LAYOUT_MARGIN = 19
+};
+
+/* ---- the answer, 10 words */
+
+enum { OOF_ANSWER_KIND = 0 };
+
+/* its kinds: the finish, or a question */
+enum {
+    OOF_FINISH = 0,
+    OOF_MEASURE_BOTH = 1,   /* reply with oof_reply_both */
+    OOF_MEASURE_WIDTH = 2,  /* with oof_reply_width */
+    OOF_MEASURE_HEIGHT = 3, /* with oof_reply_height */
+    OOF_LAY_OUT = 4         /* with oof_reply_laid_out */
+};
+
+/* a question */
+enum {
+    OOF_QUESTION_NODE = 1,
+    OOF_KNOWN_WIDTH = 2,       /* OOF_NOT_KNOWN or OOF_KNOWN; the float is the next word, 0 if not known. Of lay out: */
+    OOF_KNOWN_HEIGHT = 4,      /* the final size, which is always known */
+    OOF_AVAILABLE_WIDTH = 6,   /* OOF_DEFINITE or a keyword; the float is the next word, 0 if not definite */
+    OOF_AVAILABLE_HEIGHT = 8
+};
+
+enum { OOF_NOT_KNOWN = 0, OOF_KNOWN = 1 };
+enum { OOF_DEFINITE = 0, OOF_SPACE_MIN_CONTENT = 1, OOF_SPACE_MAX_CONTENT = 2 };
+
+/* the finish; words 6 to 9 are 0 */
+enum {
+    OOF_FINISH_COUNT = 1, /* questions answered */
+    OOF_FINISH_LEFT = 2,  /* floats: the scrollable overflow that the boxes add */
+    OOF_FINISH_RIGHT = 3,
+    OOF_FINISH_TOP = 4,
+    OOF_FINISH_BOTTOM = 5
+};
+
+/* ---- the state, 27 words. A host hands it back as it came, and starts with 27 zeros, which are a finished run. It need
+ * not read it; what the words mean all the same: */
+
+enum {
+    OOF_STATE_PROGRESS = 0, /* 0 finished, 1 to 3 the question for size keywords (both, width, height), 4 the question that
+                               fills absent sides, 5 lay out; any other is finished */
+    OOF_STATE_KEYWORD = 1,  /* the reply to the first: 0 none, 1 both, 2 width, 3 height; then width, height */
+    OOF_STATE_FILL = 4,     /* the reply to the second: 0 none, 1 both; then width, height */
+    OOF_STATE_WORKING = 7,  /* filled records of the working list: after the finish, the first so many nodes of that list
+                               are the hoisted order */
+    OOF_STATE_UNCLAIMED = 8, /* filled records of the unclaimed list */
+    OOF_STATE_BEGUN = 9,    /* boxes begun */
+    OOF_STATE_ANSWERED = 10, /* questions answered */
+    OOF_STATE_OVERFLOW = 11, /* left, right, top, bottom so far */
+    OOF_STATE_AREA = 15,    /* width, height, x, y */
+    OOF_STATE_DIRECTION = 19,
+    OOF_STATE_CLAIMS = 20,
+    OOF_STATE_OVERFLOW_X = 21,
+    OOF_STATE_OVERFLOW_Y = 22,
+    OOF_STATE_LENGTHS = 23  /* lent at the opening, in words: styles, layouts, working, unclaimed */
+};
+
+/* ---- the entries
+ *
+ * In every call of a run:
+ *   styles      one record an item, at most OOF_MOST_ITEMS; only read
+ *   layouts     one record an item; a box's is written when it is laid out, at its node's place
+ *   working     room for the claimed candidates, whole records, at most OOF_MOST_RECORDS
+ *   unclaimed   room for the others, the same
+ *   state       what the run keeps between calls
+ *   answer      the question or the finish
+ * A run is lent slices of the same lengths throughout. Their words are read afresh at each call. */
+
+/* Opens a run over an area: its size, and its offset x and y in the caller's coordinates (any floats).
+ *   direction   OOF_LEFT_TO_RIGHT or OOF_RIGHT_TO_LEFT
+ *   claims      which candidates are placed here: OOF_CLAIMS_ABSOLUTE, OOF_CLAIMS_FIXED, both (3) or none
+ *   overflow_x, overflow_y   of the container: OOF_VISIBLE to OOF_SCROLL
+ *   candidates  any number of whole records; only read. The claimed ones go to `working`, the others to `unclaimed`.
+ * Without a claimed candidate the answer is a finish at once. Refuses with 1, 2, 3, 4, 5, tested in this order. */
+uint32_t oof_open(float width, float height, float x, float y,
+                  uint32_t direction, uint32_t claims, uint32_t overflow_x, uint32_t overflow_y,
+                  const uint32_t *styles, size_t styles_len,
+                  const uint32_t *candidates, size_t candidates_len,
+                  uint32_t *layouts, size_t layouts_len,
+                  uint32_t *working, size_t working_len,
+                  uint32_t *unclaimed, size_t unclaimed_len,
+                  uint32_t *state, uint32_t *answer);
+
+/* The replies refuse with 2, 6, 3, 4, 5, tested in this order. */
+
+/* Replies to OOF_MEASURE_BOTH: the width and height of the node's box, padding and border included. */
+uint32_t oof_reply_both(float width, float height,
+                        const uint32_t *styles, size_t styles_len,
+                        uint32_t *layouts, size_t layouts_len,
+                        uint32_t *working, size_t working_len,
+                        uint32_t *unclaimed, size_t unclaimed_len,
+                        uint32_t *state, uint32_t *answer);
+
+/* Replies to OOF_MEASURE_WIDTH. */
+uint32_t oof_reply_width(float width,
+                         const uint32_t *styles, size_t styles_len,
+                         uint32_t *layouts, size_t layouts_len,
+                         uint32_t *working, size_t working_len,
+                         uint32_t *unclaimed, size_t unclaimed_len,
+                         uint32_t *state, uint32_t *answer);
+
+/* Replies to OOF_MEASURE_HEIGHT. */
+uint32_t oof_reply_height(float height,
+                          const uint32_t *styles, size_t styles_len,
+                          uint32_t *layouts, size_t layouts_len,
+                          uint32_t *working, size_t working_len,
+                          uint32_t *unclaimed, size_t unclaimed_len,
+                          uint32_t *state, uint32_t *answer);
+
+/* Replies to OOF_LAY_OUT, once the host has laid the node out at the final size: its own scrollable overflow, in x counted
+ * from the start edge (leftwards in a right-to-left container), and the candidates that surfaced from within it, whole
+ * records in the box's coordinates; they are shifted by the box's location, then claimed or not. The box's layout is
+ * written. A reply refused because a list is full can be made again with fewer records. */
+uint32_t oof_reply_laid_out(float left, float right, float top, float bottom,
+                            const uint32_t *surfaced, size_t surfaced_len,
+                            const uint32_t *styles, size_t styles_len,
+                            uint32_t *layouts, size_t layouts_len,
+                            uint32_t *working, size_t working_len,
+                            uint32_t *unclaimed, size_t unclaimed_len,
+                            uint32_t *state, uint32_t *answer);
+
+#ifdef __cplusplus
+}
+#endif
+
+#endif
