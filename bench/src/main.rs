@@ -1,7 +1,7 @@
 //! Times the same runs through the published Rust and through the library, in one process.
 //!
 //!     bench [ROUNDS]
-//!     bench profile rust|library ITEMS BOXES RUNS      # one side alone, for a profiler
+//!     bench profile rust|library ITEMS BOXES RUNS      # one side alone on 64 tables in turn, for a profiler
 //!
 //! Each figure is the median of ROUNDS (101 unless said) rounds, in CPU time, so that a busy machine matters less; the two
 //! sides take turns. Nothing is asserted about times; that both place the boxes alike is.
@@ -139,12 +139,13 @@ fn main() {
     let args: Vec<String> = std::env::args().skip(1).collect();
     if args.first().is_some_and(|arg| arg == "profile") {
         let [items, boxes, runs] = [2, 3, 4].map(|i| args[i].parse::<usize>().expect("a number"));
-        let scene = scene(0, items, boxes);
-        let (mut tree, mut words) = (Tree::new(&scene), Words::new(&scene));
-        for _ in 0..runs {
+        let scenes: Vec<_> = (0..64).map(|seed| scene(seed, items, boxes)).collect();
+        let mut trees: Vec<Tree> = scenes.iter().map(Tree::new).collect();
+        let mut words: Vec<Words> = scenes.iter().map(Words::new).collect();
+        for at in 0..runs {
             match args[1].as_str() {
-                "rust" => drop(black_box(tree.run())),
-                _ => assert_eq!(words.run(), 0),
+                "rust" => drop(black_box(trees[at % 64].run())),
+                _ => assert_eq!(words[at % 64].run(), 0),
             }
         }
         return;
