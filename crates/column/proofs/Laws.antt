@@ -42,7 +42,7 @@ line-bytes (some {c} {cs} e r) =
 four : (r : Rect) → Full (sides r)
 four r = some (eighths-length (r .left)) (some (eighths-length (r .right)) (some (eighths-length (r .top)) (some (eighths-length (r .bottom)) none)))
 
-row-bytes : (r : Row) → length (rowText r) ≡ ROW
+pub row-bytes : (r : Row) → length (rowText r) ≡ ROW
 unfolding rowText
 row-bytes r =
     line-bytes
@@ -50,16 +50,16 @@ row-bytes r =
     (some (eighths-length (r .location .x))
     (some (eighths-length (r .location .y)) (some (eighths-length (r .size .width)) (some (eighths-length (r .size .height)) (four (r .margin)))))))
 
-rows-bytes : (rows : List Row) → length (rowsText rows) ≡ length rows * ROW
+pub rows-bytes : (rows : List Row) → length (rowsText rows) ≡ length rows * ROW
 unfolding rowsText
 rows-bytes [] = refl
 rows-bytes (r ∷ rs) = length-append (rowText r) (rowsText rs) ∙ rw (row-bytes r, rows-bytes rs) (omega arith)
 
-overflow-bytes : (r : Rect) → length (overflowText r) ≡ OVERFLOW
+pub overflow-bytes : (r : Rect) → length (overflowText r) ≡ OVERFLOW
 unfolding overflowText wordText
 overflow-bytes r = line-bytes (some refl (four r))
 
-header-bytes : length headerText ≡ ROW
+pub header-bytes : length headerText ≡ ROW
 unfolding headerText lineText joined wordText
 header-bytes = refl
 

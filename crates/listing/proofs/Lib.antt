@@ -1,0 +1,6 @@
+pub mod Boxes
+pub mod Room
+pub mod Lists
+pub mod Whole
+pub mod Laws
+pub mod Verdicts

@@ -1,0 +1,98 @@
+#!/usr/bin/env python3
+"""Holds `boxlist` to an oracle: a program that runs the published Rust on screens.
+
+    diff/screens/compare.py ORACLE random SEED COUNT     random screens, about a quarter of them damaged
+    diff/screens/compare.py ORACLE bytes SEED SECONDS    any bytes: random ones, and good screens changed, cut and run over
+
+`ORACLE screens SEED COUNT FOLDER` writes NNNNN.screen and NNNNN.list; `ORACLE screen` prints the list of its standard input.
+`rt check boxlist` makes target/bin/boxlist. Stops at the first difference, crash, or output that is neither a list nor a refusal."""
+import collections, glob, os, random, re, subprocess, sys, tempfile, time
+
+boxlist = os.path.join(os.path.dirname(os.path.abspath(__file__)), '..', '..', 'target', 'bin', 'boxlist')
+HEADER = rb'    node       x       y   width  height    left   right     top  bottom\n'
+LIST = re.compile(HEADER + rb'(?:(?: {0,7}(?:-?\d{1,7}|\*)){9}\n)*overflow(?: {0,7}(?:-?\d{1,7}|\*)){4}\n')
+LINE = re.compile(rb' refused       ([1-8])\n')
+
+
+def run(command, text):
+    p = subprocess.run(command, input=text, stdout=subprocess.PIPE, stderr=subprocess.PIPE)
+    if p.returncode or p.stderr:
+        fail(text, '%s: status %d, %r' % (command[0], p.returncode, p.stderr[:200]))
+    return p.stdout
+
+
+def fail(text, why):
+    with tempfile.NamedTemporaryFile(delete=False, suffix='.screen') as f:
+        f.write(text)
+    sys.exit('%s: %s' % (f.name, why))
+
+
+kinds = collections.Counter()
+
+
+def hold(text, expected):
+    found = run([boxlist], text)
+    if found != expected:
+        fail(text, 'printed %r, expected %r' % (found[:200], expected[:200]))
+    line = LINE.fullmatch(found)
+    if line:
+        kinds['refused %s' % line[1].decode()] += 1
+    elif LIST.fullmatch(found) and all(len(l) in (41, 73) for l in found.splitlines(True)):
+        kinds['lists'] += 1
+        kinds['rows'] += found.count(b'\n') - 2
+    else:
+        fail(text, 'neither a list nor a refusal')
+
+
+def random_screens(oracle, seed, count):
+    with tempfile.TemporaryDirectory() as folder:
+        subprocess.check_call([oracle, 'screens', str(seed), str(count), folder], stdout=subprocess.DEVNULL)
+        for name in sorted(glob.glob(folder + '/*.screen')):
+            hold(open(name, 'rb').read(), open(name[:-6] + 'list', 'rb').read())
+
+
+def changed(r, text):
+    """one change of a text"""
+    at = r.randrange(len(text) + 1)
+    line = text.rfind(b'\n', 0, at) + 1
+    field = line + (at - line) // 11 * 11
+    numbers = [b'0', b'-0', b'+0', b'1', b'2', b'3', b'5', b'-1', b'128', b'129', b'256', b'257', b'9999999', b'-9999999', b'10000000', b'-10000000', b'4294967295', b'4294967296', b'99999999999', b'2147483648', b'', b'-', b'+']
+    return r.choice((
+        lambda: text[:at],
+        lambda: text[at:],
+        lambda: text[:at] + bytes([r.randrange(256)]) + text[at + 1:],
+        lambda: text[:at] + bytes([r.choice(b' 0123456789+-\n\r\t*x\0')]) + text[at + 1:],
+        lambda: text[:at] + bytes([r.randrange(256)]) + text[at:],
+        lambda: text[:at] + text[at + 1:],
+        lambda: text[:field] + b'%11s' % r.choice(numbers) + text[field + 11:],
+        lambda: text[:field] + b'%11d' % r.randrange(-200, 20000) + text[field + 11:],
+        lambda: text[:field] + b'%11d' % r.randrange(0, 90) + text[field + 11:],
+        lambda: text[:field] + b'%-11s' % r.choice(numbers) + text[field + 11:],
+        lambda: text + text,
+        lambda: text + bytes([r.randrange(256)]) * r.choice((1, 11, 144, 694, 125808, 200000)),
+        lambda: text.replace(b'\n', b'\r\n'),
+        lambda: b'\n'.join(r.sample(text.split(b'\n'), len(text.split(b'\n')))),
+    ))()
+
+
+def fuzzed(oracle, seed, seconds):
+    r = random.Random(seed)
+    with tempfile.TemporaryDirectory() as folder:
+        subprocess.check_call([oracle, 'screens', str(seed), '300', folder], stdout=subprocess.DEVNULL)
+        good = [open(n, 'rb').read() for n in sorted(glob.glob(folder + '/*.screen'))]
+    good += [open(n, 'rb').read() for n in sorted(glob.glob(os.path.join(os.path.dirname(boxlist), '..', '..', 'screens', '*.screen')))]
+    end = time.time() + seconds
+    while time.time() < end:
+        if r.randrange(8) == 0:
+            text = bytes(r.choice((range(256), b' 0123456789+-\n'))[r.randrange(14)] for _ in range(r.choice((0, 1, 10, 111, 112, 805, 3000))))
+        else:
+            text = r.choice(good)
+            for _ in range(r.choice((1, 1, 1, 2, 5))):
+                text = changed(r, text)
+        hold(text, run([oracle, 'screen'], text))
+
+
+oracle, what, seed, n = sys.argv[1], sys.argv[2], int(sys.argv[3]), int(sys.argv[4])
+(random_screens if what == 'random' else fuzzed)(oracle, seed, n)
+total = kinds['lists'] + sum(v for k, v in kinds.items() if k.startswith('refused'))
+print('%d texts, all equal: %s' % (total, ', '.join('%s %d' % (k, kinds[k]) for k in sorted(kinds))))
