@@ -2,6 +2,7 @@
 """Holds `boxlist` to an oracle: a program that runs the published Rust on screens.
 
     diff/screens/compare.py ORACLE random SEED COUNT     random screens, about a quarter of them damaged
+    diff/screens/compare.py ORACLE large SEED COUNT      random good screens of up to 128 items and 256 candidates
     diff/screens/compare.py ORACLE bytes SEED SECONDS    any bytes: random ones, and good screens changed, cut and run over
 
 `ORACLE screens SEED COUNT FOLDER` writes NNNNN.screen and NNNNN.list; `ORACLE screen` prints the list of its standard input.
@@ -51,6 +52,37 @@ def random_screens(oracle, seed, count):
             hold(open(name, 'rb').read(), open(name[:-6] + 'list', 'rb').read())
 
 
+def good_screen(r):
+    """no word outside its list, so that it is no refusal"""
+    n, m = r.choice((1, 2, 5, 20, 128)), r.choice((1, 3, 10, 60, 256))
+    some = r.choice((40, 400, 8000, 9999999))
+
+    def length(tags):
+        tag = r.choice(tags)
+        return [tag, r.randrange(17) if tag in (5, 15) else r.randint(-some // 4, some)]
+
+    edges, sizes = (1, 1, 1, 3, 3, 5), (1, 1, 3, 3, 5, 11, 15, 27, 35, 43, 59, 75)
+    rows = [[r.randint(0, some), r.randint(0, some), r.randint(-90, 90), r.randint(-90, 90), r.randrange(2), 3, r.randrange(4), r.randrange(4), n, m]]
+    for _ in range(n):
+        lengths = [length(edges) for _ in range(8)] + [length((1, 1, 5)) for _ in range(8)] + [length(sizes) for _ in range(6)]
+        codes = [r.randrange(5) // 4, r.choice((4, 8, 16, 12)), r.randrange(2), r.choice((0, 0, 1, 2, 3)), r.randrange(2), r.randrange(11), r.randrange(3),
+                 r.randrange(11), r.randrange(3), r.randrange(4), r.randrange(4), r.randrange(200), r.choice((0, 0, 1, 2, 255))]
+        replies = [r.randint(0, some), r.randint(0, some)] + [r.randint(-some // 8, some) for _ in range(4)]
+        rows.append(sum(lengths, []) + codes + replies)
+    for k in range(m):
+        area = [r.randint(-some // 4, some) for _ in range(4)]
+        codes = [r.randrange(3) for _ in range(6)]
+        rows.append([r.randrange(n), k, r.choice((2, 2, 2, 3, 3, 0, 1, 4)), *area[:2], *codes[:3], *area[2:], *codes[3:]])
+    return b''.join(b''.join(b'%11d' % v for v in row) + b'\n' for row in rows)
+
+
+def large_screens(oracle, seed, count):
+    r = random.Random(seed)
+    for _ in range(count):
+        text = good_screen(r)
+        hold(text, run([oracle, 'screen'], text))
+
+
 def changed(r, text):
     """one change of a text"""
     at = r.randrange(len(text) + 1)
@@ -93,6 +125,6 @@ def fuzzed(oracle, seed, seconds):
 
 
 oracle, what, seed, n = sys.argv[1], sys.argv[2], int(sys.argv[3]), int(sys.argv[4])
-(random_screens if what == 'random' else fuzzed)(oracle, seed, n)
+{'random': random_screens, 'large': large_screens, 'bytes': fuzzed}[what](oracle, seed, n)
 total = kinds['lists'] + sum(v for k, v in kinds.items() if k.startswith('refused'))
 print('%d texts, all equal: %s' % (total, ', '.join('%s %d' % (k, kinds[k]) for k in sorted(kinds))))

@@ -41,7 +41,7 @@ list-fits o h = go (o .step .answer)
   where
     go : (a : Answer) → length (listBy a o) ≤ LIST-BYTES
     go (Ask q) = lit≤ tt
-    go (Finish f) = rw (list-bytes (rowsAt (o .working) (o .step .state .counts .filled .working) (o .layouts)) (f .overflow), rows-count) (omega arith)
+    go (Finish f) = rw (list-bytes, rows-count) (omega arith)
     go (Refused r) = rw (refusal-bytes (numberOf r)) (lit≤ tt)
 
 pub printed-fits : PrintedFits

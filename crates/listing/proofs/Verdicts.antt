@@ -145,7 +145,7 @@ module _ (o : Opening) (replies candidates styles : List ℕ) (n : ℕ) where
   finished (Ask q) e h = no h refl
   finished (Finish f) e h =
       rw e
-      (list (rowsAt (end .working) (end .step .state .counts .filled .working) (end .layouts)) (f .overflow)
+      (list (rowsAt (end .working) (end .step .state .counts .filled .working) (end .layouts)) _
       (rw rows-count (room-kept o replies candidates (lentFor styles n))))
     where
       end : Outcome
