@@ -1,11 +1,10 @@
 #!/usr/bin/env python3
-"""Holds `boxlist` to an oracle: a program that runs the published Rust on screens.
+"""Holds `boxlist` to the published Rust: ORACLE is the program of diff/oracle (`run.sh` builds it, and does a little of each).
 
     diff/screens/compare.py ORACLE random SEED COUNT     random screens, about a quarter of them damaged
     diff/screens/compare.py ORACLE large SEED COUNT      random good screens of up to 128 items and 256 candidates
     diff/screens/compare.py ORACLE bytes SEED SECONDS    any bytes: random ones, and good screens changed, cut and run over
 
-`ORACLE screens SEED COUNT FOLDER` writes NNNNN.screen and NNNNN.list; `ORACLE screen` prints the list of its standard input.
 `rt check boxlist` makes target/bin/boxlist. Stops at the first difference, crash, or output that is neither a list nor a refusal."""
 import collections, glob, os, random, re, subprocess, sys, tempfile, time
 

@@ -1,7 +1,7 @@
 #!/usr/bin/env python3
 """Writes the telling screens (screens/, with their lists) and the stored screens of crates/boxlist and crates/boxlist_test.
 
-    tools/samples/boxlists.py ORACLE     writes all; ORACLE is a program that runs the published Rust: `ORACLE screen < FILE` prints the list
+    tools/samples/boxlists.py ORACLE     writes all; ORACLE is the program of diff/oracle, which runs the published Rust
     tools/samples/boxlists.py --check    says whether screens/ and the stored screens are what this script makes of them
 
 The screens come from here, the lists from the Rust, and none of it from the Rattle code."""
