@@ -150,11 +150,18 @@ impl Resolved {
     }
 }
 
-// The number of pixels that a length comes to, if any.
+// The number of pixels that a length comes to, if any: the value of `resolve`, which is the same in every field. Only lengths
+// and percentages have one, so that two tests stand in for the match.
 pub fn maybe_resolve(field: Field, length: CompactLength, basis: f32) -> MaybeF32
     ensures { λ r. ⌜ r ≡ maybeResolved field length basis ⌝ }
 {
-    resolve(field, length, basis).value()
+    if length.tag == 1 {
+        return MaybeF32::Some(length.value);
+    }
+    if length.tag == 5 {
+        return MaybeF32::Some(basis * length.value);
+    }
+    MaybeF32::None
 }
 
 // Four sides: left and right against one basis, top and bottom against another.
