@@ -66,8 +66,8 @@ def screen(o, items, candidates):
 
 # ---- the telling screens
 
-# the cache map, a panel of 800 by 480 that scrolls. The note ends 8 pixels before the tape cell that it speaks of. That cell stood in the
-# first column, 800 pixels from the panel's right edge
+# the cache map, a panel of 800 by 480 that scrolls; numbers made up after the incident. The note ends 8 pixels before the tape cell that
+# it speaks of, and that cell stands in the first column, 800 pixels from the panel's right edge
 panel = opening(800, 480, overflow=(SCROLL, SCROLL))
 note = style(right=px(800), top=px(200), margin=(none, px(8), none, none), padding=(px(16), px(8), px(8), px(8)), width=px(320), height=px(96))
 label = style(left=px(24), top=px(16), padding=(px(8), px(8), px(4), px(4)))
@@ -107,7 +107,7 @@ telling = {
 }
 
 ABOUT = {
-    'incident': 'a label, and the note that said why a restore was refused. It ends 8 pixels left of the panel: x −328 pixels (`-2624`), width 320. The overflow holds the label alone: no scrolling goes there',
+    'incident': 'a label, and the note that said why a restore was refused, with numbers made up. It ends 8 pixels left of the panel: x −328 pixels (`-2624`), width 320. The overflow holds the label alone: no scrolling goes there',
     'arabic': 'its mirror image, right-to-left: the note begins 8 pixels right of the panel, at 808 (`6464`). In each row the two x and the width add up to 800',
     'dialog': 'a dialog centered by auto margins, and one centered by alignment whose size its content gives',
     'labels': 'labels as large as the font says, one in an area of its own, one at the end edge',
