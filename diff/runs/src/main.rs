@@ -60,16 +60,65 @@ fn usage() -> ! {
     exit(2)
 }
 
-/// Case `number` of a profile. One in 16 has a code replaced, so that an opening may be refused 1, 3 or 4.
+/// Case `number` of a profile. One in 4 leans to rare branches; one in 16 has a code replaced, so that an opening may be
+/// refused 1, 3 or 4.
 fn small_case(profile: Profile, seed: u64, number: u64) -> (Case, Setting, Rng) {
     let (mut case, host_seed) = gen::case(profile, seed, number);
     let mut rng = Rng::of_case(seed, &case.name, number);
+    if rng.one_in(4) {
+        lean(&mut case, profile, &mut rng);
+    }
     if rng.one_in(16) {
         break_code(&mut case, &mut rng);
     }
     let surfaced = rng.of(&[0, 1, 2, 3, 4, 6, 8, 12]);
     let spare = [rng.below(3) as usize, rng.below(3) as usize];
     (case, Setting { host_seed, profile, surfaced, spare }, rng)
+}
+
+/// Makes the styles take branches that the profiles seldom take: what stretches, with a ratio or as a table; what is centered
+/// or overflows between two insets; static centers
+fn lean(case: &mut Case, profile: Profile, rng: &mut Rng) {
+    const AUTO: [u32; 2] = [3, 0];
+    const STRETCH: u32 = 9;
+    for style in &mut case.styles {
+        let which = rng.below(4);
+        for side in 0..4 {
+            if which == 3 {
+                style[2 * side..][..2].copy_from_slice(&AUTO);
+            } else if style[2 * side] == 3 {
+                style[2 * side..][..2].copy_from_slice(&[1, (rng.below(200) as f32 * 0.25).to_bits()]);
+            }
+        }
+        match which {
+            0 | 1 => {
+                let lone = rng.below(4) as usize; // one side may keep its size
+                for axis in (0..2).filter(|&axis| axis != lone) {
+                    style[32 + 2 * axis..][..2].copy_from_slice(&AUTO);
+                }
+                for keyword in [49, 51] {
+                    style[keyword] = rng.of(&[STRETCH, STRETCH, 0, 10, 7]);
+                }
+                style[47] = if which == 1 { 2 + rng.below(2) } else { rng.of(&[0, 0, 1]) };
+                if profile != Profile::Quarter && rng.one_in(2) {
+                    (style[44], style[45]) = (1, rng.of(&[0.5f32, 1.0, 1.5, 2.0]).to_bits());
+                }
+            }
+            2 => {
+                for keyword in [49, 51] {
+                    (style[keyword], style[keyword + 1]) = (rng.of(&[1, 2, 5, 6, 7, 7]), rng.below(3));
+                }
+            }
+            _ => {}
+        }
+    }
+    for candidate in &mut case.candidates {
+        for edge in [5, 10] {
+            if rng.one_in(2) {
+                (candidate[edge], candidate[edge + 1]) = (1, rng.below(3));
+            }
+        }
+    }
 }
 
 fn break_code(case: &mut Case, rng: &mut Rng) {
