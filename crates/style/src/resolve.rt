@@ -91,17 +91,18 @@ pub fn resolve(field: Field, length: CompactLength, basis: f32) -> Resolved
     }
 }
 
-// Whether a tag is one of the ten. Those below 60 are bits of one word to the compiler; with 75 among them it would jump by a table.
+// Whether a tag is one of the ten: first those of lengths, auto and percentages, since most sizes are of these, and 75 apart,
+// since the compiler jumps by a table where tags span more than 64 values.
 fn is_tag(tag: u32) -> bool
     ensures { λ r. ⌜ r ≡ takes Field.Size tag ⌝ }
 {
+    if tag < 6 {
+        return tag % 2 == 1;
+    }
     if 59 < tag {
         return tag == 75;
     }
     match tag {
-        1 => true,
-        3 => true,
-        5 => true,
         11 => true,
         15 => true,
         27 => true,
