@@ -6,14 +6,8 @@
 # Needs what diff/runs/run.sh needs, and a machine with little else to do.
 set -eu
 here=$(cd "$(dirname "$0")" && pwd)
-root=$(cd "$here/.." && pwd)
-export CARGO_TARGET_DIR="$root/target/cargo"
-TAFFY_SRC=$("$root/diff/oracle/find-taffy.sh")
-export TAFFY_SRC
-if [ -z "$TAFFY_SRC" ]; then
-    echo "bench: not run, the published Rust files are not here (set TAFFY_SRC to the folder src of taffy 0.15.1)"
-    exit 0
-fi
+part=bench
+. "$here/../diff/taffy.sh"
 OOF_LIB=$(cd "${OOF_LIB:-$root/target/staticlib}" 2> /dev/null && pwd) || OOF_LIB=$root/target/staticlib
 export OOF_LIB
 archive=$OOF_LIB/liboof_c.a

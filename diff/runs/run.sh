@@ -8,14 +8,8 @@
 # Rust files (diff/oracle/find-taffy.sh). Without the latter it says so and does nothing.
 set -eu
 here=$(cd "$(dirname "$0")" && pwd)
-root=$(cd "$here/../.." && pwd)
-export CARGO_TARGET_DIR="$root/target/cargo"
-TAFFY_SRC=$("$here/../oracle/find-taffy.sh")
-export TAFFY_SRC
-if [ -z "$TAFFY_SRC" ]; then
-    echo "diff/runs: not run, the published Rust files are not here (set TAFFY_SRC to the folder src of taffy 0.15.1)"
-    exit 0
-fi
+part=diff/runs
+. "$here/../taffy.sh"
 OOF_LIB=$(cd "${OOF_LIB:-$root/target/staticlib}" 2> /dev/null && pwd) || OOF_LIB=$root/target/staticlib
 export OOF_LIB
 archive=$OOF_LIB/liboof_c.a

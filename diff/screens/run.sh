@@ -8,14 +8,8 @@
 # Without the latter it says so and does nothing.
 set -eu
 here=$(cd "$(dirname "$0")" && pwd)
-root=$(cd "$here/../.." && pwd)
-export CARGO_TARGET_DIR="$root/target/cargo"
-TAFFY_SRC=$("$here/../oracle/find-taffy.sh")
-export TAFFY_SRC
-if [ -z "$TAFFY_SRC" ]; then
-    echo "diff/screens: not run, the published Rust files are not here (set TAFFY_SRC to the folder src of taffy 0.15.1)"
-    exit 0
-fi
+part=diff/screens
+. "$here/../taffy.sh"
 (cd "$here/../oracle" && cargo build --release --quiet)
 seed=${2:-$(date +%s)}
 for part in "random ${1:-400}" "large ${3:-100}" "bytes ${4:-5}"; do
