@@ -43,37 +43,30 @@ use Rattle.run.specs.declared.Progress.{Progress}
 use Rattle.run.specs.declared.Progress.the-variants.{Finished, Asking}
 use Rattle.run.specs.declared.Answer.{Answer}
 use Rattle.run.specs.declared.Answer.the-variants.{Ask, Finish, Refused}
-use Rattle.run.specs.Call.{Lent, Outcome, Leaves}
-use Rattle.run.specs.Theorems.{isRefused, Call, Asked, Heard, Stands, next, oneIfAsked, askedAtOpening, askedWith, heededIn, courseOf}
+use Rattle.run.specs.Call.{Lent, Outcome}
+use Rattle.run.specs.Theorems.{isRefused, askedFor, Heard, Stands, next, heededIn, courseOf, Loan, own, other, nextWith}
 use Rattle.run.specs.Refusals.{Verdict, accepted, refused}
 use Rattle.run.specs.Run.{boxAtHand, opened, openedBy, openingVerdict, replied, repliedBy, replyVerdict, takenBy, takenIn, isWrong, laidOut, measuredOn}
 use Rattle.run.proofs.Refusals.{begun-accepts, measured-accepts, laid-accepts, refused-reply-keeps, refused-opening-keeps}
 use Rattle.run.proofs.Ways.{ReplyWay, measures, laysOut, reply-way, passed, neither}
-use Rattle.run.proofs.Questions.{three-questions-a-box, begun-are-hoisted}
+use Rattle.run.proofs.Questions.{Hoisted, opening-hoisted, reply-hoisted}
+use Rattle.run.proofs.ByBox.{ForBox, opening-for, reply-for}
 use Rattle.run.proofs.Straight.{straight-run}
 use Rattle.mirror.proofs.Mirror.{mirror}
 use Rattle.mirror.specs.Image.{imageOpening, imageCandidates}
-use Rattle.mirror.specs.Runs.{Message, runNext, imageNext, MirroredRuns}
-use Rattle.demands.specs.Entries.{LeftBy, Opens, Replies, AnyCalls, Run, BothRuns}
-use Rattle.demands.specs.Demands.{Iff, OpeningRefused, ReplyRefused, RefusedOpeningWritesNothing, RefusedReplyWritesNothing, ThreeQuestionsEach, EqualsStraightRun, SizedLayout, SizeLaw, LaidOutAsAsked, MirrorImage}
+use Rattle.mirror.specs.Runs.{Message, runNext, imageNext, MirroredRuns, leftAtOpening}
+use Rattle.demands.specs.Entries.{Opens, AnyCalls, ownSlices, Hears, Run, BothRuns}
+use Rattle.demands.specs.Entries as entry
+use Rattle.demands.specs.Demands.{Iff, OpeningRefused, ReplyRefused, RefusedOpeningWritesNothing, RefusedReplyWritesNothing, OpeningDemands, ReplyDemands, ThreeQuestionsEach, EqualsStraightRun, SizedLayout, SizeLaw, LaidOutAsAsked, MirrorImage}
 
 -- what the host has is the outcome
-pub is-outcome : (has o : Outcome) → LeftBy has o → has ≡ o
-is-outcome has o l =
-    ap (λ (s : Step). record { step = s; layouts = has .layouts; working = has .working; unclaimed = has .unclaimed }) (l .step)
-    ∙ ap (λ (ws : List ℕ). record { step = o .step; layouts = ws; working = has .working; unclaimed = has .unclaimed }) (l .layouts)
-    ∙ ap (λ (ws : List ℕ). record { step = o .step; layouts = o .layouts; working = ws; unclaimed = has .unclaimed }) (l .working)
-    ∙ ap (λ (ws : List ℕ). record { step = o .step; layouts = o .layouts; working = o .working; unclaimed = ws }) (l .unclaimed)
 
-pub refused-opening-writes-nothing : RefusedOpeningWritesNothing
-refused-opening-writes-nothing o candidates lent has r c a =
-    let e = is-outcome has (opened o candidates lent) c in
-    e ∙ refused-opening-keeps o candidates lent r (sym (ap (λ (x : Outcome). x .step .answer) e) ∙ a)
+pub open-leaves : (o : Opening) (candidates : List ℕ) (lent : Lent) (has : Outcome) → Opens o candidates lent has → has ≡ opened o candidates lent
+open-leaves o candidates lent has c = c .learnt
 
-pub refused-reply-writes-nothing : RefusedReplyWritesNothing
-refused-reply-writes-nothing s reply surfaced lent has r c a =
-    let e = is-outcome has (replied s reply surfaced lent) c in
-    e ∙ refused-reply-keeps s reply surfaced lent r (sym (ap (λ (x : Outcome). x .step .answer) e) ∙ a)
+pub reply-leaves : (s : State) (reply : Reply) (surfaced : List ℕ) (lent : Lent) (has : Outcome) → entry.Replies s reply surfaced lent has
+    → has ≡ replied s reply surfaced lent
+reply-leaves s reply surfaced lent has c = c .learnt
 
 -- ---- refused exactly under the condition
 
@@ -109,10 +102,16 @@ opening-iff o candidates lent r = go (openingVerdict o candidates lent) refl
     go accepted d = (λ e. refusedIn-no (begun-accepts o candidates lent) e, λ e. no {b = true} refl (ap isAccepted e))
     go (refused q) d = (λ e. ap refused (same-refusal e), λ e. ap Refused (same-verdict e))
 
-pub opening-refused : OpeningRefused
-opening-refused o candidates lent has r c =
-    subst (λ (x : Outcome). Iff (x .step .answer ≡ Refused r) (openingVerdict o candidates lent ≡ refused r))
-    (sym (is-outcome has (opened o candidates lent) c)) (opening-iff o candidates lent r)
+pub opening-demands : (o : Opening) (candidates : List ℕ) (lent : Lent) (has : Outcome)
+    → Opens o candidates lent has
+    → OpeningDemands o candidates lent has
+opening-demands o candidates lent has c =
+    let e = sym (open-leaves o candidates lent has c) in
+    record {
+      call = c;
+      refused = subst (OpeningRefused o candidates lent) e (opening-iff o candidates lent);
+      wrote = subst (RefusedOpeningWritesNothing lent) e (refused-opening-keeps o candidates lent);
+    }
 
 -- what is accepted is not of another kind than the question
 accepted-not-wrong : (s : State) (reply : Reply) (surfaced : List ℕ) (lent : Lent) → replyVerdict s reply surfaced lent ≡ accepted → isWrong (takenBy s reply) ≡ false
@@ -131,58 +130,35 @@ reply-iff s reply surfaced lent r = go (replyVerdict s reply surfaced lent) (tak
     go accepted (Kept replies) d e = (λ a. refusedIn-no (measured-accepts s replies lent) a, λ a. no {b = true} refl (ap isAccepted a))
     go accepted (Laid overflow) d e = (λ a. refusedIn-no (laid-accepts s overflow surfaced lent) a, λ a. no {b = true} refl (ap isAccepted a))
 
-pub reply-refused : ReplyRefused
-reply-refused s reply surfaced lent has r c =
-    subst (λ (x : Outcome). Iff (x .step .answer ≡ Refused r) (replyVerdict s reply surfaced lent ≡ refused r))
-    (sym (is-outcome has (replied s reply surfaced lent) c)) (reply-iff s reply surfaced lent r)
-
 -- ---- at most three questions
 
-data Counted (n : ℕ) (s : State) : Type 0 where
-  counted :
-      (o : Opening) (candidates : List ℕ) (lent : Lent) (calls : List Call)
-      → foldl askedWith (askedAtOpening o candidates lent) calls ≡ record { questions = n; state = s }
-      → Counted n s
-
-count : {n : ℕ} {has : Outcome} → AnyCalls n has → Counted n (has .step .state)
-unfolding askedAtOpening askedWith
-count (AnyCalls.opening {has = has} o candidates lent c) =
-    counted o candidates lent [] (ap asked (sym (is-outcome has (opened o candidates lent) c)))
-  where
-    asked : Outcome → Asked
-    asked x = record { questions = oneIfAsked (x .step .answer); state = x .step .state }
-count (AnyCalls.reply {n = n} {before = before} {has = has} reply surfaced lent calls c) = go (count calls)
-  where
-    asked : Outcome → Asked
-    asked x = record { questions = n + oneIfAsked (x .step .answer); state = x .step .state }
-
-    call : Call
-    call = record { reply = reply; surfaced = surfaced; lent = lent }
-
-    go : Counted n (before .step .state) → Counted (n + oneIfAsked (has .step .answer)) (has .step .state)
-    go (counted o candidates first earlier e) =
-        counted o candidates first (earlier ++ (call ∷ []))
-        (foldl-append askedWith (askedAtOpening o candidates first) earlier (call ∷ []) ∙ ap (λ (a : Asked). askedWith a call) e
-        ∙ ap asked (sym (is-outcome has (replied (before .step .state) reply surfaced lent) c)))
+for-box : (i : ℕ) {n : ℕ} {has : Outcome} → AnyCalls i n has → ForBox i n (has .step .state) × Hoisted (has .step .state)
+for-box i (AnyCalls.opening {has = has} o candidates lent c) =
+    subst (λ (x : Outcome). ForBox i (askedFor i (x .step)) (x .step .state) × Hoisted (x .step .state)) (sym (open-leaves o candidates lent has c))
+    (opening-for i o candidates lent, opening-hoisted o candidates lent)
+for-box i (AnyCalls.reply {n = n} {before = before} {has = has} reply surfaced lent calls c) =
+    let b = for-box i calls in
+    subst (λ (x : Outcome). ForBox i (n + askedFor i (x .step)) (x .step .state) × Hoisted (x .step .state))
+    (sym (reply-leaves (before .step .state) reply surfaced lent has c))
+    (reply-for i n (before .step .state) reply surfaced lent (b .0), reply-hoisted (before .step .state) reply surfaced lent (b .1))
 
 pub three-questions-each : ThreeQuestionsEach
-three-questions-each n has calls = go (count calls)
-  where
-    go : Counted n (has .step .state) → n ≤ 3 * has .step .state .counts .filled .working
-    go (counted o candidates lent earlier e) =
-        let a = three-questions-a-box o candidates lent earlier in
-        let b = begun-are-hoisted o candidates lent earlier in
-        let h = subst (λ (x : Asked). x .questions ≤ 3 * x .state .counts .begun) e a in
-        let k = subst (λ (x : Asked). x .state .counts .begun ≤ x .state .counts .filled .working) e b in
-        omega arith
+three-questions-each i n has calls = let b = for-box i calls in (b .0 .three, λ h. b .0 .none (let k = b .1 in omega arith))
 
 -- ---- a run is the list of its calls
 
+hears : (styles : List ℕ) (before : Outcome) (h : Heard) (loan : Loan) (has : Outcome) → Hears styles before h loan has → has ≡ nextWith styles before h loan
+unfolding next
+hears styles before h own has (Hears.lentOwn c) = reply-leaves (before .step .state) (h .reply) (h .surfaced) (ownSlices styles before) has c
+hears styles before h (other lent) has (Hears.lentOther {has = left} c) =
+    ap (λ (x : Outcome). record { step = x .step; layouts = before .layouts; working = before .working; unclaimed = before .unclaimed })
+    (reply-leaves (before .step .state) (h .reply) (h .surfaced) lent left c)
+
 run-is : (o : Opening) (candidates : List ℕ) (lent : Lent) {heard : List Heard} {has : Outcome} → Run o candidates lent heard has
     → has ≡ foldl (next (lent .styles)) (opened o candidates lent) heard
-run-is o candidates lent (Run.opening {has = has} c) = is-outcome has (opened o candidates lent) c
+run-is o candidates lent (Run.opening {has = has} c) = open-leaves o candidates lent has c
 run-is o candidates lent (Run.reply {heard = heard} {before = before} {has = has} h earlier c) =
-    is-outcome has (next (lent .styles) before h) c
+    hears (lent .styles) before h own has c
     ∙ ap (λ (x : Outcome). next (lent .styles) x h) (run-is o candidates lent earlier)
     ∙ sym (foldl-append (next (lent .styles)) (opened o candidates lent) heard (h ∷ []))
 
@@ -222,16 +198,25 @@ sized s overflow surfaced lent =
     let law = box-size-law (s .opened .block) style box (s .replies) overflow in
     record { layout = layoutAfter (s .opened .block) style box (s .replies) overflow .layout; wrote = refl; width = law .0; height = law .1 }
 
-pub size-law : SizeLaw
-size-law s overflow surfaced lent has c a = go (reply-way s (LaidOut overflow) surfaced lent)
+size-law : (s : State) (reply : Reply) (surfaced : List ℕ) (lent : Lent) → SizeLaw s reply lent (replied s reply surfaced lent)
+size-law s reply surfaced lent overflow k a = go (reply-way s reply surfaced lent)
   where
-    e : has ≡ replied s (LaidOut overflow) surfaced lent
-    e = is-outcome has (replied s (LaidOut overflow) surfaced lent) c
+    go : ReplyWay s reply surfaced lent → SizedLayout s lent (replied s reply surfaced lent .layouts)
+    go (ReplyWay.turnedDown r f) = no (ap (λ (x : Outcome). isRefused (x .step .answer)) f) a
+    go (measures replies v t f) = no (ap isKept (ap (takenBy s) (sym k) ∙ t)) (never-kept s overflow)
+    go (laysOut laid v t f) = subst (λ (x : Outcome). SizedLayout s lent (x .layouts)) (sym f) (sized s laid surfaced lent)
 
-    go : ReplyWay s (LaidOut overflow) surfaced lent → SizedLayout s lent (has .layouts)
-    go (ReplyWay.turnedDown r f) = no (ap (λ (x : Outcome). isRefused (x .step .answer)) (e ∙ f)) a
-    go (measures replies v t f) = no (ap isKept t) (never-kept s overflow)
-    go (laysOut overflow v t f) = subst (λ (x : Outcome). SizedLayout s lent (x .layouts)) (sym (e ∙ f)) (sized s overflow surfaced lent)
+pub reply-demands : (s : State) (reply : Reply) (surfaced : List ℕ) (lent : Lent) (has : Outcome)
+    → entry.Replies s reply surfaced lent has
+    → ReplyDemands s reply surfaced lent has
+reply-demands s reply surfaced lent has c =
+    let e = sym (reply-leaves s reply surfaced lent has c) in
+    record {
+      call = c;
+      refused = subst (ReplyRefused s reply surfaced lent) e (reply-iff s reply surfaced lent);
+      wrote = subst (RefusedReplyWritesNothing s lent) e (refused-reply-keeps s reply surfaced lent);
+      size = subst (SizeLaw s reply lent) e (size-law s reply surfaced lent);
+    }
 
 abbrev sizeIn : Question → Size
 sizeIn (MeasureBoth m) = zeroSize
@@ -301,13 +286,13 @@ both-are : (o : Opening) (candidates : List ℕ) (lent lent' : Lent) {messages :
     → BothRuns o candidates lent lent' messages has has'
     → (has ≡ foldl (runNext (lent .styles)) (opened o candidates lent) messages)
     × (has' ≡ foldl (imageNext (lent' .styles)) (opened (imageOpening o) (imageCandidates (o .area) candidates) lent') messages)
-both-are o candidates lent lent' (BothRuns.opening {has = has} {has' = has'} c c') = (is-outcome has _ c, is-outcome has' _ c')
+both-are o candidates lent lent' (BothRuns.opening {has = has} {has' = has'} c c') = (open-leaves o candidates lent has c, open-leaves (imageOpening o) (imageCandidates (o .area) candidates) lent' has' c')
 both-are o candidates lent lent' (BothRuns.reply {messages = messages} {before = before} {before' = before'} {has = has} {has' = has'} m earlier c c') =
     let e = both-are o candidates lent lent' earlier in (
-      is-outcome has (runNext (lent .styles) before m) c
+      hears (lent .styles) before (m .heard) (m .loan) has c
           ∙ ap (λ (x : Outcome). runNext (lent .styles) x m) (e .0)
           ∙ sym (foldl-append (runNext (lent .styles)) (opened o candidates lent) messages (m ∷ [])),
-      is-outcome has' (imageNext (lent' .styles) before' m) c'
+      hears (lent' .styles) before' (m .heard) (m .imageLoan) has' c'
           ∙ ap (λ (x : Outcome). imageNext (lent' .styles) x m) (e .1)
           ∙ sym (foldl-append (imageNext (lent' .styles)) (opened (imageOpening o) (imageCandidates (o .area) candidates) lent') messages (m ∷ [])),
     )
@@ -315,6 +300,6 @@ both-are o candidates lent lent' (BothRuns.reply {messages = messages} {before =
 pub mirror-image : MirrorImage
 mirror-image o candidates lent lent' messages has has' area table quarter image same fair calls =
     let e = both-are o candidates lent lent' calls in
-    subst (λ (x : Outcome). MirroredRuns (o .area) x has') (sym (e .0))
-    (subst (λ (x : Outcome). MirroredRuns (o .area) (foldl (runNext (lent .styles)) (opened o candidates lent) messages) x) (sym (e .1))
+    subst (λ (x : Outcome). MirroredRuns (o .area) (leftAtOpening o candidates lent) x has') (sym (e .0))
+    (subst (λ (x : Outcome). MirroredRuns (o .area) (leftAtOpening o candidates lent) (foldl (runNext (lent .styles)) (opened o candidates lent) messages) x) (sym (e .1))
     (mirror o candidates lent lent' messages area table quarter image same fair))

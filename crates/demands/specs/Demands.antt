@@ -31,7 +31,7 @@ use Rattle.run.specs.Run.{opened, openingVerdict, replyVerdict, closed, boxAtHa
 use Rattle.run.specs.Theorems.{isRefused, Heard, Stands, heededIn, courseOf}
 use Rattle.mirror.specs.Image.{imageStyles}
 use Rattle.mirror.specs.Quarter.{QuarterArea, QuarterTable, QuarterCandidates}
-use Rattle.mirror.specs.Runs.{Message, AllFair, MirroredRuns}
+use Rattle.mirror.specs.Runs.{Message, AllFair, MirroredRuns, leftAtOpening}
 use Rattle.demands.specs.Entries.{Opens, AnyCalls, Run, BothRuns}
 use Rattle.demands.specs.Entries as entry
 
@@ -41,40 +41,29 @@ Iff a b = (a → b) × (b → a)
 -- ---- Demand 1. "Whoever calls an entry, with any bits in any number and slices of any length, gets its answer or one of document 01's
 -- refusals, each exactly under its stated condition."
 
--- an opening: the first of tests 1, 2, 3, 4, 5 whose condition holds, as run/specs/Run.antt lists them
-abbrev pub OpeningRefused : Type 0
-OpeningRefused =
-    (o : Opening) (candidates : List ℕ) (lent : Lent) (has : Outcome) (r : Refusal)
-    → Opens o candidates lent has
-    → Iff (has .step .answer ≡ Refused r) (openingVerdict o candidates lent ≡ refused r)
+-- an opening: refused with r if and only if r is the first of tests 1, 2, 3, 4, 5 whose condition holds, as run/specs/Run.antt lists them
+abbrev pub OpeningRefused : Opening → List ℕ → Lent → Outcome → Type 0
+OpeningRefused o candidates lent has = (r : Refusal) → Iff (has .step .answer ≡ Refused r) (openingVerdict o candidates lent ≡ refused r)
 
 -- a reply: the first of tests 2, 6, 3, 4, 5
-abbrev pub ReplyRefused : Type 0
-ReplyRefused =
-    (s : State) (reply : Reply) (surfaced : List ℕ) (lent : Lent) (has : Outcome) (r : Refusal)
-    → entry.Replies s reply surfaced lent has
-    → Iff (has .step .answer ≡ Refused r) (replyVerdict s reply surfaced lent ≡ refused r)
+abbrev pub ReplyRefused : State → Reply → List ℕ → Lent → Outcome → Type 0
+ReplyRefused s reply surfaced lent has = (r : Refusal) → Iff (has .step .answer ≡ Refused r) (replyVerdict s reply surfaced lent ≡ refused r)
 
 -- "A refusal writes no lent word and returns the state as it came." An opening has no state that came: it returns that of a finished run
 -- with all counts 0
 
-abbrev pub RefusedOpeningWritesNothing : Type 0
-RefusedOpeningWritesNothing =
-    (o : Opening) (candidates : List ℕ) (lent : Lent) (has : Outcome) (r : Refusal)
-    → Opens o candidates lent has
-    → has .step .answer ≡ Refused r
-    → has ≡ unwritten lent (record { state = closed lent; answer = Refused r })
+abbrev pub RefusedOpeningWritesNothing : Lent → Outcome → Type 0
+RefusedOpeningWritesNothing lent has =
+    (r : Refusal) → has .step .answer ≡ Refused r → has ≡ unwritten lent (record { state = closed lent; answer = Refused r })
 
-abbrev pub RefusedReplyWritesNothing : Type 0
-RefusedReplyWritesNothing =
-    (s : State) (reply : Reply) (surfaced : List ℕ) (lent : Lent) (has : Outcome) (r : Refusal)
-    → entry.Replies s reply surfaced lent has
-    → has .step .answer ≡ Refused r
-    → has ≡ unwritten lent (record { state = s; answer = Refused r })
+abbrev pub RefusedReplyWritesNothing : State → Lent → Outcome → Type 0
+RefusedReplyWritesNothing s lent has =
+    (r : Refusal) → has .step .answer ≡ Refused r → has ≡ unwritten lent (record { state = s; answer = Refused r })
 
--- "A run asks at most three questions for each box hoisted", whatever words the host rewrites between calls
+-- "A run asks at most three questions for each box hoisted", whatever words the host rewrites between calls: at most three for each box,
+-- and none for one that isn't hoisted
 abbrev pub ThreeQuestionsEach : Type 0
-ThreeQuestionsEach = (n : ℕ) (has : Outcome) → AnyCalls n has → n ≤ 3 * has .step .state .counts .filled .working
+ThreeQuestionsEach = (i n : ℕ) (has : Outcome) → AnyCalls i n has → (n ≤ 3) × (has .step .state .counts .filled .working ≤ i → n ≡ 0)
 
 -- ---- Demand 2. "Questions, layouts, lists and overflow equal the definition": the contracts are equations with it, and by the definition
 -- the calls are the straight run (run/specs/Straight.antt) of boxes that each read straight through (oof_box/specs/Box.antt). This holds
@@ -95,12 +84,8 @@ pub record SizedLayout (s : State) (lent : Lent) (layouts : List ℕ) : Type 0 w
   pub width : AtOrAbove (sums (rectSum (layout .padding) (layout .border)) .width) (layout .size .width)
   pub height : AtOrAbove (sums (rectSum (layout .padding) (layout .border)) .height) (layout .size .height)
 
-abbrev pub SizeLaw : Type 0
-SizeLaw =
-    (s : State) (overflow : Rect) (surfaced : List ℕ) (lent : Lent) (has : Outcome)
-    → entry.Replies s (LaidOut overflow) surfaced lent has
-    → isRefused (has .step .answer) ≡ false
-    → SizedLayout s lent (has .layouts)
+abbrev pub SizeLaw : State → Reply → Lent → Outcome → Type 0
+SizeLaw s reply lent has = (overflow : Rect) → reply ≡ LaidOut overflow → isRefused (has .step .answer) ≡ false → SizedLayout s lent (has .layouts)
 
 -- the size told in a lay out question is the size that is written once it is answered, with words and replies as they were
 abbrev pub LaidOutAsAsked : Type 0
@@ -119,4 +104,26 @@ MirrorImage =
     → lent' .styles ≡ imageStyles (lent .styles) → extentsOf lent ≡ extentsOf lent'
     → AllFair (extentsOf lent) (lent .styles) (opened o candidates lent) messages
     → BothRuns o candidates lent lent' messages has has'
-    → MirroredRuns (o .area) has has'
+    → MirroredRuns (o .area) (leftAtOpening o candidates lent) has has'
+
+-- ---- What is demanded of one call: src/lib.rt calls the entries and ensures these. `call` says that what the theorems over runs suppose
+-- of each call is so of every call.
+
+pub record OpeningDemands (o : Opening) (candidates : List ℕ) (lent : Lent) (has : Outcome) : Type 0 where
+  pub call : Opens o candidates lent has
+  pub refused : OpeningRefused o candidates lent has
+  pub wrote : RefusedOpeningWritesNothing lent has
+
+pub record ReplyDemands (s : State) (reply : Reply) (surfaced : List ℕ) (lent : Lent) (has : Outcome) : Type 0 where
+  pub call : entry.Replies s reply surfaced lent has
+  pub refused : ReplyRefused s reply surfaced lent has
+  pub wrote : RefusedReplyWritesNothing s lent has
+  pub size : SizeLaw s reply lent has
+
+-- ---- What is demanded of runs: the function `demanded` of src/lib.rt ensures these, so that a crate without a proof of each is not proved.
+
+pub record Demanded : Type 0 where
+  pub three-questions-each : ThreeQuestionsEach
+  pub equals-straight-run : EqualsStraightRun
+  pub laid-out-as-asked : LaidOutAsAsked
+  pub mirror-image : MirrorImage

@@ -1,49 +1,86 @@
--- What a host does with the entries, and all that it knows of them: their contracts (placer/src/lib.rt). Assumes nothing.
+-- What a host does with the entries, and all that it knows of them: what a caller of `placer::open` and `placer::reply` learns by their
+-- contracts. `Learnt` is not written here: Rattle reads it off each function's `ensures`, so that a weaker `ensures` is a weaker
+-- hypothesis of every demand. Assumes nothing.
 use Prim.Native.Nat.{ℕ, _+_}
 use mathlib.Core.List.{List, [], _∷_, _++_}
+use contract.Lifetimes.{Lfts}
+use denote.Ref.{RefT, at-last}
 use Rattle.oof_box.specs.declared.question.Reply.{Reply}
 use Rattle.run.specs.declared.Opening.{Opening}
 use Rattle.run.specs.declared.State.{State}
-use Rattle.run.specs.Call.{Lent, Outcome, Leaves}
-use Rattle.run.specs.Run.{opened, replied}
-use Rattle.run.specs.Theorems.{Heard, next, oneIfAsked}
+use Rattle.run.specs.Call.{Lent, Outcome}
+use Rattle.run.specs.Theorems.{Heard, askedFor, Loan, own, other}
 use Rattle.mirror.specs.Image.{imageOpening, imageCandidates}
-use Rattle.mirror.specs.Runs.{Message, runNext, imageNext}
+use Rattle.mirror.specs.Runs.{Message}
+use Rattle.placer.proofs.open.Reads as open-contract
+use Rattle.placer.proofs.reply.Reads as reply-contract
 
--- what the host has after a call, by the entry's contract: what was returned, and the words of the slices that it lent
-abbrev pub LeftBy : Outcome → Outcome → Type 0
-LeftBy has o = Leaves (has .step) (has .layouts) (has .working) (has .unclaimed) o
+-- ---- A call, and what the host has after it: what was returned, and the words of the slices that it lent.
 
--- the contract of `open`
-abbrev pub Opens : Opening → List ℕ → Lent → Outcome → Type 0
-Opens o candidates lent has = LeftBy has (opened o candidates lent)
+-- where the slices of a call stand, and for how long. A contract speaks of their words only
+pub record Slices : Type 0 where
+  pub lifetimes : Lfts 5
+  pub records : RefT (List ℕ)
+  pub styles : RefT (List ℕ)
+  pub layouts : RefT (List ℕ)
+  pub working : RefT (List ℕ)
+  pub unclaimed : RefT (List ℕ)
 
--- the contract of `reply`
-abbrev pub Replies : State → Reply → List ℕ → Lent → Outcome → Type 0
-Replies s reply surfaced lent has = LeftBy has (replied s reply surfaced lent)
+-- a call of `open`: what its caller learns, with these words before and those after
+pub record Opens (o : Opening) (candidates : List ℕ) (lent : Lent) (has : Outcome) : Type 0 where
+  pub at : Slices
+  pub learnt :
+      open-contract.Learnt (at .lifetimes)
+      (o, (at-last (at .styles) (lent .styles), (at-last (at .records) candidates, (at-last (at .layouts) (lent .layouts), (at-last (at .working) (lent .working), (at-last (at .unclaimed) (lent .unclaimed), tt))))))
+      (has .step)
+      (o, (at-last (at .styles) (lent .styles), (at-last (at .records) candidates, (at-last (at .layouts) (has .layouts), (at-last (at .working) (has .working), (at-last (at .unclaimed) (has .unclaimed), tt))))))
 
--- ---- Any calls: each reply is given the state that the last call returned, and any words. It counts the questions that were asked.
+-- a call of `reply`
+pub record Replies (s : State) (reply : Reply) (surfaced : List ℕ) (lent : Lent) (has : Outcome) : Type 0 where
+  pub at : Slices
+  pub learnt :
+      reply-contract.Learnt (at .lifetimes)
+      (s, (reply, (at-last (at .records) surfaced, (at-last (at .styles) (lent .styles), (at-last (at .layouts) (lent .layouts), (at-last (at .working) (lent .working), (at-last (at .unclaimed) (lent .unclaimed), tt)))))))
+      (has .step)
+      (s, (reply, (at-last (at .records) surfaced, (at-last (at .styles) (lent .styles), (at-last (at .layouts) (has .layouts), (at-last (at .working) (has .working), (at-last (at .unclaimed) (has .unclaimed), tt)))))))
 
-pub data AnyCalls : ℕ → Outcome → Type 0 where
-  opening : {has : Outcome} (o : Opening) (candidates : List ℕ) (lent : Lent) → Opens o candidates lent has → AnyCalls (oneIfAsked (has .step .answer)) has
+-- ---- Any calls: each reply is given the state that the last call returned, and any words in slices of any length. `n` questions were
+-- asked for box i, the record i of the working list, each while it was at hand.
+
+pub data AnyCalls (i : ℕ) : ℕ → Outcome → Type 0 where
+  opening : {has : Outcome} (o : Opening) (candidates : List ℕ) (lent : Lent) → Opens o candidates lent has → AnyCalls i (askedFor i (has .step)) has
   reply :
       {n : ℕ} {before has : Outcome} (reply : Reply) (surfaced : List ℕ) (lent : Lent)
-      → AnyCalls n before
+      → AnyCalls i n before
       → Replies (before .step .state) reply surfaced lent has
-      → AnyCalls (n + oneIfAsked (has .step .answer)) has
+      → AnyCalls i (n + askedFor i (has .step)) has
 
--- ---- A run: nobody else writes the lent words, so each reply is lent what the last call left.
+-- ---- A run: nobody else writes the lent words.
+
+-- the run's own slices, with the words that the last call left in them
+abbrev pub ownSlices : List ℕ → Outcome → Lent
+ownSlices styles before = record { styles = styles; layouts = before .layouts; working = before .working; unclaimed = before .unclaimed }
+
+-- what a call leaves of a run: lent other slices, the run's own keep their words
+pub data Hears (styles : List ℕ) (before : Outcome) (h : Heard) : Loan → Outcome → Type 0 where
+  lentOwn :
+      {has : Outcome}
+      → Replies (before .step .state) (h .reply) (h .surfaced) (ownSlices styles before) has
+      → Hears styles before h own has
+  lentOther :
+      {lent : Lent} {has : Outcome}
+      → Replies (before .step .state) (h .reply) (h .surfaced) lent has
+      → Hears styles before h (other lent) (record { step = has .step; layouts = before .layouts; working = before .working; unclaimed = before .unclaimed })
 
 pub data Run (o : Opening) (candidates : List ℕ) (lent : Lent) : List Heard → Outcome → Type 0 where
   opening : {has : Outcome} → Opens o candidates lent has → Run o candidates lent [] has
   reply :
       {heard : List Heard} {before has : Outcome} (h : Heard)
       → Run o candidates lent heard before
-      → LeftBy has (next (lent .styles) before h)
+      → Hears (lent .styles) before h own has
       → Run o candidates lent (heard ++ (h ∷ [])) has
 
--- ---- A run and its mirror image, side by side: each message is a reply that both are given. Either lends its own slices, or others, in
--- which case its own keep their words.
+-- ---- A run and its mirror image, side by side: each message is a reply that both are given. Either lends its own slices, or others.
 
 pub data BothRuns (o : Opening) (candidates : List ℕ) (lent lent' : Lent) : List Message → Outcome → Outcome → Type 0 where
   opening :
@@ -54,6 +91,6 @@ pub data BothRuns (o : Opening) (candidates : List ℕ) (lent lent' : Lent) : Li
   reply :
       {messages : List Message} {before before' has has' : Outcome} (m : Message)
       → BothRuns o candidates lent lent' messages before before'
-      → LeftBy has (runNext (lent .styles) before m)
-      → LeftBy has' (imageNext (lent' .styles) before' m)
+      → Hears (lent .styles) before (m .heard) (m .loan) has
+      → Hears (lent' .styles) before' (m .heard) (m .imageLoan) has'
       → BothRuns o candidates lent lent' (messages ++ (m ∷ [])) has has'

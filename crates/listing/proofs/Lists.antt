@@ -13,28 +13,29 @@ use Rattle.run.specs.declared.Opening.{Opening}
 use Rattle.run.specs.declared.Finish.{Finish as FinishOf}
 use Rattle.run.specs.declared.Answer.the-variants.{Ask, Finish, Refused}
 use Rattle.run.specs.declared.Step.{Step}
-use Rattle.run.specs.Call.{Lent, Outcome, Leaves}
+use Rattle.run.specs.Call.{Lent, Outcome, outcome}
+use Rattle.run.proofs.Call.{left-step, left-layouts, left-working}
 use Rattle.script.specs.Script.{playedOut}
 use Rattle.listing.specs.Rows.{rowsAt, Prints}
 use Rattle.listing.specs.Listing.{LIST-BYTES, listWords, listOf}
 use Rattle.listing.proofs.Room.{room-kept}
 
-module _ (s : Step) (l w u : List ℕ) (o : Outcome) (left : Leaves s l w u o) (before : List ℕ) where
+module _ (s : Step) (l w u : List ℕ) (o : Outcome) (left : outcome s l w u ≡ o) (before : List ℕ) where
   pub list-asked : {q : Question} → s .answer ≡ Ask q → Prints 0 before before (listOf o)
   unfolding listOf
-  list-asked e = rw (← left .step, e) (record { size = refl; bytes = refl })
+  list-asked e = rw (← left-step left, e) (record { size = refl; bytes = refl })
 
   pub list-finished : {f : FinishOf} {r : ℕ} {after : List ℕ} → s .answer ≡ Finish f
       → Prints r before after (listText (rowsAt w (s .state .counts .filled .working) l) (f .overflow))
       → Prints r before after (listOf o)
   unfolding listOf
-  list-finished e p = rw (← left .step, ← left .layouts, ← left .working, e) p
+  list-finished e p = rw (← left-step left, ← left-layouts left, ← left-working left, e) p
 
   pub list-refused : {x : Refusal} {r number : ℕ} {after : List ℕ} → s .answer ≡ Refused x → number ≡ numberOf x
       → Prints r before after (refusalText number)
       → Prints r before after (listOf o)
   unfolding listOf
-  list-refused e n p = rw (← left .step, e, ← n) p
+  list-refused e n p = rw (← left-step left, e, ← n) p
 
 -- its rows have room
 pub list-fits : (o : Opening) (replies candidates : List ℕ) (lent : Lent) (s : Step) (out : ℕ)

@@ -6,8 +6,7 @@ ghost use Rattle.screen.specs.Format.{MAX-ITEMS, MAX-CANDIDATES};
 ghost use Rattle.style_record.specs.Record.{styleWords};
 ghost use Rattle.tree_record.specs.Candidate.{candidateWidth};
 ghost use Rattle.tree_record.specs.Layout.{layoutWidth};
-ghost use Rattle.placer_check.specs.Verdict.{lent};
-ghost use Rattle.run.specs.Call.{Leaves};
+ghost use Rattle.run.specs.Call.{lent, atEntry};
 ghost use Rattle.script.specs.Script.{replyWidth, playedOut};
 ghost use Rattle.listing.specs.Rows.{Prints};
 ghost use Rattle.listing.specs.Listing.{LIST-BYTES, listOf, openingOf, listWords, listFrom, printed};
@@ -72,7 +71,7 @@ fn list_run(
 ) -> usize
     requires { ⌜ length (now working) ≡ listWords ⌝ }
     requires { ⌜ LIST-BYTES ≤ length (now out) ⌝ }
-    ensures { λ r. ⌜ Prints r (now (out .entry)) (now (out .exit)) (listOf (playedOut o (now (replies .entry)) (now (candidates .entry)) (lent (now (styles .entry)) (now (layouts .entry)) (now (working .entry)) (now (unclaimed .entry))))) ⌝ }
+    ensures { λ r. ⌜ Prints r (now (out .entry)) (now (out .exit)) (listOf (playedOut o (now (replies .entry)) (now (candidates .entry)) (atEntry styles layouts working unclaimed))) ⌝ }
 {
     let step = script::play_out(o, replies, styles, candidates, layouts, working, unclaimed);
     let counts = step.state.counts;

@@ -113,7 +113,7 @@ slice-back by ws w true room = list-back w (keep by true (candidatesIn ws)) (kep
 slice-back by ws w false room = list-back w (keep by false (candidatesIn ws)) (kept-fits by (candidatesIn ws) (slice-fits ws) .1) (omega arith)
 
 -- the unclaimed records of an opening are images
-pub opened-images : {area : OofPositioningArea} {n : ℕ} {cs cs' : List OofCandidate} → Each (Ready area n) cs cs' → Unclaimed area cs cs'
+pub opened-images : {area : OofPositioningArea} {n : ℕ} {cs cs' : List OofCandidate} → Each (Ready area n) cs cs' → Unclaimed area (length cs) cs cs'
 opened-images none = surfaced none
 opened-images (one r e) = opened (r .image) (opened-images e)
 

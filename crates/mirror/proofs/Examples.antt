@@ -47,7 +47,8 @@ use Rattle.run.specs.Run.{opened}
 use Rattle.mirror_box.specs.Mirrored.{SameSpace, definite, minContent, maxContent, measureBoth, measureWidth, measureHeight, layOut}
 use Rattle.mirror.specs.Image.{imageOpening, imageStyles, imageCandidates, otherDirection, otherEdge, across, imageStyle, reflectedWord, imageCandidate, listed, eachRecord}
 use Rattle.run.specs.Theorems as theorems
-use Rattle.mirror.specs.Runs.{Message, own, other, runNext, imageNext, both, neither, SameAnswer, ask, finish, refused, laidSoFar, layoutOfBox, MirroredRuns}
+use Rattle.mirror.specs.Runs.{Message, runNext, imageNext, both, neither, SameAnswer, ask, finish, refused, layoutOfBox, MirroredRuns, leftAtOpening}
+use Rattle.run.specs.Theorems.{own, other, laidSoFar}
 use Rattle.exact.specs.Value.{Quarter}
 use Rattle.mirror.specs.Quarter.{QuarterReply}
 use Rattle.records.specs.Records.{every, recordAt, records}
@@ -220,7 +221,7 @@ nought : Quarter (word 0)
 unfolding ofBits
 nought = quarter-decided (word 0) refl
 
-met : MirroredRuns (screen 1120403456 1112014848 1090519040 .area) ran imageRan
+met : MirroredRuns (screen 1120403456 1112014848 1090519040 .area) (leftAtOpening (screen 1120403456 1112014848 1090519040) three lent) ran imageRan
 unfolding ofBits eq every items lengthAt floatAt recordAt records candidateOf axisOf firstCandidates candidatesIn keep otherLengths listed eachRecord
 met =
     mirror (screen 1120403456 1112014848 1090519040) three lent lent' replies
@@ -257,11 +258,11 @@ differ {a} {a'} {x} {x'} p q d h = go (spaceOf a) (spaceOf a') p q (same-space h
     go _ _ p q maxContent = let z : _≡_ {A = ℕ} 0 1 = cc in omega arith
 
 -- a width that isn't 0: in one of 0 the run offers 0.5 and its image 0
-width-needed : MirroredRuns (narrow .area) (stillRan narrow centered []) (imageStillRan narrow centered []) → ⊥
+width-needed : (n : ℕ) → MirroredRuns (narrow .area) n (stillRan narrow centered []) (imageStillRan narrow centered []) → ⊥
 unfolding eq ofBits
-width-needed h = differ (computed .narrowSpace) (computed .narrowImageSpace) refl (h .answer)
+width-needed n h = differ (computed .narrowSpace) (computed .narrowImageSpace) refl (h .answer)
 
 -- no box surfaced: the run offers the surfaced one 0.25 and its image 0
-surfaced-needed : MirroredRuns (small .area) (stillRan small atStart surfacing) (imageStillRan small atStart surfacing) → ⊥
+surfaced-needed : (n : ℕ) → MirroredRuns (small .area) n (stillRan small atStart surfacing) (imageStillRan small atStart surfacing) → ⊥
 unfolding eq ofBits
-surfaced-needed h = differ (computed .smallSpace) (computed .smallImageSpace) refl (h .answer)
+surfaced-needed n h = differ (computed .smallSpace) (computed .smallImageSpace) refl (h .answer)

@@ -32,7 +32,8 @@ use Rattle.mirror_box.specs.Image.{imageBlock}
 use Rattle.mirror_box.specs.Quarter.{QuarterBlock, QuarterStyle, QuarterCandidate, QuarterReplies}
 use Rattle.mirror_box.specs.Mirrored.{CandidateImage, MirroredLayout, SameRect}
 use Rattle.mirror.specs.Image.{imageStyles}
-use Rattle.mirror.specs.Runs.{SameAnswer, Each, none, one, Unclaimed, laidIn, MirroredRuns}
+use Rattle.mirror.specs.Runs.{SameAnswer, Each, none, one, Unclaimed, MirroredRuns}
+use Rattle.run.specs.Theorems.{laidCount}
 use Rattle.mirror.proofs.Lists.{each-weaker}
 
 -- ---- what never changes
@@ -41,6 +42,7 @@ pub record Frame : Type 0 where
   pub block : ContainingBlock
   pub styles : List ℕ
   pub extents : Extents
+  pub left : ℕ
 
 -- as demand 3 asks, of a table that passes refusal 3
 pub record QuarterFrame (f : Frame) : Type 0 where
@@ -99,7 +101,7 @@ pub record Lists (f : Frame) (filled : Filled) (p p' : Own) : Type 0 where
   pub claimed : Each (Ready (f .block .area) (items (f .styles))) (firstCandidates (filled .working) (p .working)) (firstCandidates (filled .working) (p' .working))
   pub good : badCandidate (f .styles) (p .working) (filled .working) ≡ false
   pub good' : badCandidate (imageStyles (f .styles)) (p' .working) (filled .working) ≡ false
-  pub unclaimed : Unclaimed (f .block .area) (firstCandidates (filled .unclaimed) (p .unclaimed)) (firstCandidates (filled .unclaimed) (p' .unclaimed))
+  pub unclaimed : Unclaimed (f .block .area) (f .left) (firstCandidates (filled .unclaimed) (p .unclaimed)) (firstCandidates (filled .unclaimed) (p' .unclaimed))
 
 -- the boxes laid out
 abbrev pub Laid : Frame → ℕ → Own → Own → Type 0
@@ -111,7 +113,7 @@ Blocks f p p' = (p .block ≡ f .block) × (p' .block ≡ imageBlock (f .block))
 
 pub record Links (f : Frame) (s : Shared) (p p' : Own) : Type 0 where
   pub lists : Lists f (s .counts .filled) p p'
-  pub laid : Laid f (laidIn (s .progress) (s .counts .begun)) p p'
+  pub laid : Laid f (laidCount (s .progress) (s .counts .begun)) p p'
   pub overflow : SameRect (p .overflow) (p' .overflow)
   pub replies : QuarterReplies (s .replies)
   pub blocks : (stage : Stage) → s .progress ≡ Asking stage → Blocks f p p'
@@ -130,11 +132,13 @@ same-nodes : {area : OofPositioningArea} {n : ℕ} {cs cs' : List OofCandidate} 
 same-nodes none = refl
 same-nodes (one {cs = cs} {cs' = cs'} r e) = rw (r .image .node, same-nodes e) refl
 
-pub mirrored : {f : Frame} {o o' : Outcome} → Linked f o o' → MirroredRuns (f .block .area) o o'
+pub mirrored : {f : Frame} {o o' : Outcome} → Linked f o o' → MirroredRuns (f .block .area) (f .left) o o'
 mirrored (linked s p p' h a) =
     record {
       answer = a;
       counts = refl;
+      progress = refl;
+      overflow = h .overflow;
       order = same-nodes (h .lists .claimed);
       claimed = each-weaker (λ c c' r. r .image) (h .lists .claimed);
       unclaimed = h .lists .unclaimed;

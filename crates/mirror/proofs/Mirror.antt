@@ -11,11 +11,11 @@ use Rattle.run.specs.declared.Opening.{Opening}
 use Rattle.run.specs.Call.{Lent, Outcome}
 use Rattle.run.specs.Refusals.{otherLengths, lentBy}
 use Rattle.run.specs.Run.{extentsOf, opened, replied}
-use Rattle.run.specs.Theorems.{isRefused, next}
+use Rattle.run.specs.Theorems.{isRefused, next, Loan, nextWith}
 use Rattle.mirror.specs.Image.{imageOpening, imageStyles, imageCandidates}
 use Rattle.mirror.specs.Quarter.{QuarterArea, QuarterTable, QuarterCandidates, QuarterReply}
 use Rattle.mirror.specs.Runs as runs
-use Rattle.mirror.specs.Runs.{Loan, Message, called, runNext, imageNext, Alike, both, neither, Fair, AllFair, MirroredRuns}
+use Rattle.mirror.specs.Runs.{Message, runNext, imageNext, Alike, both, neither, Fair, AllFair, MirroredRuns, leftAtOpening}
 use Rattle.mirror.specs.Mirror.{Mirror}
 use Rattle.mirror.proofs.Verdicts.{same-others, others-refused}
 use Rattle.mirror.proofs.Linked.{Frame, QuarterFrame, Shared, Own, stateOf, outcomeOf, Linked, linked, mirrored}
@@ -36,9 +36,9 @@ module _ (f : Frame) (q : QuarterFrame f) where
   one-reply m (linked s p p' {a = a} {a' = a'} links same) alike fair = go (m .loan) (m .imageLoan) alike fair
     where
       go : (l l' : Loan) → Alike (f .extents) l l'
-          → (isRefused (called (f .styles) (outcomeOf f s p a) (m .heard) l .step .answer) ≡ false
+          → (isRefused (nextWith (f .styles) (outcomeOf f s p a) (m .heard) l .step .answer) ≡ false
           → QuarterReply (m .heard .reply) × (keep (s .claims) true (candidatesIn (lentBy (m .heard .reply) (m .heard .surfaced))) ≡ []))
-          → Linked f (called (f .styles) (outcomeOf f s p a) (m .heard) l) (called (imageStyles (f .styles)) (outcomeOf f s p' a') (m .heard) l')
+          → Linked f (nextWith (f .styles) (outcomeOf f s p a) (m .heard) l) (nextWith (imageStyles (f .styles)) (outcomeOf f s p' a') (m .heard) l')
       go _ _ both fair = replied-linked f q s p p' links (m .heard .reply) (m .heard .surfaced) fair
       go _ _ (neither {lent = lent} {lent' = lent'} e d) fair =
           rw (other-refused f s p (m .heard .reply) (m .heard .surfaced) lent d, other-refused f s p' (m .heard .reply) (m .heard .surfaced) lent' (sym (same-others lent lent' e (f .extents)) ∙ d))
@@ -57,7 +57,7 @@ from-opening : (o : Opening) (candidates : List ℕ) (lent : Lent) (layouts work
     → QuarterArea (o .area) → QuarterTable (lent .styles) → QuarterCandidates candidates
     → extentsOf lent ≡ extentsOf (imageLent o candidates lent layouts working unclaimed)
     → AllFair (extentsOf lent) (lent .styles) (opened o candidates lent) messages
-    → MirroredRuns (o .area) (foldl (runNext (lent .styles)) (opened o candidates lent) messages)
+    → MirroredRuns (o .area) (leftAtOpening o candidates lent) (foldl (runNext (lent .styles)) (opened o candidates lent) messages)
     (foldl (imageNext (imageStyles (lent .styles))) (opened (imageOpening o) (imageCandidates (o .area) candidates) (imageLent o candidates lent layouts working unclaimed)) messages)
 from-opening o candidates lent layouts working unclaimed messages area table quarter same fair =
     mirrored
@@ -68,7 +68,7 @@ pub mirror : Mirror
 mirror o candidates lent lent' messages area table quarter image same fair =
     subst
     (λ (lent' : Lent).
-    MirroredRuns (o .area) (foldl (runNext (lent .styles)) (opened o candidates lent) messages)
+    MirroredRuns (o .area) (leftAtOpening o candidates lent) (foldl (runNext (lent .styles)) (opened o candidates lent) messages)
     (foldl (imageNext (lent' .styles)) (opened (imageOpening o) (imageCandidates (o .area) candidates) lent') messages))
     (sym with-image)
     (from-opening o candidates lent (lent' .layouts) (lent' .working) (lent' .unclaimed) messages area table quarter (same ∙ ap extentsOf with-image) fair)

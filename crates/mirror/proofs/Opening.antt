@@ -3,7 +3,7 @@ use Prim.Native.Nat.{ℕ, _+_, _*_, _/_, _<_, _≤_}
 use native.Mathlib.Omega.{arith}
 use mathlib.Core.Path.{_≡_, refl, sym, ap, _∙_, subst}
 use mathlib.Core.Bool.{Bool, true, false, not}
-use mathlib.Core.List.{List}
+use mathlib.Core.List.{List, []}
 use lib.Dec.{lit<}
 use lib.ListN.{length, getD}
 use borrow.Author.Tests.{ltb-false, le-leb}
@@ -37,7 +37,7 @@ use Rattle.mirror_box.specs.Mirrored.{SameRect}
 use Rattle.mirror.specs.Image.{imageOpening, imageStyles, imageCandidates}
 use Rattle.mirror.specs.Quarter.{QuarterArea, QuarterItem, QuarterTable, QuarterCandidates}
 use Rattle.mirror.specs.Runs as runs
-use Rattle.mirror.specs.Runs.{Each, none, surfaced}
+use Rattle.mirror.specs.Runs.{Each, none, Unclaimed, surfaced, leftBy, leftAtOpening}
 use Rattle.mirror.proofs.Styles.{direction-decoded, items-kept, no-ratio}
 use Rattle.mirror.proofs.Lists.{nobody, each-length, each-at, each-kept}
 use Rattle.mirror.proofs.Verdicts.{OpeningPassed, opening-passed, same-opening}
@@ -75,7 +75,7 @@ opened-as o candidates lent e = rw e refl
 
 module _ (o : Opening) (candidates : List ℕ) (lent : Lent) (layouts working unclaimed : List ℕ) where
   abbrev pub frame : Frame
-  frame = record { block = blockOf o; styles = lent .styles; extents = extentsOf lent }
+  frame = record { block = blockOf o; styles = lent .styles; extents = extentsOf lent; left = leftAtOpening o candidates lent }
 
   -- the image's slices
   abbrev pub imageLent : Lent
@@ -108,12 +108,12 @@ module _ (o : Opening) (candidates : List ℕ) (lent : Lent) (layouts working un
 
     closed-as : (r : Refusal) → unwritten imageLent (record { state = closed imageLent; answer = Refused r }) ≡ outcomeOf frame over (untouched imageLent) (Refused r)
     unfolding closed nobodys
-    closed-as r = ap (λ (e : Extents). outcomeOf (record { block = blockOf o; styles = lent .styles; extents = e }) over (untouched imageLent) (Refused r)) (sym same)
+    closed-as r = ap (λ (e : Extents). outcomeOf (record { block = blockOf o; styles = lent .styles; extents = e; left = leftAtOpening o candidates lent }) over (untouched imageLent) (Refused r)) (sym same)
 
-    turned-down : (r : Refusal)
+    turned-down : (r : Refusal) → openingVerdict o candidates lent ≡ refused r
         → Linked frame (unwritten lent (record { state = closed lent; answer = Refused r })) (unwritten imageLent (record { state = closed imageLent; answer = Refused r }))
     unfolding closed nobodys firstCandidates records
-    turned-down r =
+    turned-down r d =
         rw (closed-as r)
         (linked over (untouched lent) (untouched imageLent)
         (record {
@@ -124,7 +124,7 @@ module _ (o : Opening) (candidates : List ℕ) (lent : Lent) (layouts working un
                 claimed = none;
                 good = no-records (lent .styles) (lent .working);
                 good' = no-records (imageStyles (lent .styles)) working;
-                unclaimed = surfaced none;
+                unclaimed = subst (λ (n : ℕ). Unclaimed (o .area) n [] []) (sym (ap (λ (v : Verdict). leftBy v o candidates) d)) (surfaced none);
               };
           laid = λ i h. absurd (omega arith);
           overflow = zero-rect;
@@ -174,7 +174,7 @@ module _ (o : Opening) (candidates : List ℕ) (lent : Lent) (layouts working un
       pub quarter-frame : QuarterFrame frame
       quarter-frame = record { block = quarter-block o area; style = λ e i h. quarter-style (lent .styles) e i h (table i h) }
 
-      module _ (passed : OpeningPassed o candidates lent) (passed' : OpeningPassed (imageOpening o) image imageLent) where
+      module _ (d : openingVerdict o candidates lent ≡ accepted) (passed : OpeningPassed o candidates lent) (passed' : OpeningPassed (imageOpening o) image imageLent) where
         direction-there : o .direction < 2
         unfolding badArea
         direction-there = let e = ltb-false 1 (o .direction) (neither _ _ (neither _ _ (neither _ _ (passed .area) .0) .0) .0) in omega arith
@@ -209,7 +209,8 @@ module _ (o : Opening) (candidates : List ℕ) (lent : Lent) (layouts working un
               good' =
                   rw (items-kept (lent .styles), kept-alike true)
                   (ap not (front-good working (inImage true) (passed' .room .0) (items (lent .styles)) image-there));
-              unclaimed = rw (slice-back by candidates (lent .unclaimed) false (passed .room .1), image-back false unclaimed (passed' .room .1)) (opened-images (ready false));
+              unclaimed = rw (slice-back by candidates (lent .unclaimed) false (passed .room .1), image-back false unclaimed (passed' .room .1))
+                  (subst (λ (n : ℕ). Unclaimed (o .area) n (inList false) (inImage false)) (sym (ap (λ (v : Verdict). leftBy v o candidates) d)) (opened-images (ready false)));
             }
 
         begins : Linked frame (begun o candidates lent) (begun (imageOpening o) image imageLent)
@@ -222,7 +223,7 @@ module _ (o : Opening) (candidates : List ℕ) (lent : Lent) (layouts working un
       opened-linked = go (openingVerdict o candidates lent) refl
         where
           go : (v : Verdict) → openingVerdict o candidates lent ≡ v → Linked frame (opened o candidates lent) (opened (imageOpening o) image imageLent)
-          go (refused r) e = both-are frame (opened-as o candidates lent e) (opened-as (imageOpening o) image imageLent (sym same-verdict ∙ e)) (turned-down r)
+          go (refused r) e = both-are frame (opened-as o candidates lent e) (opened-as (imageOpening o) image imageLent (sym same-verdict ∙ e)) (turned-down r e)
           go accepted e =
               both-are frame (opened-as o candidates lent e) (opened-as (imageOpening o) image imageLent (sym same-verdict ∙ e))
-              (begins (opening-passed o candidates lent e) (opening-passed (imageOpening o) image imageLent (sym same-verdict ∙ e)))
+              (begins e (opening-passed o candidates lent e) (opening-passed (imageOpening o) image imageLent (sym same-verdict ∙ e)))

@@ -26,7 +26,7 @@ use Rattle.run.specs.declared.State.{State}
 use Rattle.run.specs.Call.{Lent, Outcome}
 use Rattle.run.specs.Refusals.{Verdict, accepted, refused, lentBy}
 use Rattle.run.specs.Run.{extentsOf, takenIn, takenBy, isWrong, replyVerdict, measuredOn, laidOut, refusing, repliedBy, replied}
-use Rattle.run.specs.Theorems.{isRefused}
+use Rattle.run.specs.Theorems.{isRefused, laidCount}
 use Rattle.run.proofs.Ways.{lent-all}
 use Rattle.run.proofs.Refusals.{measured-accepts, laid-accepts}
 use Rattle.mirror_box.specs.Quarter.{QuarterReplies, QuarterOverflow}
@@ -35,7 +35,6 @@ use Rattle.mirror_box.proofs.Law.{unions-mirrored}
 use Rattle.mirror.specs.Image.{imageStyles}
 use Rattle.mirror.specs.Quarter.{QuarterReply}
 use Rattle.mirror.specs.Runs as runs
-use Rattle.mirror.specs.Runs.{laidIn}
 use Rattle.mirror.proofs.Styles.{items-kept}
 use Rattle.mirror.proofs.Verdicts.{same-reply, ReplyPassed, reply-passed}
 use Rattle.mirror.proofs.Taken.{QuarterTaken, quarter-taken}
@@ -78,7 +77,7 @@ module _ (f : Frame) (q : QuarterFrame f) (s : Shared) (p p' : Own) (links : Lin
 
   module _ (stage : Stage) (asked : s .progress ≡ Asking stage) (passed : ReplyPassed (stateOf f s p) reply surfaced lent) where
     before : link.Laid f (s .counts .begun - 1) p p'
-    before = subst (λ (at : Progress). link.Laid f (laidIn at (s .counts .begun)) p p') asked (links .laid)
+    before = subst (λ (at : Progress). link.Laid f (laidCount at (s .counts .begun)) p p') asked (links .laid)
 
     -- a size was replied
     measures : (replies : Replies) → QuarterReplies replies → Linked f (measuredOn (stateOf f s p) replies lent) (measuredOn (stateOf f s p') replies lent')

@@ -32,7 +32,7 @@ unfolding moved translated shiftedAxis
 each-moved a b e [] = none
 each-moved a b e (c ∷ cs) = one (record { node = refl; order = refl; position = refl; align = refl; y = ap (shiftedAxis (c .place .y)) e }) (each-moved a b e cs)
 
-more-unclaimed : {area : OofPositioningArea} {cs cs' ds ds' : List OofCandidate} → Unclaimed area cs cs' → Each SameButX ds ds' → Unclaimed area (cs ++ ds) (cs' ++ ds')
+more-unclaimed : {area : OofPositioningArea} {n : ℕ} {cs cs' ds ds' : List OofCandidate} → Unclaimed area n cs cs' → Each SameButX ds ds' → Unclaimed area n (cs ++ ds) (cs' ++ ds')
 more-unclaimed (opened i u) e = opened i (more-unclaimed u e)
 more-unclaimed (surfaced u) e = surfaced (joined u e)
   where
@@ -55,10 +55,10 @@ module _ (by : ContainingBlockClaims) (words : List ℕ) where
         ap (λ (n : ℕ). firstCandidates (held + n) (appended u held cs)) (sym e)
         ∙ appended-back u held cs (kept-fits by (map (moved (By at)) (candidatesIn words)) (swept-fits (By at) words) .1) (rw e room)
 
-  pub left-unclaimed : {area : OofPositioningArea} (u u' : List ℕ) (held : ℕ) → candidateWidth * (held + left) ≤ length u → candidateWidth * (held + left) ≤ length u'
+  pub left-unclaimed : {area : OofPositioningArea} {n : ℕ} (u u' : List ℕ) (held : ℕ) → candidateWidth * (held + left) ≤ length u → candidateWidth * (held + left) ≤ length u'
       → (a b : Point) → a .y ≡ b .y
-      → Unclaimed area (firstCandidates held u) (firstCandidates held u')
-      → Unclaimed area (firstCandidates (held + left) (appended u held (keep by false (map (moved (By a)) (candidatesIn words)))))
+      → Unclaimed area n (firstCandidates held u) (firstCandidates held u')
+      → Unclaimed area n (firstCandidates (held + left) (appended u held (keep by false (map (moved (By a)) (candidatesIn words)))))
       (firstCandidates (held + left) (appended u' held (keep by false (map (moved (By b)) (candidatesIn words)))))
   left-unclaimed u u' held r r' a b e h =
       rw (left-back u held r a, left-back u' held r' b)

@@ -9,7 +9,7 @@ use Rattle.run.specs.Call.{Lent}
 use Rattle.run.specs.Run.{opened, extentsOf}
 use Rattle.mirror.specs.Image.{imageOpening, imageStyles, imageCandidates}
 use Rattle.mirror.specs.Quarter.{QuarterArea, QuarterTable, QuarterCandidates}
-use Rattle.mirror.specs.Runs.{Message, runNext, imageNext, AllFair, MirroredRuns}
+use Rattle.mirror.specs.Runs.{Message, runNext, imageNext, AllFair, MirroredRuns, leftAtOpening}
 
 abbrev pub Mirror : Type 0
 Mirror =
@@ -20,5 +20,5 @@ Mirror =
     → lent' .styles ≡ imageStyles (lent .styles) → extentsOf lent ≡ extentsOf lent'
     -- accepted replies are of whole quarter pixels and surface no box that is claimed; any reply may be refused, and lend other slices
     → AllFair (extentsOf lent) (lent .styles) (opened o candidates lent) messages
-    → MirroredRuns (o .area) (foldl (runNext (lent .styles)) (opened o candidates lent) messages)
+    → MirroredRuns (o .area) (leftAtOpening o candidates lent) (foldl (runNext (lent .styles)) (opened o candidates lent) messages)
     (foldl (imageNext (lent' .styles)) (opened (imageOpening o) (imageCandidates (o .area) candidates) lent') messages)

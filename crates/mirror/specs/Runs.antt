@@ -1,5 +1,5 @@
 -- A run and its mirror image, fed one list of replies: what the host may lend, and what the two then have in common. Assumes nothing.
-use Prim.Native.Nat.{ℕ, _-_, _<_}
+use Prim.Native.Nat.{ℕ, suc, _<_}
 use mathlib.Core.Path.{_≡_}
 use mathlib.Core.Bool.{true, false}
 use mathlib.Core.List.{List, [], _∷_}
@@ -10,27 +10,23 @@ use Rattle.tree.specs.declared.layout.OofPositioningArea.{OofPositioningArea}
 use Rattle.records.specs.Records.{recordAt}
 use Rattle.tree_record.specs.Candidate.{candidateWidth, candidateOf}
 use Rattle.tree_record.specs.Layout.{layoutWidth, layoutOf}
-use Rattle.sweep.specs.Sweep.{firstCandidates, candidatesIn, claimed}
+use lib.ListN.{length}
+use Rattle.sweep.specs.Sweep.{firstCandidates, candidatesIn, claimed, others}
 use Rattle.oof_box.specs.declared.question.Question.{Question}
-use Rattle.run.specs.declared.Progress.{Progress}
-use Rattle.run.specs.declared.Progress.the-variants.{Finished, Asking}
 use Rattle.run.specs.declared.Extents.{Extents}
 use Rattle.run.specs.declared.Finish as ending
 use Rattle.run.specs.declared.Answer.{Answer}
 use Rattle.run.specs.declared.Answer.the-variants.{Ask, Finish, Refused}
 use Rattle.run.specs.Call.{Lent, Outcome}
-use Rattle.run.specs.Refusals.{otherLengths, lentBy}
-use Rattle.run.specs.Run.{extentsOf, replied}
-use Rattle.run.specs.Theorems.{isRefused, Heard, next, claimedSoFar, hoisted}
+use Rattle.run.specs.declared.Opening.{Opening}
+use Rattle.run.specs.Refusals as verdict
+use Rattle.run.specs.Refusals.{Verdict, otherLengths, lentBy}
+use Rattle.run.specs.Run.{extentsOf, openingVerdict, claimsOf}
+use Rattle.run.specs.Theorems.{isRefused, Heard, Loan, own, other, nextWith, laidSoFar, claimedSoFar, hoisted}
 use Rattle.mirror_box.specs.Mirrored.{CandidateImage, SameQuestion, MirroredLayout, SameRect}
 use Rattle.mirror.specs.Quarter.{QuarterReply}
 
 -- ---- replies
-
--- what a call is lent: the run's own slices, with the words that the last call left in them; or others
-pub data Loan : Type 0 where
-  own : Loan
-  other : Lent → Loan
 
 -- a reply that both runs are given, and what each is lent with it
 pub record Message : Type 0 where
@@ -38,22 +34,11 @@ pub record Message : Type 0 where
   pub loan : Loan
   pub imageLoan : Loan
 
--- what a call leaves of a run: if it was lent other slices, the run's own keep their words
-abbrev pub called : List ℕ → Outcome → Heard → Loan → Outcome
-called styles o h own = next styles o h
-called styles o h (other lent) =
-    record {
-      step = replied (o .step .state) (h .reply) (h .surfaced) lent .step;
-      layouts = o .layouts;
-      working = o .working;
-      unclaimed = o .unclaimed;
-    }
-
 abbrev pub runNext : List ℕ → Outcome → Message → Outcome
-runNext styles o m = called styles o (m .heard) (m .loan)
+runNext styles o m = nextWith styles o (m .heard) (m .loan)
 
 abbrev pub imageNext : List ℕ → Outcome → Message → Outcome
-imageNext styles o m = called styles o (m .heard) (m .imageLoan)
+imageNext styles o m = nextWith styles o (m .heard) (m .imageLoan)
 
 -- ---- what is asked of them
 
@@ -94,35 +79,37 @@ pub record SameButX (c c' : OofCandidate) : Type 0 where
   pub align : c .place .x .align ≡ c' .place .x .align
   pub y : c .place .y ≡ c' .place .y
 
--- unclaimed records: of the opening's candidates, mirror images; after them those that boxes surfaced
-pub data Unclaimed (area : OofPositioningArea) : List OofCandidate → List OofCandidate → Type 0 where
-  surfaced : {cs cs' : List OofCandidate} → Each SameButX cs cs' → Unclaimed area cs cs'
-  opened : {c c' : OofCandidate} {cs cs' : List OofCandidate} → CandidateImage area c c' → Unclaimed area cs cs' → Unclaimed area (c ∷ cs) (c' ∷ cs')
+-- unclaimed records: the first n, of the opening's candidates, mirror images; after them those that boxes surfaced
+pub data Unclaimed (area : OofPositioningArea) : ℕ → List OofCandidate → List OofCandidate → Type 0 where
+  surfaced : {cs cs' : List OofCandidate} → Each SameButX cs cs' → Unclaimed area 0 cs cs'
+  opened : {n : ℕ} {c c' : OofCandidate} {cs cs' : List OofCandidate} → CandidateImage area c c' → Unclaimed area n cs cs' → Unclaimed area (suc n) (c ∷ cs) (c' ∷ cs')
+
+-- how many of the opening's candidates are unclaimed: none, if it was refused
+abbrev pub leftBy : Verdict → Opening → List ℕ → ℕ
+leftBy verdict.accepted o candidates = length (others (claimsOf o) (candidatesIn candidates))
+leftBy (verdict.refused r) o candidates = 0
+
+abbrev pub leftAtOpening : Opening → List ℕ → Lent → ℕ
+leftAtOpening o candidates lent = leftBy (openingVerdict o candidates lent) o candidates
 
 -- the unclaimed records so far
 abbrev pub unclaimedSoFar : Outcome → List OofCandidate
 unclaimedSoFar o = firstCandidates (o .step .state .counts .filled .unclaimed) (o .unclaimed)
 
--- how many boxes are laid out: all that were begun, but for the one at hand
-abbrev pub laidIn : Progress → ℕ → ℕ
-laidIn Finished begun = begun
-laidIn (Asking stage) begun = begun - 1
-
-abbrev pub laidSoFar : Outcome → ℕ
-laidSoFar o = laidIn (o .step .state .progress) (o .step .state .counts .begun)
-
 -- the layout of box i as its words say, at its node's place
 abbrev pub layoutOfBox : Outcome → ℕ → Layout
 layoutOfBox o i = layoutOf (recordAt layoutWidth (o .layouts) (candidateOf (recordAt candidateWidth (o .working) i) .node))
 
-pub record MirroredRuns (area : OofPositioningArea) (o o' : Outcome) : Type 0 where
+pub record MirroredRuns (area : OofPositioningArea) (left : ℕ) (o o' : Outcome) : Type 0 where
   -- the answer to the last call
   pub answer : SameAnswer (o .step .answer) (o' .step .answer)
   -- filled records, boxes begun, questions answered
   pub counts : o .step .state .counts ≡ o' .step .state .counts
+  pub progress : o .step .state .progress ≡ o' .step .state .progress
+  pub overflow : SameRect (o .step .state .overflow) (o' .step .state .overflow)
   pub order : hoisted o ≡ hoisted o'
   pub claimed : Each (CandidateImage area) (claimedSoFar o) (claimedSoFar o')
-  pub unclaimed : Unclaimed area (unclaimedSoFar o) (unclaimedSoFar o')
+  pub unclaimed : Unclaimed area left (unclaimedSoFar o) (unclaimedSoFar o')
   pub laid : laidSoFar o ≡ laidSoFar o'
   -- as far from the area's left edge as from its right edge, left and right exchanged, all else equal
   pub boxes : (i : ℕ) → i < laidSoFar o → MirroredLayout area (layoutOfBox o i) (layoutOfBox o' i)

@@ -10,7 +10,8 @@ use Rattle.run.specs.declared.Answer.the-variants.{Ask, Finish, Refused}
 use Rattle.run.specs.declared.Finish as declared
 use Rattle.oof_c.specs.StateWords.{stateWords}
 use Rattle.oof_c.specs.AnswerWords.{questionWords, finishWords}
-use Rattle.run.specs.Call.{Outcome, Leaves}
+use Rattle.run.specs.Call.{Outcome, outcome}
+use Rattle.run.proofs.Call.{left-step, left-layouts, left-working, left-unclaimed}
 use Rattle.run.specs.declared.Step.{Step}
 use Rattle.oof_c.specs.Entry.{resultOf, stateLeft, answerLeft, Told, Words, words, Left}
 
@@ -59,15 +60,15 @@ finished-told step finish s a kept shown e f g =
 -- what the placer's entry left and what was told of its step
 pub told-of :
     (r : ℕ) (step : Step) (l w u s a : List ℕ) (call : Words → Outcome) (before : Words)
-    → Leaves step l w u (call before)
+    → outcome step l w u ≡ call before
     → Told r s a (before .state) (before .answer) step
     → Left r call before (words l w u s a)
 told-of r step l w u s a call before leaves told =
     record {
-      result = told .result ∙ ap (λ (t : Step). resultOf (t .answer)) (leaves .step);
-      layouts = leaves .layouts;
-      working = leaves .working;
-      unclaimed = leaves .unclaimed;
-      state = told .state ∙ ap (λ (t : Step). stateLeft (t .state) (t .answer) (before .state)) (leaves .step);
-      answer = told .answer ∙ ap (λ (t : Step). answerLeft (t .answer) (before .answer)) (leaves .step);
+      result = told .result ∙ ap (λ (t : Step). resultOf (t .answer)) (left-step leaves);
+      layouts = left-layouts leaves;
+      working = left-working leaves;
+      unclaimed = left-unclaimed leaves;
+      state = told .state ∙ ap (λ (t : Step). stateLeft (t .state) (t .answer) (before .state)) (left-step leaves);
+      answer = told .answer ∙ ap (λ (t : Step). answerLeft (t .answer) (before .answer)) (left-step leaves);
     }

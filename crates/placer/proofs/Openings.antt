@@ -16,7 +16,8 @@ use Rattle.sweep.specs.Sweep.{candidatesIn, moved, keep, appended, swept}
 use Rattle.run.specs.declared.Answer.the-variants as answer
 use Rattle.run.specs.declared.Opening.{Opening}
 use Rattle.run.specs.declared.Step.{Step}
-use Rattle.run.specs.Call.{Lent, Outcome, Leaves}
+use Rattle.run.specs.Call.{Lent, Outcome, outcome}
+use Rattle.run.proofs.Call.{outcome-is}
 use Rattle.run.specs.Refusals.{_when_else_, refused, listFull}
 use Rattle.run.specs.Run.{claimsOf, blockOf, extentsOf, noneFilled, openingVerdict, closed, begun, openedBy, opened, proceeding}
 use Rattle.placer_check.specs.Verdict.{thenRoom}
@@ -37,17 +38,17 @@ module _ (o : Opening) (candidates : List ℕ) (l : Lent) where
 
   pub turned-down : (r : Refusal) (step : Step) → openingVerdict o candidates l ≡ refused r
       → step ≡ record { state = closed l; answer = answer.Refused r }
-      → Leaves step (l .layouts) (l .working) (l .unclaimed) (opened o candidates l)
+      → outcome step (l .layouts) (l .working) (l .unclaimed) ≡ opened o candidates l
   unfolding opened
-  turned-down r step e s = rw e (record { step = s; layouts = refl; working = refl; unclaimed = refl })
+  turned-down r step e s = rw e (outcome-is s refl refl refl)
 
   pub no-room : (r : Refusal) (step : Step) (w u : List ℕ) → sweep.Leaves (Refused r) w u sweeping
       → step ≡ record { state = closed l; answer = answer.Refused r }
-      → Leaves step (l .layouts) w u begins
+      → outcome step (l .layouts) w u ≡ begins
   unfolding _when_else_
   no-room r step w u h s =
       let f = was-full (claimsOf o) Unmoved candidates l noneFilled r w u h in
-      rw (f .0) (record { step = s ∙ rw (f .1) refl; layouts = refl; working = f .2; unclaimed = f .3 })
+      rw (f .0) (outcome-is (s ∙ rw (f .1) refl) refl (f .2) (f .3))
 
   -- the first box has its record and its style
   pub first-at-hand : (after : Filled) (w u : List ℕ) → OpeningCleared o candidates l → sweep.Leaves (Into after) w u sweeping → 0 < after .working
@@ -60,16 +61,16 @@ module _ (o : Opening) (candidates : List ℕ) (l : Lent) where
 
   pub swept-in : (after : Filled) (step : Step) (w u : List ℕ) → sweep.Leaves (Into after) w u sweeping
       → step ≡ proceeding (l .styles) w (record { block = blockOf o; claims = claimsOf o; extents = extentsOf l }) (record { filled = after; begun = 0; answered = 0 }) zeroRect
-      → Leaves step (l .layouts) w u begins
+      → outcome step (l .layouts) w u ≡ begins
   unfolding begun _when_else_
   swept-in after step w u h s =
       let f = had-room (claimsOf o) Unmoved candidates l noneFilled after w u h in
       let m = unmoved (candidatesIn candidates) in
       let ws : w ≡ appended (l .working) 0 (keep (claimsOf o) true (candidatesIn candidates)) = f .2 ∙ ap (λ (cs : List OofCandidate). appended (l .working) 0 (keep (claimsOf o) true cs)) m in
       let us : u ≡ appended (l .unclaimed) 0 (keep (claimsOf o) false (candidatesIn candidates)) = f .3 ∙ ap (λ (cs : List OofCandidate). appended (l .unclaimed) 0 (keep (claimsOf o) false cs)) m in
-      rw (f .0) (record { step = s ∙ rw (ws, f .1, zero-add, zero-add) refl; layouts = refl; working = ws; unclaimed = us })
+      rw (f .0) (outcome-is (s ∙ rw (ws, f .1, zero-add, zero-add) refl) refl ws us)
 
-  pub accepted : (step : Step) (layouts w u : List ℕ) → OpeningCleared o candidates l → Leaves step layouts w u begins
-      → Leaves step layouts w u (opened o candidates l)
+  pub accepted : (step : Step) (layouts w u : List ℕ) → OpeningCleared o candidates l → outcome step layouts w u ≡ begins
+      → outcome step layouts w u ≡ opened o candidates l
   unfolding opened
   accepted step layouts w u e h = rw e h

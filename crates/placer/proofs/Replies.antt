@@ -34,7 +34,8 @@ use Rattle.run.specs.declared.Progress.{Progress}
 use Rattle.run.specs.declared.Progress.the-variants.{Finished, Asking}
 use Rattle.run.specs.declared.State.{State}
 use Rattle.run.specs.declared.Step.{Step}
-use Rattle.run.specs.Call.{Lent, Outcome, Leaves}
+use Rattle.run.specs.Call.{Lent, Outcome, outcome}
+use Rattle.run.proofs.Call.{outcome-is}
 use Rattle.run.specs.Refusals.{_when_else_, refused, lentBy, listFull}
 use Rattle.run.specs.Run.{boxAtHand, asking, proceeding, takenIn, takenBy, isWrong, replyVerdict, measuredOn, laidOut, repliedBy, replied}
 use Rattle.placer_check.specs.Verdict.{thenRoom}
@@ -60,11 +61,11 @@ module _ (s : State) (overflow : Rect) (surfaced : List ℕ) (l : Lent) where
 
   pub no-room : (r : Refusal) (step : Step) (w u : List ℕ) → sweep.Leaves (Refused r) w u sweeping
       → step ≡ record { state = s; answer = answer.Refused r }
-      → Leaves step (l .layouts) w u settled
+      → outcome step (l .layouts) w u ≡ settled
   unfolding _when_else_
   no-room r step w u h e =
       let f = was-full (s .opened .claims) shift surfaced l (s .counts .filled) r w u h in
-      rw (f .0) (record { step = e ∙ rw (f .1) refl; layouts = refl; working = f .2; unclaimed = f .3 })
+      rw (f .0) (outcome-is (e ∙ rw (f .1) refl) refl (f .2) (f .3))
 
   -- the next box has its record and its style
   pub next-box : (after : Filled) (w u : List ℕ) → Passed s (LaidOut overflow) surfaced l → sweep.Leaves (Into after) w u sweeping
@@ -79,17 +80,12 @@ module _ (s : State) (overflow : Rect) (surfaced : List ℕ) (l : Lent) where
   pub placed : (after : Filled) (step : Step) (layouts w u : List ℕ) → sweep.Leaves (Into after) w u sweeping
       → layouts ≡ written (l .layouts) (layoutWidth * boxAtHand (l .working) (s .counts) .node) (layoutWords (placing .layout))
       → step ≡ proceeding (l .styles) w (s .opened) (record { filled = after; begun = s .counts .begun; answered = s .counts .answered + 1 }) (unionOf (s .overflow) (placing .contribution))
-      → Leaves step layouts w u settled
+      → outcome step layouts w u ≡ settled
   unfolding _when_else_ laidOut
   placed after step layouts w u h p e =
       let f = had-room (s .opened .claims) shift surfaced l (s .counts .filled) after w u h in
       rw (f .0)
-      (record {
-        step = e ∙ rw (f .2, f .1, sym (kept-moved (s .opened .claims) true shift (candidatesIn surfaced)), sym (kept-moved (s .opened .claims) false shift (candidatesIn surfaced))) refl;
-        layouts = p;
-        working = f .2;
-        unclaimed = f .3;
-      })
+      (outcome-is (e ∙ rw (f .2, f .1, sym (kept-moved (s .opened .claims) true shift (candidatesIn surfaced)), sym (kept-moved (s .opened .claims) false shift (candidatesIn surfaced))) refl) p (f .2) (f .3))
 
 -- ---- what was taken tells the reply's kind
 
@@ -177,9 +173,9 @@ laid-is s reply overflow e = laid-in (s .progress) (s .replies) reply overflow e
 module _ (s : State) (reply : Reply) (surfaced : List ℕ) (l : Lent) where
   pub turned-down : (r : Refusal) (step : Step) → replyVerdict s reply surfaced l ≡ refused r
       → step ≡ record { state = s; answer = answer.Refused r }
-      → Leaves step (l .layouts) (l .working) (l .unclaimed) (replied s reply surfaced l)
+      → outcome step (l .layouts) (l .working) (l .unclaimed) ≡ replied s reply surfaced l
   unfolding replied
-  turned-down r step e p = rw e (record { step = p; layouts = refl; working = refl; unclaimed = refl })
+  turned-down r step e p = rw e (outcome-is p refl refl refl)
 
   -- a reply that no test turned down was not wrong
   pub not-wrong : {A : Type 0} → ReplyCleared s reply surfaced l → takenBy s reply ≡ Wrong → A
@@ -187,18 +183,18 @@ module _ (s : State) (reply : Reply) (surfaced : List ℕ) (l : Lent) where
 
   pub kept : (replies : Replies) (step : Step) → ReplyCleared s reply surfaced l → takenBy s reply ≡ Kept replies
       → step ≡ asking (l .styles) (l .working) (s .opened) (record { filled = s .counts .filled; begun = s .counts .begun; answered = s .counts .answered + 1 }) (s .overflow) replies
-      → Leaves step (l .layouts) (l .working) (l .unclaimed) (replied s reply surfaced l)
+      → outcome step (l .layouts) (l .working) (l .unclaimed) ≡ replied s reply surfaced l
   unfolding replied measuredOn _when_else_
   kept replies step e t p =
       let n = counted l (s .counts) (reply-passed s reply surfaced l e .counts) in
       rw (e, t, kept-lends-none s reply replies surfaced t, none-full (s .opened .claims) l (s .counts) n)
-      (record { step = p; layouts = refl; working = refl; unclaimed = refl })
+      (outcome-is p refl refl refl)
 
   pub cleared-laid : (overflow : Rect) → ReplyCleared s reply surfaced l → takenBy s reply ≡ Laid overflow → ReplyCleared s (LaidOut overflow) surfaced l
   cleared-laid overflow e t = rw (laid-is s reply overflow t) at e
 
   pub laid : (overflow : Rect) (step : Step) (layouts w u : List ℕ) → ReplyCleared s reply surfaced l → takenBy s reply ≡ Laid overflow
-      → Leaves step layouts w u (settled s overflow surfaced l)
-      → Leaves step layouts w u (replied s reply surfaced l)
+      → outcome step layouts w u ≡ settled s overflow surfaced l
+      → outcome step layouts w u ≡ replied s reply surfaced l
   unfolding replied
   laid overflow step layouts w u e t h = rw (e, t, ap (λ (r : Reply). lentBy r surfaced) (laid-is s reply overflow t)) h

@@ -5,10 +5,10 @@ ghost use lib.ListN.{length};
 ghost use Rattle.tree_record.specs.Candidate.{candidateWidth};
 ghost use Rattle.style_record.specs.Record.{styleWords};
 ghost use Rattle.style_record.specs.Decode.{styleAt};
-ghost use Rattle.run.specs.Call.{Leaves};
+ghost use Rattle.run.specs.Call.{lent, atEntry, atExit};
 ghost use Rattle.run.specs.Refusals.{listFull};
 ghost use Rattle.run.specs.Run.{boxAtHand, asking, finishing, proceeding, repliedBy};
-ghost use Rattle.placer_check.specs.Verdict.{lent, thenRoom};
+ghost use Rattle.placer_check.specs.Verdict.{thenRoom};
 ghost use Rattle.placer.specs.Entry.{AtHand, ReplyCleared};
 use geometry::Rect;
 use oof_box::dialogue;
@@ -160,7 +160,7 @@ pub fn settle(
     unclaimed: &mut [u32],
 ) -> Step
     requires { ⌜ ReplyCleared s (Reply.LaidOut overflow) (now surfaced) (lent (now styles) (now layouts) (now working) (now unclaimed)) ⌝ }
-    ensures { λ r. ⌜ Leaves r (now (layouts .exit)) (now (working .exit)) (now (unclaimed .exit)) (repliedBy (thenRoom Verdict.Accepted (listFull (s .opened .claims) (lent (now (styles .entry)) (now (layouts .entry)) (now (working .entry)) (now (unclaimed .entry))) (s .counts .filled) (now (surfaced .entry)))) (Taken.Laid overflow) s (now (surfaced .entry)) (lent (now (styles .entry)) (now (layouts .entry)) (now (working .entry)) (now (unclaimed .entry)))) ⌝ }
+    ensures { λ r. ⌜ atExit r layouts working unclaimed ≡ repliedBy (thenRoom Verdict.Accepted (listFull (s .opened .claims) (atEntry styles layouts working unclaimed) (s .counts .filled) (now (surfaced .entry)))) (Taken.Laid overflow) s (now (surfaced .entry)) (atEntry styles layouts working unclaimed) ⌝ }
 {
     let run = s.opened;
     let claims = run.claims;

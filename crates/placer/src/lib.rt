@@ -1,10 +1,10 @@
 // compute/oof.rs, `compute_oof_layout_for_area` as a dialogue: a host opens a run over lent words, then answers one question
 // after another until the run finishes.
 ghost use mathlib.Core.Path.{_≡_};
-ghost use Rattle.run.specs.Call.{Leaves};
+ghost use Rattle.run.specs.Call.{lent, atEntry, atExit};
 ghost use Rattle.run.specs.Refusals.{listFull};
 ghost use Rattle.run.specs.Run.{claimsOf, blockOf, extentsOf, noneFilled, closed, openedBy, opened, replied};
-ghost use Rattle.placer_check.specs.Verdict.{lent, thenRoom};
+ghost use Rattle.placer_check.specs.Verdict.{thenRoom};
 ghost use Rattle.placer.specs.Entry.{OpeningCleared, passNeeded, overflowAfter};
 use geometry::Point;
 use geometry::Rect;
@@ -63,7 +63,7 @@ fn claims_of(o: Opening) -> ContainingBlockClaims
 }
 
 fn extents_of(styles: &[u32], layouts: &[u32], working: &[u32], unclaimed: &[u32]) -> Extents
-    ensures { λ r. ⌜ r ≡ extentsOf (lent (now (styles .entry)) (now (layouts .entry)) (now (working .entry)) (now (unclaimed .entry))) ⌝ }
+    ensures { λ r. ⌜ r ≡ extentsOf (atEntry styles layouts working unclaimed) ⌝ }
 {
     Extents {
         styles: styles.len(),
@@ -95,7 +95,7 @@ const NO_CLAIMS: ContainingBlockClaims = ContainingBlockClaims {
 
 // The state of a finished run with all counts 0, and the lengths as lent.
 fn closed(styles: &[u32], layouts: &[u32], working: &[u32], unclaimed: &[u32]) -> State
-    ensures { λ r. ⌜ r ≡ closed (lent (now (styles .entry)) (now (layouts .entry)) (now (working .entry)) (now (unclaimed .entry))) ⌝ }
+    ensures { λ r. ⌜ r ≡ closed (atEntry styles layouts working unclaimed) ⌝ }
 {
     let block = ContainingBlock {
         area: NO_AREA,
@@ -131,7 +131,7 @@ fn begin(
     unclaimed: &mut [u32],
 ) -> Step
     requires { ⌜ OpeningCleared o (now candidates) (lent (now styles) (now layouts) (now working) (now unclaimed)) ⌝ }
-    ensures { λ r. ⌜ Leaves r (now (layouts .entry)) (now (working .exit)) (now (unclaimed .exit)) (openedBy (thenRoom Verdict.Accepted (listFull (claimsOf o) (lent (now (styles .entry)) (now (layouts .entry)) (now (working .entry)) (now (unclaimed .entry))) noneFilled (now (candidates .entry)))) o (now (candidates .entry)) (lent (now (styles .entry)) (now (layouts .entry)) (now (working .entry)) (now (unclaimed .entry)))) ⌝ }
+    ensures { λ r. ⌜ atExit r layouts working unclaimed ≡ openedBy (thenRoom Verdict.Accepted (listFull (claimsOf o) (atEntry styles layouts working unclaimed) noneFilled (now (candidates .entry)))) o (now (candidates .entry)) (atEntry styles layouts working unclaimed) ⌝ }
 {
     let none = closed(styles, layouts, &working[..], &unclaimed[..]);
     let extents = none.opened.extents;
@@ -170,7 +170,7 @@ pub fn open(
     working: &mut [u32],
     unclaimed: &mut [u32],
 ) -> Step
-    ensures { λ r. ⌜ Leaves r (now (layouts .exit)) (now (working .exit)) (now (unclaimed .exit)) (opened o (now (candidates .entry)) (lent (now (styles .entry)) (now (layouts .entry)) (now (working .entry)) (now (unclaimed .entry)))) ⌝ }
+    ensures { λ r. ⌜ atExit r layouts working unclaimed ≡ opened o (now (candidates .entry)) (atEntry styles layouts working unclaimed) ⌝ }
 {
     match opening::check_opening(
         o,
@@ -200,7 +200,7 @@ pub fn reply(
     working: &mut [u32],
     unclaimed: &mut [u32],
 ) -> Step
-    ensures { λ r. ⌜ Leaves r (now (layouts .exit)) (now (working .exit)) (now (unclaimed .exit)) (replied s reply (now (surfaced .entry)) (lent (now (styles .entry)) (now (layouts .entry)) (now (working .entry)) (now (unclaimed .entry)))) ⌝ }
+    ensures { λ r. ⌜ atExit r layouts working unclaimed ≡ replied s reply (now (surfaced .entry)) (atEntry styles layouts working unclaimed) ⌝ }
 {
     match answer::check_reply(
         s,

@@ -12,7 +12,7 @@ use Rattle.oof_box.specs.declared.question.Reply.{Reply}
 use Rattle.oof_box.specs.declared.question.Reply.the-variants.{Both, Width, Height, LaidOut}
 use Rattle.run.specs.declared.Counts.{Counts}
 use Rattle.run.specs.Refusals.{lentBy, badCandidate, badCandidates, wrongCounts}
-use Rattle.placer_check.specs.Verdict.{lent}
+use Rattle.run.specs.Call.{lent}
 
 -- counts are held to the two lists only
 pub by-lists : (styles layouts working unclaimed : List ℕ) (c : Counts) (wrong r : Bool)

@@ -2,7 +2,7 @@
 ghost use mathlib.Core.Path.{_≡_};
 ghost use Rattle.tree_record.specs.Candidate.{candidateWidth};
 ghost use Rattle.run.specs.Refusals.{ragged, badTable, badList, badSlices, badStyle, badCandidate};
-ghost use Rattle.placer_check.specs.Verdict.{lent};
+ghost use Rattle.run.specs.Call.{atEntry};
 use style_record::check;
 use style_record::check::TableCheck;
 use style_record::words::STYLE_WORDS;
@@ -48,7 +48,7 @@ fn is_list_bad(list: &[u32]) -> bool
 }
 
 pub fn are_slices_bad(styles: &[u32], layouts: &[u32], working: &[u32], unclaimed: &[u32]) -> bool
-    ensures { λ r. ⌜ r ≡ badSlices (lent (now (styles .entry)) (now (layouts .entry)) (now (working .entry)) (now (unclaimed .entry))) ⌝ }
+    ensures { λ r. ⌜ r ≡ badSlices (atEntry styles layouts working unclaimed) ⌝ }
 {
     if is_table_bad(styles, layouts) {
         return true;

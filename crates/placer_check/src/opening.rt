@@ -2,7 +2,8 @@
 ghost use mathlib.Core.Path.{_≡_};
 ghost use Rattle.run.specs.Refusals.{badArea, listFull};
 ghost use Rattle.run.specs.Run.{claimsOf, noneFilled, openingVerdict};
-ghost use Rattle.placer_check.specs.Verdict.{lent, thenRoom};
+ghost use Rattle.run.specs.Call.{lent, atEntry};
+ghost use Rattle.placer_check.specs.Verdict.{thenRoom};
 use crate::Verdict;
 use crate::lent;
 use refusal::Refusal;
@@ -34,7 +35,7 @@ pub fn check_opening(
     working: &[u32],
     unclaimed: &[u32],
 ) -> Verdict
-    ensures { λ r. ⌜ openingVerdict o (now (candidates .entry)) (lent (now (styles .entry)) (now (layouts .entry)) (now (working .entry)) (now (unclaimed .entry))) ≡ thenRoom r (listFull (claimsOf o) (lent (now (styles .entry)) (now (layouts .entry)) (now (working .entry)) (now (unclaimed .entry))) noneFilled (now (candidates .entry))) ⌝ }
+    ensures { λ r. ⌜ openingVerdict o (now (candidates .entry)) (atEntry styles layouts working unclaimed) ≡ thenRoom r (listFull (claimsOf o) (atEntry styles layouts working unclaimed) noneFilled (now (candidates .entry))) ⌝ }
 {
     if is_area_bad(o) {
         return Verdict::Refused(Refusal::BadArea);

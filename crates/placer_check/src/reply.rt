@@ -6,7 +6,8 @@ ghost use lib.ListN.{length};
 ghost use Rattle.tree_record.specs.Candidate.{candidateWidth};
 ghost use Rattle.run.specs.Refusals.{ragged, badSlices, otherLengths, lentBy, badCandidate, badCandidates, listFull, wrongCounts};
 ghost use Rattle.run.specs.Run.{takenBy, isWrong, replyVerdict};
-ghost use Rattle.placer_check.specs.Verdict.{lent, thenRoom};
+ghost use Rattle.run.specs.Call.{lent, atEntry};
+ghost use Rattle.placer_check.specs.Verdict.{thenRoom};
 use crate::Verdict;
 use crate::lent;
 use oof_box::question::Reply;
@@ -28,7 +29,7 @@ fn are_lengths_other(
     working: &[u32],
     unclaimed: &[u32],
 ) -> bool
-    ensures { λ r. ⌜ r ≡ otherLengths e (lent (now (styles .entry)) (now (layouts .entry)) (now (working .entry)) (now (unclaimed .entry))) ⌝ }
+    ensures { λ r. ⌜ r ≡ otherLengths e (atEntry styles layouts working unclaimed) ⌝ }
 {
     if styles.len() != e.styles {
         return true;
@@ -64,7 +65,7 @@ fn are_extents_bad(
     working: &[u32],
     unclaimed: &[u32],
 ) -> bool
-    ensures { λ r. ⌜ r ≡ (badSlices (lent (now (styles .entry)) (now (layouts .entry)) (now (working .entry)) (now (unclaimed .entry))) || otherLengths e (lent (now (styles .entry)) (now (layouts .entry)) (now (working .entry)) (now (unclaimed .entry))) || ragged candidateWidth (lentBy reply (now (surfaced .entry)))) ⌝ }
+    ensures { λ r. ⌜ r ≡ (badSlices (atEntry styles layouts working unclaimed) || otherLengths e (atEntry styles layouts working unclaimed) || ragged candidateWidth (lentBy reply (now (surfaced .entry)))) ⌝ }
 {
     if lent::are_slices_bad(styles, layouts, working, unclaimed) {
         return true;
@@ -165,7 +166,7 @@ pub fn check_reply(
     working: &[u32],
     unclaimed: &[u32],
 ) -> Verdict
-    ensures { λ r. ⌜ replyVerdict s reply (now (surfaced .entry)) (lent (now (styles .entry)) (now (layouts .entry)) (now (working .entry)) (now (unclaimed .entry))) ≡ thenRoom r (listFull (s .opened .claims) (lent (now (styles .entry)) (now (layouts .entry)) (now (working .entry)) (now (unclaimed .entry))) (s .counts .filled) (lentBy reply (now (surfaced .entry)))) ⌝ }
+    ensures { λ r. ⌜ replyVerdict s reply (now (surfaced .entry)) (atEntry styles layouts working unclaimed) ≡ thenRoom r (listFull (s .opened .claims) (atEntry styles layouts working unclaimed) (s .counts .filled) (lentBy reply (now (surfaced .entry)))) ⌝ }
 {
     let extents = s.opened.extents;
     if are_extents_bad(

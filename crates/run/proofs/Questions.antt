@@ -33,14 +33,14 @@ use Rattle.run.proofs.Ways.{NextWay, asks, ends, next-way, OpeningWay, 
 
 -- ---- the replies kept of the box at hand
 
-abbrev one : Bool → ℕ
+abbrev pub one : Bool → ℕ
 one true = 1
 one false = 0
 
-abbrev kept : Replies → ℕ
+abbrev pub kept : Replies → ℕ
 kept r = one (isGiven (r .keyword)) + one (isFilled (r .fill))
 
-at-most-two : (r : Replies) → kept r ≤ 2
+pub at-most-two : (r : Replies) → kept r ≤ 2
 at-most-two r = go (isGiven (r .keyword)) (isFilled (r .fill))
   where
     go : (a b : Bool) → one a + one b ≤ 2
@@ -50,7 +50,7 @@ at-most-two r = go (isGiven (r .keyword)) (isFilled (r .fill))
     go false false = omega arith
 
 -- the open question is behind no kept reply
-abbrev Forward : Stage → Replies → Type 0
+abbrev pub Forward : Stage → Replies → Type 0
 Forward stage r = (isGiven (r .keyword) ≡ true → isKeywordStage stage ≡ false) × (isFilled (r .fill) ≡ true → stage ≡ LayOut)
 
 isLayOut : Stage → Bool
@@ -77,12 +77,12 @@ not-filled stage r f k = go (isFilled (r .fill)) refl
     go false e = refl
 
 -- so each reply that is kept is one more
-abbrev OneMore : Replies → Taken → Type 0
+abbrev pub OneMore : Replies → Taken → Type 0
 OneMore r Wrong = Unit {0}
 OneMore r (Kept after) = kept after ≡ kept r + 1
 OneMore r (Laid overflow) = Unit {0}
 
-one-more : (r : Replies) (stage : Stage) (given : Reply) → Forward stage r → OneMore r (taken r stage given)
+pub one-more : (r : Replies) (stage : Stage) (given : Reply) → Forward stage r → OneMore r (taken r stage given)
 unfolding taken isLayOut
 one-more r stage given f = go stage given (not-given stage r f) (not-filled stage r f)
   where
@@ -195,7 +195,7 @@ three-questions-a-box o candidates lent calls =
 
 -- ---- the boxes begun are among the filled records
 
-abbrev Hoisted : State → Type 0
+abbrev pub Hoisted : State → Type 0
 Hoisted s = s .counts .begun ≤ s .counts .filled .working
 
 proceeding-hoisted : (styles working : List ℕ) (run : Opened) (counts : Counts) (overflow : Rect) → counts .begun ≤ counts .filled .working
@@ -207,7 +207,7 @@ proceeding-hoisted styles working run counts overflow h = go (next-way styles wo
     go (asks l e) = rw e (omega arith)
     go (ends l e) = rw e h
 
-opening-hoisted : (o : Opening) (candidates : List ℕ) (lent : Lent) → Hoisted (opened o candidates lent .step .state)
+pub opening-hoisted : (o : Opening) (candidates : List ℕ) (lent : Lent) → Hoisted (opened o candidates lent .step .state)
 unfolding closed begun
 opening-hoisted o candidates lent = go (opening-way o candidates lent)
   where
@@ -215,7 +215,7 @@ opening-hoisted o candidates lent = go (opening-way o candidates lent)
     go (OpeningWay.turnedDown r e) = rw e (omega arith)
     go (begins v e) = rw e (proceeding-hoisted _ _ _ _ _ (omega arith))
 
-reply-hoisted : (s : State) (given : Reply) (surfaced : List ℕ) (lent : Lent) → Hoisted s → Hoisted (replied s given surfaced lent .step .state)
+pub reply-hoisted : (s : State) (given : Reply) (surfaced : List ℕ) (lent : Lent) → Hoisted s → Hoisted (replied s given surfaced lent .step .state)
 unfolding measuredOn asking laidOut
 reply-hoisted s given surfaced lent h = go (reply-way s given surfaced lent)
   where

@@ -38,7 +38,7 @@ use Rattle.run.specs.Call.{Lent, Outcome}
 use Rattle.run.specs.Refusals.{accepted}
 use Rattle.run.specs.Run.{boxAtHand, asking, finishing, proceeding, claimsOf, blockOf, extentsOf, begun, opened, takenBy, replyVerdict, measuredOn, laidOut}
 use Rattle.run.specs.Straight.{World, Box, atOpening, afterBox, Course, ended, during, boxes, straight}
-use Rattle.run.specs.Theorems.{Heard, next, isRefused, heeded, hearing, soFar, saidAfter, laidInto, claimedIn, Stands, called, heededIn, courseOf, StraightRun, hoisted, HoistedOrder}
+use Rattle.run.specs.Theorems.{laidCount, laidSoFar, Heard, next, isRefused, heeded, hearing, soFar, saidAfter, laidInto, claimedIn, Stands, called, heededIn, courseOf, StraightRun, hoisted, HoistedOrder}
 use Rattle.run.proofs.Ways.{NextWay, asks, ends, next-way, OpeningWay, begins, opening-way, ReplyWay, measures, laysOut, reply-way, opening-room, reply-room, lent-all}
 use Rattle.run.proofs.Refusals.{refusedIn, refused-reply-keeps, finished-refuses}
 use Rattle.run.proofs.BoxTalk.{Asks, heardBy, hearing-during, At, at-first, asks-at, kept-at, laid-at}
@@ -378,10 +378,11 @@ module _ (o : Opening) (lent : Lent) where
       → (refusedIn x ≡ false → x ≡ y)
       → y ≡ leaving w step
       → step .state .counts .filled ≡ countsAt w 0 0 .filled
+      → laidCount (step .state .progress) (step .state .counts .begun) ≡ length (w .laid)
       → step .answer ≡ saidAfter answered course
       → soFar course ≡ w
       → Stands lent answered x course
-  stands-at w answered step d i e f a s =
+  stands-at w answered step d i e f n a s =
       record {
         layouts = ap (λ (z : Outcome). z .layouts) d ∙ ap (λ (z : Outcome). z .layouts) e ∙ ap (λ (v : World). laidInto (lent .layouts) (v .laid)) (sym s);
         working = ap (λ (z : Outcome). z .working) d ∙ ap (λ (z : Outcome). z .working) e ∙ ap workingAt (sym s);
@@ -390,6 +391,10 @@ module _ (o : Opening) (lent : Lent) where
         filled =
             ap (λ (z : Outcome). z .step .state .counts .filled) d ∙ ap (λ (z : Outcome). z .step .state .counts .filled) e ∙ f
             ∙ ap (λ (v : World). countsAt v 0 0 .filled) (sym s);
+        laid =
+            ap laidSoFar d
+            ∙ ap laidSoFar e ∙ n
+            ∙ ap (λ (v : World). length (v .laid)) (sym s);
         answer = λ n. ap (λ (z : Outcome). z .step .answer) (i n) ∙ ap (λ (z : Outcome). z .step .answer) e ∙ a;
       }
 
@@ -401,9 +406,12 @@ module _ (o : Opening) (lent : Lent) where
       go (waits w c rest most replies t f m a d k) =
           let says = says-asking w (onward most w c rest) answered (asks-at (blockOf o) (style (c .node)) c a) in
           subst (Stands lent answered x) (sym k)
-          (stands-at w answered (askingAt w replies answered .step) (p .same) (p .itself) d refl (asked-at replies answered f ∙ sym (says .1)) (says .0))
+          (stands-at w answered (askingAt w replies answered .step) (p .same) (p .itself) d refl (last (length (w .laid))) (asked-at replies answered f ∙ sym (says .1)) (says .0))
+        where
+          last : (n : ℕ) → n + 1 - 1 ≡ n
+          last n = omega arith
       go (over w e s d k) =
-          subst (Stands lent answered x) (sym k) (stands-at w answered (finishingAt w answered .step) (p .same) (p .itself) d refl refl refl)
+          subst (Stands lent answered x) (sym k) (stands-at w answered (finishingAt w answered .step) (p .same) (p .itself) d refl refl refl refl)
 
   -- at the end the hoisted order is that of the boxes laid out
   ended-order : (w : World) (answered : ℕ) → w .waiting ≡ [] → Sound (lent .working) w

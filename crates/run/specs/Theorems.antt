@@ -1,10 +1,11 @@
 -- What holds of every run, whatever the host does: statements. `proofs/Refusals.antt`, `proofs/Questions.antt` and `proofs/Straight.antt`
 -- prove each, under its name in small letters. Assumes nothing.
-use Prim.Native.Nat.{ℕ, _+_, _*_, _≤_}
+use Prim.Native.Nat.{ℕ, _+_, _-_, _*_, _≤_}
 use mathlib.Core.Path.{_≡_}
 use mathlib.Core.Bool.{Bool, true, false, cond}
 use mathlib.Core.List.{List, [], _∷_, _++_, map, foldl}
 use mathlib.Core.Option.{Option, none, some}
+use lib.Dec.{eqb}
 use lib.ListN.{length}
 use Rattle.refusal.specs.declared.Refusal.{Refusal}
 use Rattle.tree.specs.declared.layout.OofCandidate.{OofCandidate}
@@ -16,9 +17,11 @@ use Rattle.oof_box.specs.Theorems.{replyTo}
 use Rattle.oof_box.specs.declared.question.Reply.{Reply}
 use Rattle.run.specs.declared.Opening.{Opening}
 use Rattle.run.specs.declared.State.{State}
-use Rattle.run.specs.declared.Progress.the-variants.{Finished}
+use Rattle.run.specs.declared.Progress.{Progress}
+use Rattle.run.specs.declared.Progress.the-variants.{Finished, Asking}
 use Rattle.run.specs.declared.Answer.{Answer}
 use Rattle.run.specs.declared.Answer.the-variants.{Ask, Finish, Refused}
+use Rattle.run.specs.declared.Step.{Step}
 use Rattle.run.specs.Call.{Lent, Outcome, unwritten}
 use Rattle.run.specs.Run.{opened, replied, closed, claimsOf, blockOf}
 use Rattle.run.specs.Straight.{World, Box, Course, ended, asks, straight}
@@ -91,6 +94,24 @@ BegunAreHoisted =
     → let a = foldl askedWith (askedAtOpening o candidates lent) calls in
     a .state .counts .begun ≤ a .state .counts .filled .working
 
+-- ---- And at most three for each box, counted by box. Box i is record i of the working list; it is at hand while i + 1 boxes are begun.
+
+-- the questions that a call asks for box i: the state that it returns says which box is at hand
+abbrev pub askedFor : ℕ → Step → ℕ
+askedFor i step = cond (eqb (step .state .counts .begun) (i + 1)) (oneIfAsked (step .answer)) 0
+
+-- those that all calls asked for it
+unfoldable pub askedForIn : ℕ → ℕ → State → List Call → ℕ
+askedForIn i before s [] = before
+askedForIn i before s (c ∷ calls) =
+    let step = replied s (c .reply) (c .surfaced) (c .lent) .step in askedForIn i (before + askedFor i step) (step .state) calls
+
+abbrev pub ThreeQuestionsForEachBox : Type 0
+ThreeQuestionsForEachBox =
+    (i : ℕ) (o : Opening) (candidates : List ℕ) (lent : Lent) (calls : List Call)
+    → let first = opened o candidates lent .step in
+    askedForIn i (askedFor i first) (first .state) calls ≤ 3
+
 -- ---- With nobody else writing the lent words, the calls are the straight run: after an opening that isn't refused and any list of
 -- replies, refused ones among them, the words are those of the boxes so far, and a call that isn't refused says what the run says next.
 -- A list may end anywhere, so this holds after each call.
@@ -105,6 +126,30 @@ unfoldable pub next : List ℕ → Outcome → Heard → Outcome
 next styles o h =
     replied (o .step .state) (h .reply) (h .surfaced)
     (record { styles = styles; layouts = o .layouts; working = o .working; unclaimed = o .unclaimed })
+
+-- what a call is lent: the run's own slices, with the words that the last call left in them; or others
+pub data Loan : Type 0 where
+  own : Loan
+  other : Lent → Loan
+
+-- a reply, and what is lent with it
+pub record Turn : Type 0 where
+  pub heard : Heard
+  pub loan : Loan
+
+-- what a call leaves of a run: if it was lent other slices, the run's own keep their words
+abbrev pub nextWith : List ℕ → Outcome → Heard → Loan → Outcome
+nextWith styles o h own = next styles o h
+nextWith styles o h (other lent) =
+    record {
+      step = replied (o .step .state) (h .reply) (h .surfaced) lent .step;
+      layouts = o .layouts;
+      working = o .working;
+      unclaimed = o .unclaimed;
+    }
+
+abbrev pub turned : List ℕ → Outcome → Turn → Outcome
+turned styles o t = nextWith styles o (t .heard) (t .loan)
 
 -- the replies that are not refused
 unfoldable pub heeded : List ℕ → Outcome → List Heard → List Heard
@@ -141,12 +186,21 @@ laidInto layouts (b ∷ bs) = laidInto (written layouts (layoutWidth * b .candid
 abbrev pub claimedIn : World → List OofCandidate
 claimedIn w = map (λ (b : Box). b .candidate) (w .laid) ++ w .waiting
 
+-- how many boxes are laid out: all that were begun, but for the one at hand
+abbrev pub laidCount : Progress → ℕ → ℕ
+laidCount Finished begun = begun
+laidCount (Asking stage) begun = begun - 1
+
+abbrev pub laidSoFar : Outcome → ℕ
+laidSoFar o = laidCount (o .step .state .progress) (o .step .state .counts .begun)
+
 -- what a call left is where the course stands: every word of the lent slices, the records filled, and the answer unless it is a refusal
 pub record Stands (lent : Lent) (answered : ℕ) (o : Outcome) (course : Course) : Type 0 where
   pub layouts : o .layouts ≡ laidInto (lent .layouts) (soFar course .laid)
   pub working : o .working ≡ appended (lent .working) 0 (claimedIn (soFar course))
   pub unclaimed : o .unclaimed ≡ appended (lent .unclaimed) 0 (soFar course .unclaimed)
   pub filled : o .step .state .counts .filled ≡ record { working = length (claimedIn (soFar course)); unclaimed = length (soFar course .unclaimed) }
+  pub laid : laidSoFar o ≡ length (soFar course .laid)
   pub answer : isRefused (o .step .answer) ≡ false → o .step .answer ≡ saidAfter answered course
 
 -- what an opening and the calls after it leave

@@ -2,7 +2,7 @@
 use Prim.Native.Nat.{ℕ, zero, suc, _-_, _<_, _≤_}
 use native.Mathlib.Omega.{arith}
 use native.Mathlib.Numerals.{unary-clauses}
-use mathlib.Core.Path.{_≡_, refl, subst}
+use mathlib.Core.Path.{_≡_, refl}
 use mathlib.Core.List.{List, []}
 use Rattle.oof_box.specs.declared.question.Question.{Question}
 use Rattle.oof_box.specs.declared.question.Reply.{Reply}
@@ -10,38 +10,30 @@ use Rattle.refusal.specs.declared.Refusal.{Refusal}
 use Rattle.run.specs.declared.Answer.the-variants.{Ask, Finish, Refused}
 use Rattle.run.specs.declared.Finish.{Finish as FinishOf}
 use Rattle.run.specs.declared.Step.{Step}
-use Rattle.run.specs.Call.{Outcome, Leaves}
+use Rattle.run.specs.Call.{Outcome, lent, outcome}
 use Rattle.run.specs.Run.{replied}
 use Rattle.run.specs.Theorems.{next}
-use Rattle.placer_check.specs.Verdict.{lent}
-use Rattle.script.specs.Script.{scriptedReply, outcome, playedOn, played}
+use Rattle.script.specs.Script.{scriptedReply, playedOn, played}
 
 -- ---- one reply
 
 module _ (replies styles : List ℕ) (s : Step) (l w u : List ℕ) where
   pub asked : {q : Question} {given : Reply} {surfaced : List ℕ} {r : Step} {l′ w′ u′ : List ℕ}
       → s .answer ≡ Ask q → given ≡ scriptedReply replies q → surfaced ≡ []
-      → Leaves r l′ w′ u′ (replied (s .state) given surfaced (lent styles l w u))
-      → Leaves r l′ w′ u′ (playedOn replies styles (outcome s l w u))
+      → outcome r l′ w′ u′ ≡ replied (s .state) given surfaced (lent styles l w u)
+      → outcome r l′ w′ u′ ≡ playedOn replies styles (outcome s l w u)
   unfolding playedOn next
   asked e given none p = rw (e, ← given, ← none) p
 
-  pub finished : {f : FinishOf} → s .answer ≡ Finish f → Leaves s l w u (playedOn replies styles (outcome s l w u))
+  pub finished : {f : FinishOf} → s .answer ≡ Finish f → outcome s l w u ≡ playedOn replies styles (outcome s l w u)
   unfolding playedOn
-  finished e = rw e (record { step = refl; layouts = refl; working = refl; unclaimed = refl })
+  finished e = rw e refl
 
-  pub refused : {r : Refusal} → s .answer ≡ Refused r → Leaves s l w u (playedOn replies styles (outcome s l w u))
+  pub refused : {r : Refusal} → s .answer ≡ Refused r → outcome s l w u ≡ playedOn replies styles (outcome s l w u)
   unfolding playedOn
-  refused e = rw e (record { step = refl; layouts = refl; working = refl; unclaimed = refl })
+  refused e = rw e refl
 
 -- ---- the loop
-
--- what a call left, as an outcome
-pub left : {r : Step} {l w u : List ℕ} {o : Outcome} → Leaves r l w u o → outcome r l w u ≡ o
-left p = rw (p .step, p .layouts, p .working, p .unclaimed) refl
-
-pub leaves : {r : Step} {l w u : List ℕ} {o : Outcome} → outcome r l w u ≡ o → Leaves r l w u o
-leaves {r} {l} {w} {u} e = subst (Leaves r l w u) e (record { step = refl; layouts = refl; working = refl; unclaimed = refl })
 
 pub one-turn : (replies styles : List ℕ) (o : Outcome) (n : ℕ) → 0 < n → played n replies styles o ≡ played (n - 1) replies styles (playedOn replies styles o)
 unfolding played

@@ -14,7 +14,6 @@ use Rattle.oof_box.specs.declared.question.Reply.the-variants.{Both, Width, Hei
 use Rattle.run.specs.declared.Opening.{Opening}
 use Rattle.run.specs.declared.Answer.{Answer}
 use Rattle.run.specs.declared.Answer.the-variants.{Ask, Finish, Refused}
-use Rattle.run.specs.declared.Step.{Step}
 use Rattle.run.specs.Call.{Lent, Outcome}
 use Rattle.run.specs.Run.{opened}
 use Rattle.run.specs.Theorems.{next}
@@ -44,9 +43,6 @@ scriptedReply replies (MeasureHeight q) = Height (scripted replies (q .node) 1)
 scriptedReply replies (LayOut q) = LaidOut (scriptedOverflow replies (q .node))
 
 -- ---- a run
-
-abbrev pub outcome : Step → List ℕ → List ℕ → List ℕ → Outcome
-outcome step layouts working unclaimed = record { step = step; layouts = layouts; working = working; unclaimed = unclaimed }
 
 abbrev pub playedBy : Answer → List ℕ → List ℕ → Outcome → Outcome
 playedBy (Ask q) replies styles o = next styles o (record { reply = scriptedReply replies q; surfaced = [] })

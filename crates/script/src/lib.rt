@@ -1,9 +1,8 @@
 // A run played out with scripted replies: for each item the host's replies stand written down beforehand, and no box surfaces
 // any (document 01, "Program boxlist": measured width and height, then overflow left, right, top, bottom).
 ghost use mathlib.Core.Path.{_≡_};
-ghost use Rattle.run.specs.Call.{Leaves};
-ghost use Rattle.placer_check.specs.Verdict.{lent};
-ghost use Rattle.script.specs.Script.{scripted, scriptedSize, scriptedOverflow, scriptedReply, outcome, playedOn, playedOut};
+ghost use Rattle.run.specs.Call.{outcome, atEntry, atExit};
+ghost use Rattle.script.specs.Script.{scripted, scriptedSize, scriptedOverflow, scriptedReply, playedOn, playedOut};
 use geometry::Rect;
 use geometry::Size;
 use oof_box::question::Question;
@@ -78,7 +77,7 @@ fn play_on(
     working: &mut [u32],
     unclaimed: &mut [u32],
 ) -> Step
-    ensures { λ r. ⌜ Leaves r (now (layouts .exit)) (now (working .exit)) (now (unclaimed .exit)) (playedOn (now (replies .entry)) (now (styles .entry)) (outcome step (now (layouts .entry)) (now (working .entry)) (now (unclaimed .entry)))) ⌝ }
+    ensures { λ r. ⌜ atExit r layouts working unclaimed ≡ playedOn (now (replies .entry)) (now (styles .entry)) (outcome step (now (layouts .entry)) (now (working .entry)) (now (unclaimed .entry))) ⌝ }
 {
     let state = step.state;
     let answer = step.answer;
@@ -107,7 +106,7 @@ pub fn play_out(
     working: &mut [u32],
     unclaimed: &mut [u32],
 ) -> Step
-    ensures { λ r. ⌜ Leaves r (now (layouts .exit)) (now (working .exit)) (now (unclaimed .exit)) (playedOut o (now (replies .entry)) (now (candidates .entry)) (lent (now (styles .entry)) (now (layouts .entry)) (now (working .entry)) (now (unclaimed .entry)))) ⌝ }
+    ensures { λ r. ⌜ atExit r layouts working unclaimed ≡ playedOut o (now (replies .entry)) (now (candidates .entry)) (atEntry styles layouts working unclaimed) ⌝ }
 {
     let mut step = placer::open(o, styles, candidates, layouts, working, unclaimed);
     let mut left = QUESTIONS * (candidates.len() / CANDIDATE_WORDS);

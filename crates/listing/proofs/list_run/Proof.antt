@@ -1,5 +1,6 @@
 use mathlib.Core.Path.{refl, sym, _∙_}
-use Rattle.placer_check.specs.Verdict.{lent}
+use Rattle.run.specs.Call.{lent}
+use Rattle.run.proofs.Call.{left-step}
 use Rattle.listing.proofs.Lists.{list-asked, list-finished, list-refused, list-fits}
 use borrow.Author.Needs.{needs}
 use Rattle.listing.proofs.list_run.Statement.{statement}
@@ -28,7 +29,7 @@ put-list-requires : tie.Need-put-list-requires
 put-list-requires c κs =
     let p = c .before .before .before .before .before .before .before .before .before .before .before .before .before .before .play-out .ensures in
     let a = c .before .before .before .before .before .before .before .before .before .before .before .before .before .before .before .before .before .before .before .before .before .before .before .before .before .args in
-    list-fits (a .o) (a .replies .now) (a .candidates .now) (lent (a .styles .now) (a .layouts .now) (a .working .now) (a .unclaimed .now)) _ _ (p .step) (c .before .before .before .before .before .before .before .before .before .before .before .before .before .before .before .before .before .before .before .before .before .before .before .before .before .pre .0) (c .before .before .before .before .before .before .before .before .before .before .before .before .before .before .before .before .before .before .before .before .before .before .before .before .before .pre .1)
+    list-fits (a .o) (a .replies .now) (a .candidates .now) (lent (a .styles .now) (a .layouts .now) (a .working .now) (a .unclaimed .now)) _ _ (left-step p) (c .before .before .before .before .before .before .before .before .before .before .before .before .before .before .before .before .before .before .before .before .before .before .before .before .before .pre .0) (c .before .before .before .before .before .before .before .before .before .before .before .before .before .before .before .before .before .before .before .before .before .before .before .before .before .pre .1)
 
 -- src/lib.rt:91:25
 enum-known-answer-2 : tie.Need-enum-known-answer-2

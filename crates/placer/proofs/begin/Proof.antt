@@ -1,5 +1,5 @@
 use Rattle.placer.proofs.Openings.{no-room, first-at-hand, swept-in}
-use Rattle.placer_check.specs.Verdict.{lent}
+use Rattle.run.specs.Call.{lent}
 use Rattle.run.specs.Run.{closed}
 use borrow.Author.Needs.{needs}
 use Rattle.placer.proofs.begin.Statement.{statement}

@@ -1,5 +1,5 @@
 use Rattle.placer.proofs.Openings.{turned-down, accepted}
-use Rattle.placer_check.specs.Verdict.{lent}
+use Rattle.run.specs.Call.{lent}
 use borrow.Author.Needs.{needs}
 use Rattle.placer.proofs.open.Statement.{statement}
 use Rattle.placer.proofs.open.Tie as tie

@@ -1,7 +1,7 @@
 use native.Mathlib.Omega.{arith}
 use Rattle.placer.proofs.Replies.{turned-down, not-wrong, kept, cleared-laid, laid}
 use Rattle.placer.proofs.Calls.{reply-passed, counted, at-hand}
-use Rattle.placer_check.specs.Verdict.{lent}
+use Rattle.run.specs.Call.{lent}
 use mathlib.Core.Path.{sym, _∙_}
 use borrow.Author.Needs.{needs}
 use Rattle.placer.proofs.reply.Statement.{statement}

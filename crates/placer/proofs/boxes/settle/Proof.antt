@@ -4,7 +4,7 @@ use Rattle.placer.proofs.Replies.{no-room, next-box, placed}
 use Rattle.placer.proofs.Calls.{reply-passed, at-hand, layout-room}
 use Rattle.oof_box.specs.declared.question.Reply.the-variants.{LaidOut}
 use Rattle.run.specs.Run.{boxAtHand}
-use Rattle.placer_check.specs.Verdict.{lent}
+use Rattle.run.specs.Call.{lent}
 use borrow.Author.Needs.{needs}
 use Rattle.placer.proofs.boxes.settle.Statement.{statement}
 use Rattle.placer.proofs.boxes.settle.Tie as tie

@@ -1,0 +1,15 @@
+use Rattle.demands.proofs.Demands.{three-questions-each, equals-straight-run, laid-out-as-asked, mirror-image}
+use Rattle.demands.proofs.demanded.Statement.{statement}
+use Rattle.demands.proofs.demanded.Tie as tie
+
+returns : tie.Need-returns
+returns c =
+    record {
+      three-questions-each = three-questions-each;
+      equals-straight-run = equals-straight-run;
+      laid-out-as-asked = laid-out-as-asked;
+      mirror-image = mirror-image;
+    }
+
+pub demanded-spec : {M : Type 1} → statement M
+demanded-spec = tie.close (tie.spec returns)
