@@ -1,6 +1,8 @@
 pub mod Call
+pub mod Decides
 pub mod Ways
 pub mod Refusals
+pub mod Conditions
 pub mod Questions
 pub mod BoxTalk
 pub mod Worlds

@@ -1,5 +1,6 @@
 pub mod Call
 pub mod Refusals
 pub mod Run
+pub mod Conditions
 pub mod Straight
 pub mod Theorems

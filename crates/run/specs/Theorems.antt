@@ -1,19 +1,24 @@
--- What holds of every run, whatever the host does: statements. `proofs/Refusals.antt`, `proofs/Questions.antt` and `proofs/Straight.antt`
--- prove each, under its name in small letters. Assumes nothing.
+-- What holds of every run, whatever the host does: statements. `proofs/` proves each, under its name in small letters. Assumes nothing.
 use Prim.Native.Nat.{ℕ, _+_, _-_, _*_, _≤_}
+use mathlib.Core.Logic.{_↔_}
 use mathlib.Core.Path.{_≡_}
 use mathlib.Core.Bool.{Bool, true, false, cond}
 use mathlib.Core.List.{List, [], _∷_, _++_, map, foldl}
 use mathlib.Core.Option.{Option, none, some}
 use lib.Dec.{eqb}
 use lib.ListN.{length}
+use Rattle.refusal.specs.Refusal.{numberOf}
 use Rattle.refusal.specs.declared.Refusal.{Refusal}
+use Rattle.style.specs.declared.Style.{Style}
 use Rattle.tree.specs.declared.layout.OofCandidate.{OofCandidate}
 use Rattle.records.specs.Records.{written}
 use Rattle.tree_record.specs.Layout.{layoutWidth, layoutWords}
 use Rattle.style_record.specs.Decode.{styleAt}
 use Rattle.sweep.specs.Sweep.{firstCandidates, candidatesIn, appended}
+use Rattle.oof_resolve.specs.declared.ContainingBlock.{ContainingBlock}
+use Rattle.oof_box.specs.Cut.{askedAfter}
 use Rattle.oof_box.specs.Theorems.{replyTo}
+use Rattle.oof_box.specs.declared.question.Replies.{Replies}
 use Rattle.oof_box.specs.declared.question.Reply.{Reply}
 use Rattle.run.specs.declared.Opening.{Opening}
 use Rattle.run.specs.declared.State.{State}
@@ -24,12 +29,43 @@ use Rattle.run.specs.declared.Answer.the-variants.{Ask, Finish, Refused}
 use Rattle.run.specs.declared.Step.{Step}
 use Rattle.run.specs.Call.{Lent, Outcome, unwritten}
 use Rattle.run.specs.Run.{opened, replied, closed, claimsOf, blockOf}
+use Rattle.run.specs.Conditions.{FirstIs, NoneHolds, openingTests, replyTests, kindOfQuestion, kindAt}
 use Rattle.run.specs.Straight.{World, Box, Course, ended, asks, straight}
 
 abbrev pub isRefused : Answer → Bool
 isRefused (Ask q) = false
 isRefused (Finish f) = false
 isRefused (Refused r) = true
+
+-- ---- A call is refused with r exactly when r's condition is the first that holds, by document 01's numbers and in its order
+-- (`Conditions.antt`), and accepted exactly when none holds.
+
+abbrev pub OpeningRefusedExactly : Type 0
+OpeningRefusedExactly =
+    (o : Opening) (candidates : List ℕ) (lent : Lent) (r : Refusal)
+    → (opened o candidates lent .step .answer ≡ Refused r) ↔ FirstIs (openingTests o candidates lent) (numberOf r)
+
+abbrev pub OpeningAcceptedExactly : Type 0
+OpeningAcceptedExactly =
+    (o : Opening) (candidates : List ℕ) (lent : Lent)
+    → (isRefused (opened o candidates lent .step .answer) ≡ false) ↔ NoneHolds (openingTests o candidates lent)
+
+abbrev pub ReplyRefusedExactly : Type 0
+ReplyRefusedExactly =
+    (s : State) (reply : Reply) (surfaced : List ℕ) (lent : Lent) (r : Refusal)
+    → (replied s reply surfaced lent .step .answer ≡ Refused r) ↔ FirstIs (replyTests s reply surfaced lent) (numberOf r)
+
+abbrev pub ReplyAcceptedExactly : Type 0
+ReplyAcceptedExactly =
+    (s : State) (reply : Reply) (surfaced : List ℕ) (lent : Lent)
+    → (isRefused (replied s reply surfaced lent .step .answer) ≡ false) ↔ NoneHolds (replyTests s reply surfaced lent)
+
+-- the stage that a state keeps is of its question's kind
+abbrev pub StageTellsKind : Type 0
+StageTellsKind =
+    (block : ContainingBlock) (style : Style) (candidate : OofCandidate) (replies : Replies)
+    → let asked = askedAfter block style candidate replies in
+    kindOfQuestion (asked .question) ≡ kindAt (asked .stage)
 
 -- ---- A refused call writes no lent word and returns the state as it came; a refused opening, that of a finished run with all counts 0.
 

@@ -1,0 +1,437 @@
+-- Each test of a verdict decides document 01's condition, and so a call is refused exactly under the first that holds. Assumes nothing.
+use Prim.Native.Nat.{ℕ, _+_, _*_, _-_, _/_, _%_, _<_, _≤_}
+use native.Mathlib.Omega.{arith}
+use native.Mathlib.Nat.{add-zero, add-assoc}
+use mathlib.Core.Logic.{_⊎_, inl, inr, _≢_, _↔_, Iff·trans}
+use mathlib.Core.Path.{_≡_, refl, sym, ap, _∙_}
+use mathlib.Core.Bool.{Bool, true, false, cond, not, _||_}
+use mathlib.Core.List.{List, [], _∷_}
+use lib.Dec.{ltb, eqb}
+use lib.ListN.{length, getD}
+use borrow.Author.Tests.{eqb-true, eq-eqb, ltb-false, le-ltb, not-false, le-leb}
+use Rattle.util.proofs.Floats.{no}
+use Rattle.style.specs.Laws.{tagsOf, among}
+use Rattle.style.proofs.Laws.{takes-its-tags}
+use Rattle.records.specs.Records.{room, good, goodRecords}
+use Rattle.tree_record.specs.Candidate.{axisKinds, candidateKinds}
+use Rattle.tree_record.proofs.Good.{good-axis, good-record}
+use Rattle.style_record.specs.Record.{Kind, tag, number, code, ratio, keyword, safety, contain, kindOf, item, items}
+use Rattle.style_record.specs.Check.{safetyBreaks, breaksAs, breaksRule, breaks, checked}
+use Rattle.style_record.specs.declared.check.TableCheck.{TableCheck}
+use Rattle.style_record.specs.declared.check.TableCheck.the-variants.{Good, Bad}
+use Rattle.style_record.proofs.Laws.{good-is-none, bad-is-first}
+use Rattle.style.specs.declared.ContainingBlockClaims.{ContainingBlockClaims}
+use Rattle.sweep.specs.Laws.{Exceeds}
+use Rattle.sweep.specs.Sweep.{candidatesIn, claimed, others}
+use Rattle.sweep.specs.declared.Filled.{Filled}
+use Rattle.refusal.specs.declared.Refusal.{Refusal}
+use Rattle.refusal.specs.declared.Refusal.the-variants.{BadArea, BadExtent, BadStyle, BadCandidate, ListFull, WrongReply}
+use Rattle.geometry.specs.Geometry.{bothPresent}
+use Rattle.geometry.specs.declared.MaybeSize.{MaybeSize}
+use Rattle.geometry.specs.declared.Size.{Size}
+use Rattle.common.specs.declared.sizing_keyword.SizingKeywordResolution.{SizingKeywordResolution}
+use Rattle.common.specs.declared.sizing_keyword.SizingKeywordResolution.the-variants.{NoKeyword, Exact, Measure}
+use Rattle.oof_resolve.specs.Resolved.{resolvedBox}
+use Rattle.oof_box.specs.Box.{keywordStretch, sizeKeywords}
+use Rattle.oof_box.specs.Cut.{taken, isFilled, isFirst, stretchedBy, keywordAsked, sizeAsked, orLater, askedOf, askedAfter}
+use Rattle.oof_box.specs.declared.question.Asked.{Asked}
+use Rattle.oof_box.specs.declared.question.Replies.{Replies}
+use Rattle.oof_box.specs.declared.question.Reply.{Reply}
+use Rattle.oof_box.specs.declared.question.Reply.the-variants as reply
+use Rattle.oof_box.specs.declared.question.Stage.{Stage}
+use Rattle.oof_box.specs.declared.question.Stage.the-variants as stage
+use Rattle.oof_box.specs.declared.question.Taken.{Taken}
+use Rattle.oof_box.specs.declared.question.Taken.the-variants.{Wrong, Kept, Laid}
+use Rattle.run.specs.declared.Opening.{Opening}
+use Rattle.run.specs.declared.Progress.{Progress}
+use Rattle.run.specs.declared.Progress.the-variants.{Finished, Asking}
+use Rattle.run.specs.declared.Counts.{Counts}
+use Rattle.run.specs.declared.State.{State}
+use Rattle.run.specs.declared.Extents.{Extents}
+use Rattle.run.specs.declared.Answer.{Answer}
+use Rattle.run.specs.declared.Answer.the-variants.{Ask, Finish, Refused}
+use Rattle.run.specs.Call.{Lent}
+use Rattle.run.specs.Refusals.{Verdict, accepted, refused, badArea, ragged, badTable, badList, badSlices, otherLengths, isBad, badStyle, badCandidate, listFull, wrongCounts, lentBy}
+use Rattle.run.specs.Run.{extentsOf, claimsOf, noneFilled, opened, openedBy, openingVerdict, takenIn, takenBy, isWrong, replied, repliedBy, replyVerdict}
+use Rattle.run.specs.Conditions.{AreaIsBad, GoodTable, Whole, GoodList, SlicesAreBad, Among, Allowed, StyleIsBad, places, word, AxisIsBad, RecordIsBad, CandidateIsBad, QuestionKind, both, width, height, layOut, kindOfQuestion, kindOfReply, kindAt, NotAsked, CountsAreWrong, openingTests, replyTests}
+use Rattle.run.specs.Theorems.{isRefused, OpeningRefusedExactly, OpeningAcceptedExactly, ReplyRefusedExactly, ReplyAcceptedExactly, StageTellsKind}
+use Rattle.run.proofs.Ways.{passed, neither}
+use Rattle.run.proofs.Refusals.{begun-accepts, measured-accepts, laid-accepts}
+use Rattle.run.proofs.Decides.{Decides, by-iff, either, regroup, opposite, refutes, both-fail, guard, last, below, at-most, equal, not-every, Says, no-more, then, refused-first, accepted-none}
+use Rattle.run.proofs.Decides as decides
+
+-- ---- 1
+
+area-decided : (o : Opening) → Decides (badArea o) (AreaIsBad o)
+unfolding badArea
+area-decided o = regroup (regroup (either (either (either (below 1 (o .direction)) (below 3 (o .claims))) (below 3 (o .overflowx))) (below 3 (o .overflowy))))
+
+-- ---- 2
+
+-- two numbers that are equal don't differ
+same : (m n : ℕ) → m ≡ n → not (eqb m n) ≡ false
+same m n e = ap not (eq-eqb m n e)
+
+whole-decided : (list : List ℕ) → Decides (ragged 13 list) (¬ Whole list)
+whole-decided list =
+    refutes (λ f. (length list / 13, let e = eqb-true (length list % 13) 0 (not-false _ f) in omega arith))
+    (λ h. let e = h .1 in same (length list % 13) 0 (omega arith))
+
+list-decided : (list : List ℕ) → Decides (badList list) (¬ GoodList list)
+unfolding badList
+list-decided list = refutes there back
+  where
+    there : badList list ≡ false → GoodList list
+    there f =
+        let e = eqb-true (length list % 13) 0 (not-false _ (neither (ragged 13 list) _ f .0)) in
+        let h = ltb-false 4096 (length list / 13) (neither (ragged 13 list) _ f .1) in
+        (length list / 13, h, omega arith)
+
+    back : GoodList list → badList list ≡ false
+    back g =
+        let h = g .1 in
+        let e = g .2 in
+        both-fail (same (length list % 13) 0 (omega arith)) (le-ltb 4096 (length list / 13) (omega arith))
+
+table-decided : (styles layouts : List ℕ) → Decides (badTable styles layouts) (¬ GoodTable styles layouts)
+unfolding badTable items
+table-decided styles layouts = refutes there back
+  where
+    there : badTable styles layouts ≡ false → GoodTable styles layouts
+    there f =
+        let first = neither (ragged 57 styles || ltb 1024 (items styles)) _ f in
+        let e = eqb-true (length styles % 57) 0 (not-false _ (neither (ragged 57 styles) _ (first .0) .0)) in
+        let h = ltb-false 1024 (length styles / 57) (neither (ragged 57 styles) _ (first .0) .1) in
+        (length styles / 57, h, omega arith, eqb-true (length layouts) (23 * (length styles / 57)) (not-false _ (first .1)))
+
+    back : GoodTable styles layouts → badTable styles layouts ≡ false
+    back g =
+        let h = g .1 in
+        let d = g .2 in
+        let e = g .3 in
+        both-fail
+        (both-fail (same (length styles % 57) 0 (omega arith)) (le-ltb 1024 (length styles / 57) (omega arith)))
+        (same (length layouts) (23 * (length styles / 57)) (omega arith))
+
+slices-decided : (lent : Lent) → Decides (badSlices lent) (SlicesAreBad lent)
+unfolding badSlices
+slices-decided lent = regroup (either (either (table-decided (lent .styles) (lent .layouts)) (list-decided (lent .working))) (list-decided (lent .unclaimed)))
+
+lengths-decided : (e : Extents) (lent : Lent) → Decides (otherLengths e lent) (extentsOf lent ≢ e)
+unfolding otherLengths
+lengths-decided e lent = refutes there back
+  where
+    there : otherLengths e lent ≡ false → extentsOf lent ≡ e
+    there f =
+        let third = neither _ _ f in
+        let second = neither _ _ (third .0) in
+        let first = neither _ _ (second .0) in
+        let a = eqb-true (length (lent .styles)) (e .styles) (not-false _ (first .0)) in
+        let b = eqb-true (length (lent .layouts)) (e .layouts) (not-false _ (first .1)) in
+        let c = eqb-true (length (lent .working)) (e .working) (not-false _ (second .1)) in
+        let d = eqb-true (length (lent .unclaimed)) (e .unclaimed) (not-false _ (third .1)) in
+        λ i. record { styles = a i; layouts = b i; working = c i; unclaimed = d i }
+
+    back : extentsOf lent ≡ e → otherLengths e lent ≡ false
+    back h =
+        both-fail
+        (both-fail
+        (both-fail (same (length (lent .styles)) (e .styles) (ap (λ (x : Extents). x .styles) h))
+        (same (length (lent .layouts)) (e .layouts) (ap (λ (x : Extents). x .layouts) h)))
+        (same (length (lent .working)) (e .working) (ap (λ (x : Extents). x .working) h)))
+        (same (length (lent .unclaimed)) (e .unclaimed) (ap (λ (x : Extents). x .unclaimed) h))
+
+-- ---- 3
+
+among-decided : (tags : List ℕ) (w : ℕ) → Decides (among tags w) (Among tags w)
+unfolding among
+among-decided [] w = record { holds = λ t. no {b = false} t refl; fails = λ f a. a }
+among-decided (x ∷ tags) w = either (equal w x) (among-decided tags w)
+
+above : (last w : ℕ) → Decides (ltb last w) (¬ (w ≤ last))
+above last w = by-iff (below last w) (λ h k. absurd (omega arith), λ n. omega arith)
+
+anything : Decides false (¬ Unit {0})
+anything = record { holds = λ t. no {b = false} t refl; fails = λ f n. n tt }
+
+safety-decided : (before w : ℕ) → Decides (safetyBreaks before w) (¬ ((before ≡ 10) ⊎ (w ≤ 2)))
+unfolding safetyBreaks
+safety-decided before w = go (eqb before 10) (equal before 10)
+  where
+    go : (b : Bool) → Decides b (before ≡ 10) → Decides (cond b false (ltb 2 w)) (¬ ((before ≡ 10) ⊎ (w ≤ 2)))
+    go true d = refutes (λ f. inl (d .holds refl)) (λ h. refl)
+    go false d = refutes (λ f. inr (ltb-false 2 w f)) back
+      where
+        back : (before ≡ 10) ⊎ (w ≤ 2) → ltb 2 w ≡ false
+        back (inl e) = absurd (d .fails refl e)
+        back (inr h) = le-ltb 2 w h
+
+word-decided : (kind : Kind) (before w : ℕ) → Decides (breaksAs kind before w) (¬ Allowed kind before w)
+unfolding breaksAs
+word-decided (tag field) before w = rw (takes-its-tags field w) (opposite (among-decided (tagsOf field) w))
+word-decided number before w = anything
+word-decided (code last) before w = above last w
+word-decided ratio before w = anything
+word-decided keyword before w = above 10 w
+word-decided safety before w = safety-decided before w
+word-decided contain before w = above 255 w
+
+style-decided : (styles : List ℕ) → Decides (badStyle styles) (StyleIsBad styles)
+unfolding badStyle breaks breaksRule
+style-decided styles = record { holds = λ t. there (checked styles) refl t; fails = λ f. back (checked styles) refl f }
+  where
+    of : (i k : ℕ) → Decides (breaks styles i k) (¬ Allowed (kindOf k) (item styles i (k - 1)) (item styles i k))
+    of i k = word-decided (kindOf k) (item styles i (k - 1)) (item styles i k)
+
+    there : (c : TableCheck) → checked styles ≡ c → isBad c ≡ true → StyleIsBad styles
+    there Good e t = no {b = false} t refl
+    there (Bad i k) e t = let f = bad-is-first styles i k .0 e in (i, k, f .item-there, f .word-there, of i k .holds (f .breaks-it))
+
+    back : (c : TableCheck) → checked styles ≡ c → isBad c ≡ false → ¬ StyleIsBad styles
+    back Good e f s = of (s .0) (s .1) .fails (good-is-none styles .0 e (s .0) (s .2) (s .1) (s .3)) (s .4)
+    back (Bad i k) e f s = no {b = true} refl f
+
+-- ---- 4
+
+axis-decided : (list : List ℕ) (i k : ℕ) → Decides (not (good axisKinds list (13 * i + k))) (AxisIsBad list i k)
+axis-decided list i k =
+    rw (good-axis list (13 * i + k), add-assoc (13 * i) k 2, add-assoc (13 * i) k 3, add-assoc (13 * i) k 4)
+    (guard _ (at-most 3 (word list i (k + 2))) (guard _ (at-most 3 (word list i (k + 3))) (last (at-most 3 (word list i (k + 4))))))
+
+record-decided : (n : ℕ) (list : List ℕ) (i : ℕ) → Decides (not (good (candidateKinds n) list (13 * i))) (RecordIsBad n list i)
+record-decided n list i =
+    rw (good-record n list (13 * i), add-zero)
+    (guard _ (at-most n (getD list (13 * i) 0)) (guard _ (at-most 5 (word list i 2)) (decides.both (good axisKinds list (13 * i + 3)) (good axisKinds list (13 * i + 8)) (axis-decided list i 3) (axis-decided list i 8))))
+
+candidate-decided : (styles list : List ℕ) (count : ℕ) → count ≤ places list → Decides (badCandidate styles list count) (CandidateIsBad styles list count)
+unfolding badCandidate goodRecords
+candidate-decided styles list count h =
+    rw (le-leb count (length list / 13) h)
+    (not-every count (λ i. good (candidateKinds (items styles)) list (13 * i)) (RecordIsBad (items styles) list) (record-decided (items styles) list))
+
+-- ---- 5
+
+exceeds : (held more l : ℕ) → Decides (not (room 13 l held more)) (l / 13 < held + more)
+unfolding room
+exceeds held more l = by-iff (opposite (at-most (held + more) (l / 13))) (λ n. omega arith, λ h k. absurd (omega arith))
+
+full-decided : (by : ContainingBlockClaims) (lent : Lent) (filled : Filled) (candidates : List ℕ)
+    → Decides (listFull by lent filled candidates) (Exceeds by (candidatesIn candidates) (lent .working) (lent .unclaimed) filled)
+unfolding listFull
+full-decided by lent filled candidates =
+    either (exceeds (filled .working) (length (claimed by (candidatesIn candidates))) (length (lent .working)))
+    (exceeds (filled .unclaimed) (length (others by (candidatesIn candidates))) (length (lent .unclaimed)))
+
+-- ---- 6
+
+-- kinds by numbers
+abbrev codeOf : QuestionKind → ℕ
+codeOf both = 0
+codeOf width = 1
+codeOf height = 2
+codeOf layOut = 3
+
+kinds-differ : (a b : QuestionKind) → codeOf a ≡ codeOf b → a ≡ b
+kinds-differ a b e = sym (back a) ∙ ap (λ n. getD byCode n both) e ∙ back b
+  where
+    byCode : List QuestionKind
+    byCode = both ∷ width ∷ height ∷ layOut ∷ []
+
+    back : (a : QuestionKind) → getD byCode (codeOf a) both ≡ a
+    back both = refl
+    back width = refl
+    back height = refl
+    back layOut = refl
+
+other-kind : (replies : Replies) (at : Stage) (given : Reply)
+    → isWrong (taken replies at given) ≡ not (eqb (codeOf (kindOfReply given)) (codeOf (kindAt at)))
+unfolding taken
+other-kind replies stage.KeywordBoth (reply.Both s) = refl
+other-kind replies stage.KeywordWidth (reply.Both s) = refl
+other-kind replies stage.KeywordHeight (reply.Both s) = refl
+other-kind replies stage.Fill (reply.Both s) = refl
+other-kind replies stage.LayOut (reply.Both s) = refl
+other-kind replies stage.KeywordBoth (reply.Width w) = refl
+other-kind replies stage.KeywordWidth (reply.Width w) = refl
+other-kind replies stage.KeywordHeight (reply.Width w) = refl
+other-kind replies stage.Fill (reply.Width w) = refl
+other-kind replies stage.LayOut (reply.Width w) = refl
+other-kind replies stage.KeywordBoth (reply.Height h) = refl
+other-kind replies stage.KeywordWidth (reply.Height h) = refl
+other-kind replies stage.KeywordHeight (reply.Height h) = refl
+other-kind replies stage.Fill (reply.Height h) = refl
+other-kind replies stage.LayOut (reply.Height h) = refl
+other-kind replies stage.KeywordBoth (reply.LaidOut overflow) = refl
+other-kind replies stage.KeywordWidth (reply.LaidOut overflow) = refl
+other-kind replies stage.KeywordHeight (reply.LaidOut overflow) = refl
+other-kind replies stage.Fill (reply.LaidOut overflow) = refl
+other-kind replies stage.LayOut (reply.LaidOut overflow) = refl
+
+kind-decided : (replies : Replies) (at : Stage) (given : Reply) → Decides (isWrong (taken replies at given)) (kindOfReply given ≢ kindAt at)
+kind-decided replies at given =
+    rw (other-kind replies at given)
+    (opposite (by-iff (equal (codeOf (kindOfReply given)) (codeOf (kindAt at))) (kinds-differ (kindOfReply given) (kindAt at), ap codeOf)))
+
+abbrev isFinished : Progress → Bool
+isFinished Finished = true
+isFinished (Asking at) = false
+
+abbrev stageIn : Progress → Stage
+stageIn Finished = stage.LayOut
+stageIn (Asking at) = at
+
+asked-decided : (p : Progress) (replies : Replies) (given : Reply) → Decides (isWrong (takenIn p replies given)) (NotAsked p given)
+asked-decided Finished replies given = record { holds = λ t. inl refl; fails = λ f. no {b = true} refl f }
+asked-decided (Asking at) replies given = by-iff (kind-decided replies at given) (λ n. inr (at, refl, n), back)
+  where
+    back : NotAsked (Asking at) given → kindOfReply given ≢ kindAt at
+    back (inl e) = no {b = false} (ap isFinished e) refl
+    back (inr a) = λ k. a .2 (k ∙ ap kindAt (ap stageIn (a .1)))
+
+counts-decided : (lent : Lent) (c : Counts) → Decides (wrongCounts lent c) (CountsAreWrong lent c)
+unfolding wrongCounts
+counts-decided lent c =
+    regroup
+    (regroup
+    (regroup
+    (either
+    (either
+    (either (either (below (places (lent .working)) (c .filled .working)) (below (places (lent .unclaimed)) (c .filled .unclaimed)))
+    (by-iff (equal (c .begun) 0) (λ e. omega arith, λ h. omega arith)))
+    (below (c .filled .working) (c .begun)))
+    (below (3 * c .begun) (c .answered)))))
+
+-- ---- in their order
+
+pub opening-says : (o : Opening) (candidates : List ℕ) (lent : Lent) → Says (openingVerdict o candidates lent) (openingTests o candidates lent)
+unfolding openingVerdict
+opening-says o candidates lent =
+    then BadArea (area-decided o)
+    (λ _. then BadExtent (either (slices-decided lent) (whole-decided candidates))
+    (λ _. then BadStyle (style-decided (lent .styles))
+    (λ _. then BadCandidate (candidate-decided (lent .styles) candidates (places candidates) (omega arith))
+    (λ _. then ListFull (full-decided (claimsOf o) lent noneFilled candidates)
+    (λ _. no-more)))))
+
+-- the filled records are there where 6 was passed
+filled-there : (lent : Lent) (c : Counts) (wrong : Bool) → wrong || wrongCounts lent c ≡ false → c .filled .working ≤ places (lent .working)
+filled-there lent c wrong f =
+    let n = counts-decided lent c .fails (neither wrong _ f .1) in
+    let h : ¬ (places (lent .working) < c .filled .working) = λ l. n (inl l) in
+    omega arith
+
+pub reply-says : (s : State) (given : Reply) (surfaced : List ℕ) (lent : Lent)
+    → Says (replyVerdict s given surfaced lent) (replyTests s given surfaced lent)
+unfolding replyVerdict takenBy
+reply-says s given slice lent =
+    let surfaced = lentBy given slice in
+    then BadExtent (regroup (either (either (slices-decided lent) (lengths-decided (s .opened .extents) lent)) (whole-decided surfaced)))
+    (λ _. then WrongReply (either (asked-decided (s .progress) (s .replies) given) (counts-decided lent (s .counts)))
+    (λ f. then BadStyle (style-decided (lent .styles))
+    (λ _. then BadCandidate (either (candidate-decided (lent .styles) (lent .working) (s .counts .filled .working) (filled-there lent (s .counts) (isWrong (takenBy s given)) f)) (candidate-decided (lent .styles) surfaced (places surfaced) (omega arith)))
+    (λ _. then ListFull (full-decided (s .opened .claims) lent (s .counts .filled) surfaced)
+    (λ _. no-more)))))
+
+-- ---- a refusal is the verdict's
+
+abbrev refusalIn : Answer → Refusal
+refusalIn (Ask q) = WrongReply
+refusalIn (Finish f) = WrongReply
+refusalIn (Refused r) = r
+
+abbrev refusalBy : Verdict → Refusal
+refusalBy accepted = WrongReply
+refusalBy (refused r) = r
+
+abbrev isAccepted : Verdict → Bool
+isAccepted accepted = true
+isAccepted (refused r) = false
+
+-- an answer goes by a verdict: a refusal is its refusal, and there is none where it accepts
+record GoesBy (a : Answer) (v : Verdict) : Type 0 where
+  refusal : (r : Refusal) → (a ≡ Refused r) ↔ (v ≡ refused r)
+  none : (isRefused a ≡ false) ↔ (v ≡ accepted)
+
+goes-refused : (q : Refusal) → GoesBy (Refused q) (refused q)
+goes-refused q =
+    record {
+      refusal = λ r. (λ e. ap refused (ap refusalIn e), λ e. ap Refused (ap refusalBy e));
+      none = (λ f. no {b = true} refl f, λ e. no {b = false} (ap isAccepted e) refl);
+    }
+
+goes-accepted : (a : Answer) → isRefused a ≡ false → GoesBy a accepted
+goes-accepted a n =
+    record {
+      refusal = λ r. (λ e. no (ap isRefused e) n, λ e. no {b = true} refl (ap isAccepted e));
+      none = (λ f. refl, λ e. n);
+    }
+
+opening-goes : (o : Opening) (candidates : List ℕ) (lent : Lent) → GoesBy (opened o candidates lent .step .answer) (openingVerdict o candidates lent)
+unfolding opened
+opening-goes o candidates lent = go (openingVerdict o candidates lent)
+  where
+    go : (v : Verdict) → GoesBy (openedBy v o candidates lent .step .answer) v
+    go accepted = goes-accepted _ (begun-accepts o candidates lent)
+    go (refused q) = goes-refused q
+
+-- what is accepted is not of another kind than the question
+accepted-not-wrong : (s : State) (given : Reply) (surfaced : List ℕ) (lent : Lent) → replyVerdict s given surfaced lent ≡ accepted
+    → isWrong (takenBy s given) ≡ false
+unfolding replyVerdict
+accepted-not-wrong s given surfaced lent d = neither (isWrong (takenBy s given)) _ (passed _ _ _ (passed _ _ _ d .1) .0) .0
+
+reply-goes : (s : State) (given : Reply) (surfaced : List ℕ) (lent : Lent)
+    → GoesBy (replied s given surfaced lent .step .answer) (replyVerdict s given surfaced lent)
+unfolding replied
+reply-goes s given surfaced lent = go (replyVerdict s given surfaced lent) (takenBy s given) refl refl
+  where
+    go : (v : Verdict) (t : Taken) → replyVerdict s given surfaced lent ≡ v → takenBy s given ≡ t → GoesBy (repliedBy v t s surfaced lent .step .answer) v
+    go (refused q) t d e = goes-refused q
+    go accepted Wrong d e = no (ap isWrong e) (accepted-not-wrong s given surfaced lent d)
+    go accepted (Kept replies) d e = goes-accepted _ (measured-accepts s replies lent)
+    go accepted (Laid overflow) d e = goes-accepted _ (laid-accepts s overflow surfaced lent)
+
+-- ---- the theorems
+
+pub opening-refused-exactly : OpeningRefusedExactly
+opening-refused-exactly o candidates lent r = Iff·trans (opening-goes o candidates lent .refusal r) (refused-first r (opening-says o candidates lent))
+
+pub opening-accepted-exactly : OpeningAcceptedExactly
+opening-accepted-exactly o candidates lent = Iff·trans (opening-goes o candidates lent .none) (accepted-none (opening-says o candidates lent))
+
+pub reply-refused-exactly : ReplyRefusedExactly
+reply-refused-exactly s given surfaced lent r = Iff·trans (reply-goes s given surfaced lent .refusal r) (refused-first r (reply-says s given surfaced lent))
+
+pub reply-accepted-exactly : ReplyAcceptedExactly
+reply-accepted-exactly s given surfaced lent = Iff·trans (reply-goes s given surfaced lent .none) (accepted-none (reply-says s given surfaced lent))
+
+-- ---- stages tell kinds
+
+abbrev TellsKind : Asked → Type 0
+TellsKind a = kindOfQuestion (a .question) ≡ kindAt (a .stage)
+
+chosen : (b : Bool) (x y : Asked) → TellsKind x → TellsKind y → TellsKind (cond b x y)
+chosen true x y h k = h
+chosen false x y h k = k
+
+after-keywords : (node : ℕ) (across down : SizingKeywordResolution) (known : MaybeSize) (stretch : Size) (later : Asked) → TellsKind later
+    → TellsKind (orLater (keywordAsked node across down known stretch) later)
+unfolding keywordAsked
+after-keywords node NoKeyword NoKeyword known stretch later h = h
+after-keywords node NoKeyword (Exact y) known stretch later h = h
+after-keywords node NoKeyword (Measure down) known stretch later h = refl
+after-keywords node (Exact w) NoKeyword known stretch later h = h
+after-keywords node (Exact w) (Exact y) known stretch later h = h
+after-keywords node (Exact w) (Measure down) known stretch later h = refl
+after-keywords node (Measure across) NoKeyword known stretch later h = refl
+after-keywords node (Measure across) (Exact y) known stretch later h = refl
+after-keywords node (Measure across) (Measure down) known stretch later h = refl
+
+pub stage-tells-kind : StageTellsKind
+unfolding askedAfter askedOf sizeAsked
+stage-tells-kind block style candidate replies =
+    let box = resolvedBox block style candidate in
+    let keywords = sizeKeywords style box in
+    let later = sizeAsked (candidate .node) style box keywords replies in
+    let h : TellsKind later = chosen (isFilled (replies .fill) || bothPresent (stretchedBy style box keywords replies .known)) _ _ refl refl in
+    chosen (isFirst (replies .keyword) (replies .fill)) _ later (after-keywords (candidate .node) (keywords .width) (keywords .height) (box .size) (keywordStretch box) later h) h
