@@ -83,15 +83,16 @@ list-decided list = refutes there back
   where
     there : badList list ≡ false → GoodList list
     there f =
-        let e = eqb-true (length list % 13) 0 (not-false _ (neither (ragged 13 list) _ f .0)) in
-        let h = ltb-false 4096 (length list / 13) (neither (ragged 13 list) _ f .1) in
+        let parts = neither _ _ f in
+        let e = eqb-true (length list % 13) 0 (not-false _ (parts .0)) in
+        let h = ltb-false _ (length list / 13) (parts .1) in
         (length list / 13, h, omega arith)
 
     back : GoodList list → badList list ≡ false
     back g =
         let h = g .1 in
         let e = g .2 in
-        both-fail (same (length list % 13) 0 (omega arith)) (le-ltb 4096 (length list / 13) (omega arith))
+        both-fail (same (length list % 13) 0 (omega arith)) (le-ltb _ (length list / 13) (omega arith))
 
 table-decided : (styles layouts : List ℕ) → Decides (badTable styles layouts) (¬ GoodTable styles layouts)
 unfolding badTable items
@@ -99,9 +100,10 @@ table-decided styles layouts = refutes there back
   where
     there : badTable styles layouts ≡ false → GoodTable styles layouts
     there f =
-        let first = neither (ragged 57 styles || ltb 1024 (items styles)) _ f in
-        let e = eqb-true (length styles % 57) 0 (not-false _ (neither (ragged 57 styles) _ (first .0) .0)) in
-        let h = ltb-false 1024 (length styles / 57) (neither (ragged 57 styles) _ (first .0) .1) in
+        let first = neither _ _ f in
+        let second = neither _ _ (first .0) in
+        let e = eqb-true (length styles % 57) 0 (not-false _ (second .0)) in
+        let h = ltb-false _ (length styles / 57) (second .1) in
         (length styles / 57, h, omega arith, eqb-true (length layouts) (23 * (length styles / 57)) (not-false _ (first .1)))
 
     back : GoodTable styles layouts → badTable styles layouts ≡ false
@@ -110,7 +112,7 @@ table-decided styles layouts = refutes there back
         let d = g .2 in
         let e = g .3 in
         both-fail
-        (both-fail (same (length styles % 57) 0 (omega arith)) (le-ltb 1024 (length styles / 57) (omega arith)))
+        (both-fail (same (length styles % 57) 0 (omega arith)) (le-ltb _ (length styles / 57) (omega arith)))
         (same (length layouts) (23 * (length styles / 57)) (omega arith))
 
 slices-decided : (lent : Lent) → Decides (badSlices lent) (SlicesAreBad lent)
