@@ -59,15 +59,6 @@ use Rattle.demands.specs.Entries.{Opens, AnyCalls, ownSlices, Hears, Run
 use Rattle.demands.specs.Entries as entry
 use Rattle.demands.specs.Demands.{Iff, OpeningRefused, ReplyRefused, RefusedOpeningWritesNothing, RefusedReplyWritesNothing, OpeningDemands, ReplyDemands, ThreeQuestionsEach, EqualsStraightRun, SizedLayout, SizeLaw, LaidOutAsAsked, MirrorImage}
 
--- what the host has is the outcome
-
-pub open-leaves : (o : Opening) (candidates : List ℕ) (lent : Lent) (has : Outcome) → Opens o candidates lent has → has ≡ opened o candidates lent
-open-leaves o candidates lent has c = c .learnt
-
-pub reply-leaves : (s : State) (reply : Reply) (surfaced : List ℕ) (lent : Lent) (has : Outcome) → entry.Replies s reply surfaced lent has
-    → has ≡ replied s reply surfaced lent
-reply-leaves s reply surfaced lent has c = c .learnt
-
 -- ---- refused exactly under the condition
 
 abbrev refusalIn : Answer → Refusal
@@ -106,7 +97,7 @@ pub opening-demands : (o : Opening) (candidates : List ℕ) (lent : Lent) (has :
     → Opens o candidates lent has
     → OpeningDemands o candidates lent has
 opening-demands o candidates lent has c =
-    let e = sym (open-leaves o candidates lent has c) in
+    let e = sym c in
     record {
       call = c;
       refused = subst (OpeningRefused o candidates lent) e (opening-iff o candidates lent);
@@ -134,12 +125,12 @@ reply-iff s reply surfaced lent r = go (replyVerdict s reply surfaced lent) (tak
 
 for-box : (i : ℕ) {n : ℕ} {has : Outcome} → AnyCalls i n has → ForBox i n (has .step .state) × Hoisted (has .step .state)
 for-box i (AnyCalls.opening {has = has} o candidates lent c) =
-    subst (λ (x : Outcome). ForBox i (askedFor i (x .step)) (x .step .state) × Hoisted (x .step .state)) (sym (open-leaves o candidates lent has c))
+    subst (λ (x : Outcome). ForBox i (askedFor i (x .step)) (x .step .state) × Hoisted (x .step .state)) (sym c)
     (opening-for i o candidates lent, opening-hoisted o candidates lent)
 for-box i (AnyCalls.reply {n = n} {before = before} {has = has} reply surfaced lent calls c) =
     let b = for-box i calls in
     subst (λ (x : Outcome). ForBox i (n + askedFor i (x .step)) (x .step .state) × Hoisted (x .step .state))
-    (sym (reply-leaves (before .step .state) reply surfaced lent has c))
+    (sym c)
     (reply-for i n (before .step .state) reply surfaced lent (b .0), reply-hoisted (before .step .state) reply surfaced lent (b .1))
 
 pub three-questions-each : ThreeQuestionsEach
@@ -149,14 +140,14 @@ three-questions-each i n has calls = let b = for-box i calls in (b .0 .three, λ
 
 hears : (styles : List ℕ) (before : Outcome) (h : Heard) (loan : Loan) (has : Outcome) → Hears styles before h loan has → has ≡ nextWith styles before h loan
 unfolding next
-hears styles before h own has (Hears.lentOwn c) = reply-leaves (before .step .state) (h .reply) (h .surfaced) (ownSlices styles before) has c
+hears styles before h own has (Hears.lentOwn c) = c
 hears styles before h (other lent) has (Hears.lentOther {has = left} c) =
     ap (λ (x : Outcome). record { step = x .step; layouts = before .layouts; working = before .working; unclaimed = before .unclaimed })
-    (reply-leaves (before .step .state) (h .reply) (h .surfaced) lent left c)
+    c
 
 run-is : (o : Opening) (candidates : List ℕ) (lent : Lent) {heard : List Heard} {has : Outcome} → Run o candidates lent heard has
     → has ≡ foldl (next (lent .styles)) (opened o candidates lent) heard
-run-is o candidates lent (Run.opening {has = has} c) = open-leaves o candidates lent has c
+run-is o candidates lent (Run.opening {has = has} c) = c
 run-is o candidates lent (Run.reply {heard = heard} {before = before} {has = has} h earlier c) =
     hears (lent .styles) before h own has c
     ∙ ap (λ (x : Outcome). next (lent .styles) x h) (run-is o candidates lent earlier)
@@ -210,7 +201,7 @@ pub reply-demands : (s : State) (reply : Reply) (surfaced : List ℕ) (lent : Le
     → entry.Replies s reply surfaced lent has
     → ReplyDemands s reply surfaced lent has
 reply-demands s reply surfaced lent has c =
-    let e = sym (reply-leaves s reply surfaced lent has c) in
+    let e = sym c in
     record {
       call = c;
       refused = subst (ReplyRefused s reply surfaced lent) e (reply-iff s reply surfaced lent);
@@ -286,7 +277,7 @@ both-are : (o : Opening) (candidates : List ℕ) (lent lent' : Lent) {messages :
     → BothRuns o candidates lent lent' messages has has'
     → (has ≡ foldl (runNext (lent .styles)) (opened o candidates lent) messages)
     × (has' ≡ foldl (imageNext (lent' .styles)) (opened (imageOpening o) (imageCandidates (o .area) candidates) lent') messages)
-both-are o candidates lent lent' (BothRuns.opening {has = has} {has' = has'} c c') = (open-leaves o candidates lent has c, open-leaves (imageOpening o) (imageCandidates (o .area) candidates) lent' has' c')
+both-are o candidates lent lent' (BothRuns.opening {has = has} {has' = has'} c c') = (c, c')
 both-are o candidates lent lent' (BothRuns.reply {messages = messages} {before = before} {before' = before'} {has = has} {has' = has'} m earlier c c') =
     let e = both-are o candidates lent lent' earlier in (
       hears (lent .styles) before (m .heard) (m .loan) has c

@@ -1,48 +1,25 @@
--- What a host does with the entries, and all that it knows of them: what a caller of `placer::open` and `placer::reply` learns by their
--- contracts. `Learnt` is not written here: Rattle reads it off each function's `ensures`, so that a weaker `ensures` is a weaker
--- hypothesis of every demand. Assumes nothing.
+-- What a host does with the entries, and all that it knows of them: their contracts. `demands::open` and `demands::reply` (src/lib.rt) are
+-- the calls themselves and ensure `Opens` and `Replies` of each, so that what is shown here of lists of such calls holds of the code.
+-- Assumes nothing.
 use Prim.Native.Nat.{ℕ, _+_}
+use mathlib.Core.Path.{_≡_}
 use mathlib.Core.List.{List, [], _∷_, _++_}
-use contract.Lifetimes.{Lfts}
-use denote.Ref.{RefT, at-last}
 use Rattle.oof_box.specs.declared.question.Reply.{Reply}
 use Rattle.run.specs.declared.Opening.{Opening}
 use Rattle.run.specs.declared.State.{State}
 use Rattle.run.specs.Call.{Lent, Outcome}
+use Rattle.run.specs.Run.{opened, replied}
 use Rattle.run.specs.Theorems.{Heard, askedFor, Loan, own, other}
 use Rattle.mirror.specs.Image.{imageOpening, imageCandidates}
 use Rattle.mirror.specs.Runs.{Message}
-use Rattle.placer.proofs.open.Reads as open-contract
-use Rattle.placer.proofs.reply.Reads as reply-contract
 
 -- ---- A call, and what the host has after it: what was returned, and the words of the slices that it lent.
 
--- where the slices of a call stand, and for how long. A contract speaks of their words only
-pub record Slices : Type 0 where
-  pub lifetimes : Lfts 5
-  pub records : RefT (List ℕ)
-  pub styles : RefT (List ℕ)
-  pub layouts : RefT (List ℕ)
-  pub working : RefT (List ℕ)
-  pub unclaimed : RefT (List ℕ)
+abbrev pub Opens : Opening → List ℕ → Lent → Outcome → Type 0
+Opens o candidates lent has = has ≡ opened o candidates lent
 
--- a call of `open`: what its caller learns, with these words before and those after
-pub record Opens (o : Opening) (candidates : List ℕ) (lent : Lent) (has : Outcome) : Type 0 where
-  pub at : Slices
-  pub learnt :
-      open-contract.Learnt (at .lifetimes)
-      (o, (at-last (at .styles) (lent .styles), (at-last (at .records) candidates, (at-last (at .layouts) (lent .layouts), (at-last (at .working) (lent .working), (at-last (at .unclaimed) (lent .unclaimed), tt))))))
-      (has .step)
-      (o, (at-last (at .styles) (lent .styles), (at-last (at .records) candidates, (at-last (at .layouts) (has .layouts), (at-last (at .working) (has .working), (at-last (at .unclaimed) (has .unclaimed), tt))))))
-
--- a call of `reply`
-pub record Replies (s : State) (reply : Reply) (surfaced : List ℕ) (lent : Lent) (has : Outcome) : Type 0 where
-  pub at : Slices
-  pub learnt :
-      reply-contract.Learnt (at .lifetimes)
-      (s, (reply, (at-last (at .records) surfaced, (at-last (at .styles) (lent .styles), (at-last (at .layouts) (lent .layouts), (at-last (at .working) (lent .working), (at-last (at .unclaimed) (lent .unclaimed), tt)))))))
-      (has .step)
-      (s, (reply, (at-last (at .records) surfaced, (at-last (at .styles) (lent .styles), (at-last (at .layouts) (has .layouts), (at-last (at .working) (has .working), (at-last (at .unclaimed) (has .unclaimed), tt)))))))
+abbrev pub Replies : State → Reply → List ℕ → Lent → Outcome → Type 0
+Replies s reply surfaced lent has = has ≡ replied s reply surfaced lent
 
 -- ---- Any calls: each reply is given the state that the last call returned, and any words in slices of any length. `n` questions were
 -- asked for box i, the record i of the working list, each while it was at hand.

@@ -21,21 +21,9 @@ same-length-3 c = search needs
 
 returns : tie.Need-returns
 returns c =
-    let first = c .before .before .before .before .before .before .before .before .before .before .before .before .before .before .before in
-    let a = first .args in
+    let a = c .before .before .before .before .before .before .before .before .before .before .before .before .before .before .before .args in
     opening-demands (a .o) (a .candidates .now) (lent (a .styles .now) (a .layouts .now) (a .working .now) (a .unclaimed .now)) _
-    (record {
-      at =
-          record {
-            lifetimes = first .κs;
-            records = a .candidates;
-            styles = a .styles;
-            layouts = a .layouts;
-            working = a .working;
-            unclaimed = a .unclaimed;
-          };
-      learnt = c .before .before .before .before .before .before .open .ensures;
-    })
+    (c .before .before .before .before .before .before .open .ensures)
 
 pub open-spec : {M : Type 1} → statement M
 open-spec = tie.close (tie.spec open-requires same-length same-length-2 same-length-3 returns)
