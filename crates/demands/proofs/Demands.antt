@@ -45,10 +45,10 @@ use Rattle.run.specs.declared.Answer.{Answer}
 use Rattle.run.specs.declared.Answer.the-variants.{Ask, Finish, Refused}
 use Rattle.run.specs.Call.{Lent, Outcome}
 use Rattle.run.specs.Theorems.{isRefused, askedFor, Heard, Stands, next, heededIn, courseOf, Loan, own, other, nextWith}
-use Rattle.run.specs.Refusals.{Verdict, accepted, refused}
 use Rattle.run.specs.Run.{boxAtHand, opened, openedBy, openingVerdict, replied, repliedBy, replyVerdict, takenBy, takenIn, isWrong, laidOut, measuredOn}
-use Rattle.run.proofs.Refusals.{begun-accepts, measured-accepts, laid-accepts, refused-reply-keeps, refused-opening-keeps}
-use Rattle.run.proofs.Ways.{ReplyWay, measures, laysOut, reply-way, passed, neither}
+use Rattle.run.proofs.Refusals.{refused-reply-keeps, refused-opening-keeps}
+use Rattle.run.proofs.Conditions.{opening-refused-exactly, opening-accepted-exactly, reply-refused-exactly, reply-accepted-exactly}
+use Rattle.run.proofs.Ways.{ReplyWay, measures, laysOut, reply-way}
 use Rattle.run.proofs.Questions.{Hoisted, opening-hoisted, reply-hoisted}
 use Rattle.run.proofs.ByBox.{ForBox, opening-for, reply-for}
 use Rattle.run.proofs.Straight.{straight-run}
@@ -57,69 +57,19 @@ use Rattle.mirror.specs.Image.{imageOpening, imageCandidates}
 use Rattle.mirror.specs.Runs.{Message, runNext, imageNext, MirroredRuns, leftAtOpening}
 use Rattle.demands.specs.Entries.{Opens, AnyCalls, ownSlices, Hears, Run, BothRuns}
 use Rattle.demands.specs.Entries as entry
-use Rattle.demands.specs.Demands.{Iff, OpeningRefused, ReplyRefused, RefusedOpeningWritesNothing, RefusedReplyWritesNothing, OpeningDemands, ReplyDemands, ThreeQuestionsEach, EqualsStraightRun, SizedLayout, SizeLaw, LaidOutAsAsked, MirrorImage}
+use Rattle.demands.specs.Demands.{OpeningDemands, ReplyDemands, ThreeQuestionsEach, EqualsStraightRun, SizedLayout, SizeLaw, LaidOutAsAsked, MirrorImage}
 
--- ---- refused exactly under the condition
+-- ---- one call
 
-abbrev refusalIn : Answer → Refusal
-refusalIn (Ask q) = WrongReply
-refusalIn (Finish f) = WrongReply
-refusalIn (Refused r) = r
-
-same-refusal : {q r : Refusal} → Refused q ≡ Refused r → q ≡ r
-same-refusal e = ap refusalIn e
-
-refusedIn-no : {A : Type 0} {a : Answer} {r : Refusal} → isRefused a ≡ false → a ≡ Refused r → A
-refusedIn-no f e = no (ap isRefused e) f
-
-abbrev isAccepted : Verdict → Bool
-isAccepted accepted = true
-isAccepted (refused r) = false
-
-abbrev refusalBy : Verdict → Refusal
-refusalBy accepted = WrongReply
-refusalBy (refused r) = r
-
-same-verdict : {q r : Refusal} → refused q ≡ refused r → q ≡ r
-same-verdict e = ap refusalBy e
-
-opening-iff : (o : Opening) (candidates : List ℕ) (lent : Lent) (r : Refusal)
-    → Iff (opened o candidates lent .step .answer ≡ Refused r) (openingVerdict o candidates lent ≡ refused r)
-unfolding opened
-opening-iff o candidates lent r = go (openingVerdict o candidates lent) refl
-  where
-    go : (v : Verdict) → openingVerdict o candidates lent ≡ v
-        → Iff (openedBy v o candidates lent .step .answer ≡ Refused r) (v ≡ refused r)
-    go accepted d = (λ e. refusedIn-no (begun-accepts o candidates lent) e, λ e. no {b = true} refl (ap isAccepted e))
-    go (refused q) d = (λ e. ap refused (same-refusal e), λ e. ap Refused (same-verdict e))
-
-pub opening-demands : (o : Opening) (candidates : List ℕ) (lent : Lent) (has : Outcome)
-    → Opens o candidates lent has
-    → OpeningDemands o candidates lent has
-opening-demands o candidates lent has c =
-    let e = sym c in
-    record {
-      call = c;
-      refused = subst (OpeningRefused o candidates lent) e (opening-iff o candidates lent);
-      wrote = subst (RefusedOpeningWritesNothing lent) e (refused-opening-keeps o candidates lent);
-    }
-
--- what is accepted is not of another kind than the question
-accepted-not-wrong : (s : State) (reply : Reply) (surfaced : List ℕ) (lent : Lent) → replyVerdict s reply surfaced lent ≡ accepted → isWrong (takenBy s reply) ≡ false
-unfolding replyVerdict
-accepted-not-wrong s reply surfaced lent e = neither (isWrong (takenBy s reply)) _ (passed _ _ _ (passed _ _ _ e .1) .0) .0
-
-reply-iff : (s : State) (reply : Reply) (surfaced : List ℕ) (lent : Lent) (r : Refusal)
-    → Iff (replied s reply surfaced lent .step .answer ≡ Refused r) (replyVerdict s reply surfaced lent ≡ refused r)
-unfolding replied
-reply-iff s reply surfaced lent r = go (replyVerdict s reply surfaced lent) (takenBy s reply) refl refl
-  where
-    go : (v : Verdict) (t : Taken) → replyVerdict s reply surfaced lent ≡ v → takenBy s reply ≡ t
-        → Iff (repliedBy v t s surfaced lent .step .answer ≡ Refused r) (v ≡ refused r)
-    go (refused q) t d e = (λ a. ap refused (same-refusal a), λ a. ap Refused (same-verdict a))
-    go accepted Wrong d e = no (ap isWrong e) (accepted-not-wrong s reply surfaced lent d)
-    go accepted (Kept replies) d e = (λ a. refusedIn-no (measured-accepts s replies lent) a, λ a. no {b = true} refl (ap isAccepted a))
-    go accepted (Laid overflow) d e = (λ a. refusedIn-no (laid-accepts s overflow surfaced lent) a, λ a. no {b = true} refl (ap isAccepted a))
+pub opening-demands : (o : Opening) (candidates : List ℕ) (lent : Lent) {has : Outcome} → Opens o candidates lent has → OpeningDemands o candidates lent has
+opening-demands o candidates lent c =
+    subst (OpeningDemands o candidates lent) (sym c)
+    (record {
+      call = refl;
+      refused = opening-refused-exactly o candidates lent;
+      accepted = opening-accepted-exactly o candidates lent;
+      wrote = refused-opening-keeps o candidates lent;
+    })
 
 -- ---- at most three questions
 
@@ -197,17 +147,17 @@ size-law s reply surfaced lent overflow k a = go (reply-way s reply surfaced len
     go (measures replies v t f) = no (ap isKept (ap (takenBy s) (sym k) ∙ t)) (never-kept s overflow)
     go (laysOut laid v t f) = subst (λ (x : Outcome). SizedLayout s lent (x .layouts)) (sym f) (sized s laid surfaced lent)
 
-pub reply-demands : (s : State) (reply : Reply) (surfaced : List ℕ) (lent : Lent) (has : Outcome)
-    → entry.Replies s reply surfaced lent has
+pub reply-demands : (s : State) (reply : Reply) (surfaced : List ℕ) (lent : Lent) {has : Outcome} → entry.Replies s reply surfaced lent has
     → ReplyDemands s reply surfaced lent has
-reply-demands s reply surfaced lent has c =
-    let e = sym c in
-    record {
-      call = c;
-      refused = subst (ReplyRefused s reply surfaced lent) e (reply-iff s reply surfaced lent);
-      wrote = subst (RefusedReplyWritesNothing s lent) e (refused-reply-keeps s reply surfaced lent);
-      size = subst (SizeLaw s reply lent) e (size-law s reply surfaced lent);
-    }
+reply-demands s reply surfaced lent c =
+    subst (ReplyDemands s reply surfaced lent) (sym c)
+    (record {
+      call = refl;
+      refused = reply-refused-exactly s reply surfaced lent;
+      accepted = reply-accepted-exactly s reply surfaced lent;
+      wrote = refused-reply-keeps s reply surfaced lent;
+      size = size-law s reply surfaced lent;
+    })
 
 abbrev sizeIn : Question → Size
 sizeIn (MeasureBoth m) = zeroSize

@@ -2,6 +2,7 @@
 -- these, holds for any bits in any number and slices of any length. `proofs/Demands.antt` proves each, under its name in small letters.
 -- Assumes nothing.
 use Prim.Native.Nat.{ℕ, _*_, _-_, _≤_}
+use mathlib.Core.Logic.{_↔_}
 use mathlib.Core.Path.{_≡_}
 use mathlib.Core.Bool.{true, false}
 use mathlib.Core.List.{List, []}
@@ -10,6 +11,7 @@ use Rattle.util.specs.Laws.{AtOrAbove}
 use Rattle.geometry.specs.Geometry.{sums, rectSum}
 use Rattle.geometry.specs.declared.Rect.{Rect}
 use Rattle.refusal.specs.declared.Refusal.{Refusal}
+use Rattle.refusal.specs.Refusal.{numberOf}
 use Rattle.style.specs.declared.Style.{Style}
 use Rattle.tree.specs.declared.layout.Layout.{Layout}
 use Rattle.tree.specs.declared.layout.OofCandidate.{OofCandidate}
@@ -26,8 +28,8 @@ use Rattle.run.specs.declared.Opening.{Opening}
 use Rattle.run.specs.declared.State.{State}
 use Rattle.run.specs.declared.Answer.the-variants.{Refused}
 use Rattle.run.specs.Call.{Lent, Outcome, unwritten}
-use Rattle.run.specs.Refusals.{refused}
-use Rattle.run.specs.Run.{opened, openingVerdict, replyVerdict, closed, boxAtHand, extentsOf}
+use Rattle.run.specs.Run.{opened, closed, boxAtHand, extentsOf}
+use Rattle.run.specs.Conditions.{FirstIs, NoneHolds, openingTests, replyTests}
 use Rattle.run.specs.Theorems.{isRefused, Heard, Stands, heededIn, courseOf}
 use Rattle.mirror.specs.Image.{imageStyles}
 use Rattle.mirror.specs.Quarter.{QuarterArea, QuarterTable, QuarterCandidates}
@@ -35,30 +37,36 @@ use Rattle.mirror.specs.Runs.{Message, AllFair, MirroredRuns, leftAtOpening}
 use Rattle.demands.specs.Entries.{Opens, AnyCalls, Run, BothRuns}
 use Rattle.demands.specs.Entries as entry
 
-abbrev pub Iff : Type 0 → Type 0 → Type 0
-Iff a b = (a → b) × (b → a)
+-- ---- Demand 1. "Whoever calls an entry, with any bits in any number and slices of any length, gets its answer (in a run, a question or
+-- finish) or one of document 01's refusals 1 to 8, each exactly under its stated condition. A refusal writes no lent word and returns the
+-- state as it came." The conditions, in document 01's words and order, stand in run/specs/Conditions.antt.
 
--- ---- Demand 1. "Whoever calls an entry, with any bits in any number and slices of any length, gets its answer or one of document 01's
--- refusals, each exactly under its stated condition."
+-- an opening. It has no state that came: refused, it returns that of a finished run with all counts 0
+pub record OpeningDemands (o : Opening) (candidates : List ℕ) (lent : Lent) (has : Outcome) : Type 0 where
+  -- what the theorems over runs suppose of a call
+  pub call : Opens o candidates lent has
+  pub refused : (r : Refusal) → (has .step .answer ≡ Refused r) ↔ FirstIs (openingTests o candidates lent) (numberOf r)
+  pub accepted : (isRefused (has .step .answer) ≡ false) ↔ NoneHolds (openingTests o candidates lent)
+  pub wrote : (r : Refusal) → has .step .answer ≡ Refused r → has ≡ unwritten lent (record { state = closed lent; answer = Refused r })
 
--- an opening: refused with r if and only if r is the first of tests 1, 2, 3, 4, 5 whose condition holds, as run/specs/Run.antt lists them
-abbrev pub OpeningRefused : Opening → List ℕ → Lent → Outcome → Type 0
-OpeningRefused o candidates lent has = (r : Refusal) → Iff (has .step .answer ≡ Refused r) (openingVerdict o candidates lent ≡ refused r)
+-- Of demand 2, the law of the final size: the words that an accepted lay out reply writes, from any state, forged ones too, are those of a
+-- layout whose size is no NaN and at least padding plus border, on each axis where that sum isn't NaN
+pub record SizedLayout (s : State) (lent : Lent) (layouts : List ℕ) : Type 0 where
+  pub layout : Layout
+  pub wrote : layouts ≡ written (lent .layouts) (layoutWidth * boxAtHand (lent .working) (s .counts) .node) (layoutWords layout)
+  pub width : AtOrAbove (sums (rectSum (layout .padding) (layout .border)) .width) (layout .size .width)
+  pub height : AtOrAbove (sums (rectSum (layout .padding) (layout .border)) .height) (layout .size .height)
 
--- a reply: the first of tests 2, 6, 3, 4, 5
-abbrev pub ReplyRefused : State → Reply → List ℕ → Lent → Outcome → Type 0
-ReplyRefused s reply surfaced lent has = (r : Refusal) → Iff (has .step .answer ≡ Refused r) (replyVerdict s reply surfaced lent ≡ refused r)
+abbrev pub SizeLaw : State → Reply → Lent → Outcome → Type 0
+SizeLaw s reply lent has = (overflow : Rect) → reply ≡ LaidOut overflow → isRefused (has .step .answer) ≡ false → SizedLayout s lent (has .layouts)
 
--- "A refusal writes no lent word and returns the state as it came." An opening has no state that came: it returns that of a finished run
--- with all counts 0
-
-abbrev pub RefusedOpeningWritesNothing : Lent → Outcome → Type 0
-RefusedOpeningWritesNothing lent has =
-    (r : Refusal) → has .step .answer ≡ Refused r → has ≡ unwritten lent (record { state = closed lent; answer = Refused r })
-
-abbrev pub RefusedReplyWritesNothing : State → Lent → Outcome → Type 0
-RefusedReplyWritesNothing s lent has =
-    (r : Refusal) → has .step .answer ≡ Refused r → has ≡ unwritten lent (record { state = s; answer = Refused r })
+-- a reply, whatever the state that is given with it
+pub record ReplyDemands (s : State) (reply : Reply) (surfaced : List ℕ) (lent : Lent) (has : Outcome) : Type 0 where
+  pub call : entry.Replies s reply surfaced lent has
+  pub refused : (r : Refusal) → (has .step .answer ≡ Refused r) ↔ FirstIs (replyTests s reply surfaced lent) (numberOf r)
+  pub accepted : (isRefused (has .step .answer) ≡ false) ↔ NoneHolds (replyTests s reply surfaced lent)
+  pub wrote : (r : Refusal) → has .step .answer ≡ Refused r → has ≡ unwritten lent (record { state = s; answer = Refused r })
+  pub size : SizeLaw s reply lent has
 
 -- "A run asks at most three questions for each box hoisted", whatever words the host rewrites between calls: at most three for each box,
 -- and none for one that isn't hoisted
@@ -75,17 +83,6 @@ EqualsStraightRun =
     → Run o candidates lent heard has
     → isRefused (opened o candidates lent .step .answer) ≡ false
     → Stands lent (length (heededIn o candidates lent heard)) has (courseOf o candidates lent heard)
-
--- the law of the final size, of the words that an accepted lay out reply writes, from any state, forged ones too: they are those of a
--- layout whose size is no NaN and at least padding plus border, on each axis where that sum isn't NaN
-pub record SizedLayout (s : State) (lent : Lent) (layouts : List ℕ) : Type 0 where
-  pub layout : Layout
-  pub wrote : layouts ≡ written (lent .layouts) (layoutWidth * boxAtHand (lent .working) (s .counts) .node) (layoutWords layout)
-  pub width : AtOrAbove (sums (rectSum (layout .padding) (layout .border)) .width) (layout .size .width)
-  pub height : AtOrAbove (sums (rectSum (layout .padding) (layout .border)) .height) (layout .size .height)
-
-abbrev pub SizeLaw : State → Reply → Lent → Outcome → Type 0
-SizeLaw s reply lent has = (overflow : Rect) → reply ≡ LaidOut overflow → isRefused (has .step .answer) ≡ false → SizedLayout s lent (has .layouts)
 
 -- the size told in a lay out question is the size that is written once it is answered, with words and replies as they were
 abbrev pub LaidOutAsAsked : Type 0
@@ -105,20 +102,6 @@ MirrorImage =
     → AllFair (extentsOf lent) (lent .styles) (opened o candidates lent) messages
     → BothRuns o candidates lent lent' messages has has'
     → MirroredRuns (o .area) (leftAtOpening o candidates lent) has has'
-
--- ---- What is demanded of one call: src/lib.rt calls the entries and ensures these. `call` says that what the theorems over runs suppose
--- of each call is so of every call.
-
-pub record OpeningDemands (o : Opening) (candidates : List ℕ) (lent : Lent) (has : Outcome) : Type 0 where
-  pub call : Opens o candidates lent has
-  pub refused : OpeningRefused o candidates lent has
-  pub wrote : RefusedOpeningWritesNothing lent has
-
-pub record ReplyDemands (s : State) (reply : Reply) (surfaced : List ℕ) (lent : Lent) (has : Outcome) : Type 0 where
-  pub call : entry.Replies s reply surfaced lent has
-  pub refused : ReplyRefused s reply surfaced lent has
-  pub wrote : RefusedReplyWritesNothing s lent has
-  pub size : SizeLaw s reply lent has
 
 -- ---- What is demanded of runs: the function `demanded` of src/lib.rt ensures these, so that a crate without a proof of each is not proved.
 

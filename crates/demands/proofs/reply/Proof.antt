@@ -22,7 +22,7 @@ same-length-3 c = search needs
 returns : tie.Need-returns
 returns c =
     let a = c .before .before .before .before .before .before .before .before .before .before .before .before .before .before .before .args in
-    reply-demands (a .s) (a .reply) (a .surfaced .now) (lent (a .styles .now) (a .layouts .now) (a .working .now) (a .unclaimed .now)) _
+    reply-demands (a .s) (a .reply) (a .surfaced .now) (lent (a .styles .now) (a .layouts .now) (a .working .now) (a .unclaimed .now))
     (c .before .before .before .before .before .before .reply .ensures)
 
 pub reply-spec : {M : Type 1} → statement M
