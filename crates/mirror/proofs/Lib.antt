@@ -4,6 +4,7 @@ pub mod Styles
 pub mod Lists
 pub mod Candidates
 pub mod Verdicts
+pub mod Unread
 pub mod Taken
 pub mod Again
 pub mod ReadBack
@@ -18,4 +19,5 @@ pub mod Opening
 pub mod Mirror
 pub mod Laws
 pub mod Decided
+pub mod Screens
 pub mod Examples

@@ -1,77 +1,143 @@
 -- Demand 3: the mirror theorem of the whole run, by induction over the list of replies. Assumes nothing.
 use Prim.Native.Nat.{ℕ}
-use mathlib.Core.Path.{_≡_, sym, ap, _∙_, subst}
-use mathlib.Core.Bool.{true, false}
-use mathlib.Core.List.{List, [], _∷_, foldl}
-use Rattle.refusal.specs.declared.Refusal.the-variants.{BadExtent}
+use mathlib.Core.Path.{_≡_, refl, sym, ap, _∙_, subst}
+use mathlib.Core.Bool.{Bool, true, false}
+use mathlib.Core.List.{List, [], _∷_, _++_, foldl}
+use lib.ListN.{length}
+use Rattle.refusal.specs.declared.Refusal.{Refusal}
 use Rattle.sweep.specs.Sweep.{candidatesIn, keep}
 use Rattle.oof_box.specs.declared.question.Reply.{Reply}
+use Rattle.run.specs.declared.Answer.{Answer}
 use Rattle.run.specs.declared.Answer.the-variants.{Refused}
+use Rattle.run.specs.declared.Extents.{Extents}
 use Rattle.run.specs.declared.Opening.{Opening}
 use Rattle.run.specs.Call.{Lent, Outcome}
-use Rattle.run.specs.Refusals.{otherLengths, lentBy}
-use Rattle.run.specs.Run.{extentsOf, opened, replied}
-use Rattle.run.specs.Theorems.{isRefused, next, Loan, nextWith}
+use Rattle.run.specs.Refusals.{lentBy}
+use Rattle.run.specs.Run.{extentsOf, takenBy, opened, refusing, replied}
+use Rattle.run.specs.Theorems.{isRefused, Heard, next, Loan, own, other, nextWith}
 use Rattle.mirror.specs.Image.{imageOpening, imageStyles, imageCandidates}
 use Rattle.mirror.specs.Quarter.{QuarterArea, QuarterTable, QuarterCandidates, QuarterReply}
 use Rattle.mirror.specs.Runs as runs
-use Rattle.mirror.specs.Runs.{Message, runNext, imageNext, Alike, both, neither, Fair, AllFair, MirroredRuns, leftAtOpening}
+use Rattle.mirror.specs.Runs.{Message, runNext, imageNext, lengthsOf, isUnread, Fair, AllFair, MirroredRuns, leftAtOpening}
 use Rattle.mirror.specs.Mirror.{Mirror}
-use Rattle.mirror.proofs.Verdicts.{same-others, others-refused}
-use Rattle.mirror.proofs.Linked.{Frame, QuarterFrame, Shared, Own, stateOf, outcomeOf, Linked, linked, mirrored}
+use Rattle.mirror.proofs.Unread.{same-surfaced, both-refused}
+use Rattle.mirror.proofs.Linked.{Frame, QuarterFrame, Shared, Own, stateOf, outcomeOf, slicesOf, Links, Linked, linked, both-are, mirrored}
 use Rattle.mirror.proofs.Reply.{replied-linked}
 use Rattle.mirror.proofs.Opening.{frame, imageLent, quarter-frame, opened-linked}
 
 -- ---- one reply
 
--- slices of other lengths: refused, and the run's own keep their words
-other-refused : (f : Frame) (s : Shared) (p : Own) (reply : Reply) (surfaced : List ℕ) (lent : Lent) → otherLengths (f .extents) lent ≡ true
-    → replied (stateOf f s p) reply surfaced lent .step ≡ record { state = stateOf f s p; answer = Refused BadExtent }
-other-refused f s p reply surfaced lent e = ap (λ (o : Outcome). o .step) (others-refused (stateOf f s p) reply surfaced lent e)
+-- the slices that a call is lent
+abbrev lentIn : List ℕ → Own → Loan → Lent
+lentIn styles p own = slicesOf styles p
+lentIn styles p (other lent) = lent
+
+long : (styles : List ℕ) (p : Own) {e : Extents} → extentsOf (slicesOf styles p) ≡ e → (l : Loan) → extentsOf (lentIn styles p l) ≡ lengthsOf e l
+long styles p h own = h
+long styles p h (other lent) = refl
+
+module _ (f : Frame) (s : Shared) (styles : List ℕ) (p : Own) (a : Answer) (h : Heard) where
+  answered : (l : Loan) → replied (stateOf f s p) (h .reply) (h .surfaced) (lentIn styles p l) .step .answer ≡ nextWith styles (outcomeOf f s p a) h l .step .answer
+  unfolding next
+  answered own = refl
+  answered (other lent) = refl
+
+  -- a refused call leaves a run as it was, whatever it is lent
+  stays : (l : Loan) {r : Refusal} → replied (stateOf f s p) (h .reply) (h .surfaced) (lentIn styles p l) ≡ refusing (stateOf f s p) (lentIn styles p l) r
+      → nextWith styles (outcomeOf f s p a) h l ≡ outcomeOf f s p (Refused r)
+  unfolding next
+  stays own e = e
+  stays (other lent) e = ap (λ (o : Outcome). record { step = o .step; layouts = p .layouts; working = p .working; unclaimed = p .unclaimed }) e
 
 module _ (f : Frame) (q : QuarterFrame f) where
-  pub one-reply : {o o' : Outcome} (m : Message) → Linked f o o' → Alike (f .extents) (m .loan) (m .imageLoan) → Fair (f .styles) o m
+  module _ (s : Shared) (p p' : Own) (a a' : Answer) (links : Links f s p p') (reply : Reply) (surfaced surfaced' : List ℕ) where
+    abbrev heard : Heard
+    heard = record { reply = reply; surfaced = surfaced }
+
+    abbrev heard' : Heard
+    heard' = record { reply = reply; surfaced = surfaced' }
+
+    abbrev left : Loan → Outcome
+    left l = nextWith (f .styles) (outcomeOf f s p a) heard l
+
+    abbrev left' : Loan → Outcome
+    left' l = nextWith (imageStyles (f .styles)) (outcomeOf f s p' a') heard' l
+
+    -- refused with 2 or 6, whatever words are lent
+    unread : (l l' : Loan) → length (lentBy reply surfaced) ≡ length (lentBy reply surfaced') → lengthsOf (f .extents) l ≡ lengthsOf (f .extents) l'
+        → isUnread (left l .step .answer) ≡ true → Linked f (left l) (left' l')
+    unfolding takenBy
+    unread l l' same lengths u =
+        let lent = lentIn (f .styles) p l in
+        let lent' = lentIn (imageStyles (f .styles)) p' l' in
+        let r =
+        both-refused (stateOf f s p) (stateOf f s p') reply surfaced surfaced' lent lent'
+        (long (f .styles) p (links .lists .lengths) l ∙ lengths ∙ sym (long (imageStyles (f .styles)) p' (links .lists .lengths') l')) same refl refl refl
+        (ap isUnread (answered f s (f .styles) p a heard l) ∙ u) in
+        both-are f (stays f s (f .styles) p a heard l (r .1)) (stays f s (imageStyles (f .styles)) p' a' heard' l' (r .2)) (linked s p p' links runs.refused)
+
+    -- both are lent their own slices
+    read : lentBy reply surfaced ≡ lentBy reply surfaced'
+        → (isRefused (left own .step .answer) ≡ false → QuarterReply reply × (keep (s .claims) true (candidatesIn (lentBy reply surfaced)) ≡ []))
+        → Linked f (left own) (left' own)
+    unfolding next
+    read same fair =
+        both-are f refl (sym (same-surfaced (stateOf f s p') reply surfaced surfaced' (slicesOf (imageStyles (f .styles)) p') same))
+        (replied-linked f q s p p' links reply surfaced fair)
+
+    either : (l l' : Loan) → Fair (stateOf f s p) (left l .step .answer) (record { turn = record { heard = heard; loan = l }; image = record { heard = heard'; loan = l' } })
+        → Linked f (left l) (left' l')
+    either l l' fair = go (isUnread (left l .step .answer)) refl
+      where
+        go : (b : Bool) → isUnread (left l .step .answer) ≡ b → Linked f (left l) (left' l')
+        go true u = unread l l' (fair .alike .surfaced) (fair .alike .slices) u
+        go false u =
+            let own-slices = fair .words u .slices in
+            rw (own-slices, fair .words u .imageSlices)
+            (read (fair .words u .surfaced) (subst (λ (l : Loan). isRefused (left l .step .answer) ≡ false → QuarterReply reply × (keep (s .claims) true (candidatesIn (lentBy reply surfaced)) ≡ [])) own-slices (λ e. (fair .quarters e, fair .unclaimed e))))
+
+  pub one-reply : {o o' : Outcome} (m : Message) → Linked f o o' → Fair (o .step .state) (runNext (f .styles) o m .step .answer) m
       → Linked f (runNext (f .styles) o m) (imageNext (imageStyles (f .styles)) o' m)
-  unfolding next
-  one-reply m (linked s p p' {a = a} {a' = a'} links same) alike fair = go (m .loan) (m .imageLoan) alike fair
+  one-reply m (linked s p p' {a = a} {a' = a'} links same) fair =
+      subst (λ (x : Message). Linked f (runNext (f .styles) (outcomeOf f s p a) x) (imageNext (imageStyles (f .styles)) (outcomeOf f s p' a') x)) (sym one)
+      (either s p p' a a' links (m .turn .heard .reply) (m .turn .heard .surfaced) (m .image .heard .surfaced) (m .turn .loan) (m .image .loan)
+      (subst (Fair (stateOf f s p) (runNext (f .styles) (outcomeOf f s p a) m .step .answer)) one fair))
     where
-      go : (l l' : Loan) → Alike (f .extents) l l'
-          → (isRefused (nextWith (f .styles) (outcomeOf f s p a) (m .heard) l .step .answer) ≡ false
-          → QuarterReply (m .heard .reply) × (keep (s .claims) true (candidatesIn (lentBy (m .heard .reply) (m .heard .surfaced))) ≡ []))
-          → Linked f (nextWith (f .styles) (outcomeOf f s p a) (m .heard) l) (nextWith (imageStyles (f .styles)) (outcomeOf f s p' a') (m .heard) l')
-      go _ _ both fair = replied-linked f q s p p' links (m .heard .reply) (m .heard .surfaced) fair
-      go _ _ (neither {lent = lent} {lent' = lent'} e d) fair =
-          rw (other-refused f s p (m .heard .reply) (m .heard .surfaced) lent d, other-refused f s p' (m .heard .reply) (m .heard .surfaced) lent' (sym (same-others lent lent' e (f .extents)) ∙ d))
-          (linked s p p' links runs.refused)
+      with : Reply → Message
+      with reply = record { turn = m .turn; image = record { heard = record { reply = reply; surfaced = m .image .heard .surfaced }; loan = m .image .loan } }
+
+      -- it is one reply
+      one : m ≡ with (m .turn .heard .reply)
+      one = ap with (sym (fair .alike .reply))
 
   -- ---- any list of them
 
-  pub all-replies : {o o' : Outcome} (ms : List Message) → Linked f o o' → AllFair (f .extents) (f .styles) o ms
+  pub all-replies : {o o' : Outcome} (ms later : List Message) → Linked f o o' → AllFair (f .styles) o (ms ++ later)
       → Linked f (foldl (runNext (f .styles)) o ms) (foldl (imageNext (imageStyles (f .styles))) o' ms)
-  all-replies [] h fair = h
-  all-replies (m ∷ ms) h fair = all-replies ms (one-reply m h (fair .0) (fair .1)) (fair .2)
+  all-replies [] later h fair = h
+  all-replies (m ∷ ms) later h fair = all-replies ms later (one-reply m h (fair .0)) (fair .1)
 
 -- ---- from the opening on
 
-from-opening : (o : Opening) (candidates : List ℕ) (lent : Lent) (layouts working unclaimed : List ℕ) (messages : List Message)
+from-opening : (o : Opening) (candidates : List ℕ) (lent : Lent) (layouts working unclaimed : List ℕ) (soFar later : List Message)
     → QuarterArea (o .area) → QuarterTable (lent .styles) → QuarterCandidates candidates
     → extentsOf lent ≡ extentsOf (imageLent o candidates lent layouts working unclaimed)
-    → AllFair (extentsOf lent) (lent .styles) (opened o candidates lent) messages
-    → MirroredRuns (o .area) (leftAtOpening o candidates lent) (foldl (runNext (lent .styles)) (opened o candidates lent) messages)
-    (foldl (imageNext (imageStyles (lent .styles))) (opened (imageOpening o) (imageCandidates (o .area) candidates) (imageLent o candidates lent layouts working unclaimed)) messages)
-from-opening o candidates lent layouts working unclaimed messages area table quarter same fair =
+    → AllFair (lent .styles) (opened o candidates lent) (soFar ++ later)
+    → MirroredRuns (o .area) (leftAtOpening o candidates lent) (foldl (runNext (lent .styles)) (opened o candidates lent) soFar)
+    (foldl (imageNext (imageStyles (lent .styles))) (opened (imageOpening o) (imageCandidates (o .area) candidates) (imageLent o candidates lent layouts working unclaimed)) soFar)
+from-opening o candidates lent layouts working unclaimed soFar later area table quarter same fair =
     mirrored
-    (all-replies (frame o candidates lent layouts working unclaimed) (quarter-frame o candidates lent layouts working unclaimed same area table quarter) messages
+    (all-replies (frame o candidates lent layouts working unclaimed) (quarter-frame o candidates lent layouts working unclaimed same area table quarter) soFar later
     (opened-linked o candidates lent layouts working unclaimed same area table quarter) fair)
 
 pub mirror : Mirror
-mirror o candidates lent lent' messages area table quarter image same fair =
+mirror o candidates lent lent' soFar later area table quarter image same fair =
     subst
     (λ (lent' : Lent).
-    MirroredRuns (o .area) (leftAtOpening o candidates lent) (foldl (runNext (lent .styles)) (opened o candidates lent) messages)
-    (foldl (imageNext (lent' .styles)) (opened (imageOpening o) (imageCandidates (o .area) candidates) lent') messages))
+    MirroredRuns (o .area) (leftAtOpening o candidates lent) (foldl (runNext (lent .styles)) (opened o candidates lent) soFar)
+    (foldl (imageNext (lent' .styles)) (opened (imageOpening o) (imageCandidates (o .area) candidates) lent') soFar))
     (sym with-image)
-    (from-opening o candidates lent (lent' .layouts) (lent' .working) (lent' .unclaimed) messages area table quarter (same ∙ ap extentsOf with-image) fair)
+    (from-opening o candidates lent (lent' .layouts) (lent' .working) (lent' .unclaimed) soFar later area table quarter (same ∙ ap extentsOf with-image) fair)
   where
     with-image : lent' ≡ record { styles = imageStyles (lent .styles); layouts = lent' .layouts; working = lent' .working; unclaimed = lent' .unclaimed }
     with-image = ap (λ (styles : List ℕ). record { styles = styles; layouts = lent' .layouts; working = lent' .working; unclaimed = lent' .unclaimed }) image

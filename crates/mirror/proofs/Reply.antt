@@ -4,7 +4,6 @@ use mathlib.Core.Path.{_≡_, refl, sym, ap, _∙_, subst}
 use mathlib.Core.Bool.{true, false}
 use mathlib.Core.List.{List, [], map}
 use lib.ListN.{length}
-use Rattle.util.proofs.Floats.{no}
 use Rattle.geometry.specs.declared.Rect.{Rect}
 use Rattle.refusal.specs.declared.Refusal.{Refusal}
 use Rattle.refusal.specs.declared.Refusal.the-variants.{WrongReply}
@@ -21,13 +20,11 @@ use Rattle.oof_box.specs.declared.question.Stage.{Stage}
 use Rattle.oof_box.specs.declared.question.Taken.{Taken}
 use Rattle.oof_box.specs.declared.question.Taken.the-variants.{Wrong, Kept, Laid}
 use Rattle.run.specs.declared.Progress.{Progress}
-use Rattle.run.specs.declared.Progress.the-variants.{Finished, Asking}
-use Rattle.run.specs.declared.State.{State}
+use Rattle.run.specs.declared.Progress.the-variants.{Asking}
 use Rattle.run.specs.Call.{Lent, Outcome}
 use Rattle.run.specs.Refusals.{Verdict, accepted, refused, lentBy}
-use Rattle.run.specs.Run.{extentsOf, takenIn, takenBy, isWrong, replyVerdict, measuredOn, laidOut, refusing, repliedBy, replied}
+use Rattle.run.specs.Run.{extentsOf, takenIn, takenBy, isWrong, replyVerdict, measuredOn, laidOut, refusing, replied}
 use Rattle.run.specs.Theorems.{isRefused, laidCount}
-use Rattle.run.proofs.Ways.{lent-all}
 use Rattle.run.proofs.Refusals.{measured-accepts, laid-accepts}
 use Rattle.mirror_box.specs.Quarter.{QuarterReplies, QuarterOverflow}
 use Rattle.mirror_box.specs.Mirrored.{MirroredBox}
@@ -37,6 +34,7 @@ use Rattle.mirror.specs.Quarter.{QuarterReply}
 use Rattle.mirror.specs.Runs as runs
 use Rattle.mirror.proofs.Styles.{items-kept}
 use Rattle.mirror.proofs.Verdicts.{same-reply, ReplyPassed, reply-passed}
+use Rattle.mirror.proofs.Unread.{was-asking, replied-as, taken-all}
 use Rattle.mirror.proofs.Taken.{QuarterTaken, quarter-taken}
 use Rattle.mirror.proofs.Linked as link
 use Rattle.mirror.proofs.Linked.{Frame, QuarterFrame, Shared, Own, stateOf, slicesOf, Ready, boxOf, Lists, Blocks, Links, Linked, linked, both-are}
@@ -44,17 +42,6 @@ use Rattle.mirror.proofs.Box.{laid-same, read-same}
 use Rattle.mirror.proofs.Next.{ready-at, asks-linked, proceeds-linked}
 use Rattle.mirror.proofs.Surfaced.{left-unclaimed}
 use Rattle.mirror.proofs.LaidOut.{placedOf, after, countsAfter, laid-as, laid-next}
-
--- ---- accepted calls
-
-was-asking : (at : Progress) (r : Replies) (reply : Reply) → isWrong (takenIn at r reply) ≡ false → (stage : Stage) × (at ≡ Asking stage)
-was-asking Finished r reply e = no refl e
-was-asking (Asking stage) r reply e = (stage, refl)
-
-replied-as : (s : State) (reply : Reply) (surfaced : List ℕ) (lent : Lent) {v : Verdict} {t : Taken} → replyVerdict s reply surfaced lent ≡ v → takenBy s reply ≡ t
-    → replied s reply surfaced lent ≡ repliedBy v t s surfaced lent
-unfolding replied
-replied-as s reply surfaced lent d e = rw (d, e) refl
 
 -- ---- both runs
 
@@ -176,7 +163,7 @@ module _ (f : Frame) (q : QuarterFrame f) (s : Shared) (p p' : Own) (links : Lin
           let r = replied-as (stateOf f s p) reply surfaced lent d e in
           let h = fair (ap (λ (o : Outcome). isRefused (o .step .answer)) r ∙ laid-accepts (stateOf f s p) overflow surfaced lent) in
           let at = was-asking (s .progress) (s .replies) reply (ap isWrong e) in
-          let all = lent-all (s .replies) (at .0) reply surfaced (subst (λ (a : Progress). takenIn a (s .replies) reply ≡ Laid overflow) (at .1) e) in
+          let all = taken-all (stateOf f s p) reply surfaced e in
           both-are f r (replied-as _ reply surfaced lent' (sym same-verdict ∙ d) e)
           (lays-out (at .0) (at .1) (reply-passed (stateOf f s p) reply surfaced lent d) (reply-passed (stateOf f s p') reply surfaced lent' (sym same-verdict ∙ d)) overflow
           (subst QuarterTaken e (quarter-taken (s .replies) (links .replies) (s .progress) reply (h .0))) all (subst (λ (ws : List ℕ). keep (s .claims) true (candidatesIn ws) ≡ []) all (h .1)))

@@ -25,7 +25,7 @@ use Rattle.run.specs.declared.Extents.{Extents}
 use Rattle.run.specs.declared.State.{State}
 use Rattle.run.specs.Call.{Lent}
 use Rattle.run.specs.Refusals.{accepted, _when_else_, badArea, ragged, badTable, badList, badSlices, otherLengths, lentBy, badStyle, badCandidate, badCandidates, listFull, wrongCounts}
-use Rattle.run.specs.Run.{extentsOf, claimsOf, noneFilled, openingVerdict, takenBy, isWrong, replyVerdict, replied, refusing}
+use Rattle.run.specs.Run.{extentsOf, claimsOf, noneFilled, openingVerdict, takenBy, isWrong, replyVerdict}
 use Rattle.run.proofs.Ways.{passed, neither}
 use Rattle.mirror.specs.Image.{imageOpening, imageStyles, imageCandidates, imageCandidate}
 use Rattle.mirror.proofs.Words as words
@@ -118,16 +118,6 @@ module _ (s s' : State) (reply : Reply) (surfaced : List ℕ) (lent lent' : Lent
     where
       surfaced-alike : badCandidates (lent .styles) (lentBy reply surfaced) ≡ badCandidates (lent' .styles) (lentBy reply surfaced)
       surfaced-alike = alike (lent .styles) (lent' .styles) (lentBy reply surfaced) (same-items (lent .styles) (lent' .styles) image)
-
--- slices of other lengths than the opening's are refused before all else
-or-true : (a b : Bool) → (a || true || b) ≡ true
-or-true true b = refl
-or-true false b = refl
-
-pub others-refused : (s : State) (reply : Reply) (surfaced : List ℕ) (lent : Lent) → otherLengths (s .opened .extents) lent ≡ true
-    → replied s reply surfaced lent ≡ refusing s lent BadExtent
-unfolding replied replyVerdict _when_else_
-others-refused s reply surfaced lent e = rw (e, or-true (badSlices lent)) refl
 
 -- ---- what an accepted call tells
 

@@ -3,7 +3,7 @@
 -- `proofs/Mirror.antt` proves it. Left-to-right isn't asked: the theorem holds for a run of either direction. Assumes nothing.
 use Prim.Native.Nat.{ℕ}
 use mathlib.Core.Path.{_≡_}
-use mathlib.Core.List.{List, foldl}
+use mathlib.Core.List.{List, _++_, foldl}
 use Rattle.run.specs.declared.Opening.{Opening}
 use Rattle.run.specs.Call.{Lent}
 use Rattle.run.specs.Run.{opened, extentsOf}
@@ -13,12 +13,12 @@ use Rattle.mirror.specs.Runs.{Message, runNext, imageNext, AllFair, Mirr
 
 abbrev pub Mirror : Type 0
 Mirror =
-    (o : Opening) (candidates : List ℕ) (lent lent' : Lent) (messages : List Message)
+    (o : Opening) (candidates : List ℕ) (lent lent' : Lent) (soFar later : List Message)
     -- whole quarter pixels, a width that isn't 0, no percentage, no ratio
     → QuarterArea (o .area) → QuarterTable (lent .styles) → QuarterCandidates candidates
     -- the image's slices are as long; but for its styles they may hold any words
     → lent' .styles ≡ imageStyles (lent .styles) → extentsOf lent ≡ extentsOf lent'
-    -- accepted replies are of whole quarter pixels and surface no box that is claimed; any reply may be refused, and lend other slices
-    → AllFair (extentsOf lent) (lent .styles) (opened o candidates lent) messages
-    → MirroredRuns (o .area) (leftAtOpening o candidates lent) (foldl (runNext (lent .styles)) (opened o candidates lent) messages)
-    (foldl (imageNext (lent' .styles)) (opened (imageOpening o) (imageCandidates (o .area) candidates) lent') messages)
+    -- the whole list: accepted replies are of whole quarter pixels and surface no box that is claimed; any reply may be refused
+    → AllFair (lent .styles) (opened o candidates lent) (soFar ++ later)
+    → MirroredRuns (o .area) (leftAtOpening o candidates lent) (foldl (runNext (lent .styles)) (opened o candidates lent) soFar)
+    (foldl (imageNext (lent' .styles)) (opened (imageOpening o) (imageCandidates (o .area) candidates) lent') soFar)

@@ -1,8 +1,11 @@
 -- A run and its mirror image, fed one list of replies: what the host may lend, and what the two then have in common. Assumes nothing.
 use Prim.Native.Nat.{ℕ, suc, _<_}
 use mathlib.Core.Path.{_≡_}
-use mathlib.Core.Bool.{true, false}
+use mathlib.Core.Bool.{Bool, false, _||_}
 use mathlib.Core.List.{List, [], _∷_}
+use lib.Dec.{eqb}
+use lib.ListN.{length}
+use Rattle.refusal.specs.Refusal.{numberOf}
 use Rattle.refusal.specs.declared.Refusal.{Refusal}
 use Rattle.tree.specs.declared.layout.Layout.{Layout}
 use Rattle.tree.specs.declared.layout.OofCandidate.{OofCandidate}
@@ -10,7 +13,6 @@ use Rattle.tree.specs.declared.layout.OofPositioningArea.{OofPositioningArea}
 use Rattle.records.specs.Records.{recordAt}
 use Rattle.tree_record.specs.Candidate.{candidateWidth, candidateOf}
 use Rattle.tree_record.specs.Layout.{layoutWidth, layoutOf}
-use lib.ListN.{length}
 use Rattle.sweep.specs.Sweep.{firstCandidates, candidatesIn, claimed, others}
 use Rattle.oof_box.specs.declared.question.Question.{Question}
 use Rattle.run.specs.declared.Extents.{Extents}
@@ -19,44 +21,69 @@ use Rattle.run.specs.declared.Answer.{Answer}
 use Rattle.run.specs.declared.Answer.the-variants.{Ask, Finish, Refused}
 use Rattle.run.specs.Call.{Lent, Outcome}
 use Rattle.run.specs.declared.Opening.{Opening}
+use Rattle.run.specs.declared.State.{State}
 use Rattle.run.specs.Refusals as verdict
-use Rattle.run.specs.Refusals.{Verdict, otherLengths, lentBy}
+use Rattle.run.specs.Refusals.{Verdict, lentBy}
 use Rattle.run.specs.Run.{extentsOf, openingVerdict, claimsOf}
-use Rattle.run.specs.Theorems.{isRefused, Heard, Loan, own, other, nextWith, laidSoFar, claimedSoFar, hoisted}
+use Rattle.run.specs.Theorems.{isRefused, Loan, own, other, Turn, turned, laidSoFar, claimedSoFar, hoisted}
 use Rattle.mirror_box.specs.Mirrored.{CandidateImage, SameQuestion, MirroredLayout, SameRect}
 use Rattle.mirror.specs.Quarter.{QuarterReply}
 
 -- ---- replies
 
--- a reply that both runs are given, and what each is lent with it
+-- one reply, as the run is given it and as its image is
 pub record Message : Type 0 where
-  pub heard : Heard
-  pub loan : Loan
-  pub imageLoan : Loan
+  pub turn : Turn
+  pub image : Turn
 
 abbrev pub runNext : List ℕ → Outcome → Message → Outcome
-runNext styles o m = nextWith styles o (m .heard) (m .loan)
+runNext styles o m = turned styles o (m .turn)
 
 abbrev pub imageNext : List ℕ → Outcome → Message → Outcome
-imageNext styles o m = nextWith styles o (m .heard) (m .imageLoan)
+imageNext styles o m = turned styles o (m .image)
 
 -- ---- what is asked of them
 
--- both are lent their own slices; or both others, of the same lengths, of which one differs from the opening's
-pub data Alike (opened : Extents) : Loan → Loan → Type 0 where
-  both : Alike opened own own
-  neither : {lent lent' : Lent} → extentsOf lent ≡ extentsOf lent' → otherLengths opened lent ≡ true → Alike opened (other lent) (other lent')
+-- the surfaced words of a lay out reply; those lent with a measure reply nobody looks at
+abbrev pub surfacedIn : Turn → List ℕ
+surfacedIn t = lentBy (t .heard .reply) (t .heard .surfaced)
 
--- a reply that is accepted: its values are whole quarter pixels, and no box that it surfaces is claimed
-abbrev pub Fair : List ℕ → Outcome → Message → Type 0
-Fair styles o m =
-    isRefused (runNext styles o m .step .answer) ≡ false
-    → QuarterReply (m .heard .reply) × (claimed (o .step .state .opened .claims) (candidatesIn (lentBy (m .heard .reply) (m .heard .surfaced))) ≡ [])
+-- how long the lent slices are
+abbrev pub lengthsOf : Extents → Loan → Extents
+lengthsOf opened own = opened
+lengthsOf opened (other lent) = extentsOf lent
 
--- along a whole run
-abbrev pub AllFair : Extents → List ℕ → Outcome → List Message → Type 0
-AllFair opened styles o [] = Unit {0}
-AllFair opened styles o (m ∷ ms) = Alike opened (m .loan) (m .imageLoan) × Fair styles o m × AllFair opened styles (runNext styles o m) ms
+-- the same for both: the reply's kind and values, and the slice lengths
+pub record Alike (opened : Extents) (t t' : Turn) : Type 0 where
+  pub reply : t .heard .reply ≡ t' .heard .reply
+  pub surfaced : length (surfacedIn t) ≡ length (surfacedIn t')
+  pub slices : lengthsOf opened (t .loan) ≡ lengthsOf opened (t' .loan)
+
+-- nobody else writes the lent words: both are lent their own slices. What a box surfaces is part of the reply: the same words for both
+pub record SameWords (t t' : Turn) : Type 0 where
+  pub slices : t .loan ≡ own
+  pub imageSlices : t' .loan ≡ own
+  pub surfaced : surfacedIn t ≡ surfacedIn t'
+
+-- refused with 2 or 6: lengths, the reply's kind and the state decide these, whatever words the slices hold
+abbrev pub isUnread : Answer → Bool
+isUnread (Ask q) = false
+isUnread (Finish f) = false
+isUnread (Refused r) = eqb (numberOf r) 2 || eqb (numberOf r) 6
+
+-- one reply, by the state that the run's last call returned and by its answer to this one
+pub record Fair (before : State) (answer : Answer) (m : Message) : Type 0 where
+  pub alike : Alike (before .opened .extents) (m .turn) (m .image)
+  -- unless the words don't matter
+  pub words : isUnread answer ≡ false → SameWords (m .turn) (m .image)
+  -- if it is accepted: its values are whole quarter pixels, and no box that it surfaces is claimed
+  pub quarters : isRefused answer ≡ false → QuarterReply (m .turn .heard .reply)
+  pub unclaimed : isRefused answer ≡ false → claimed (before .opened .claims) (candidatesIn (surfacedIn (m .turn))) ≡ []
+
+-- each of a list, o being what the run's last call left
+abbrev pub AllFair : List ℕ → Outcome → List Message → Type 0
+AllFair styles o [] = Unit {0}
+AllFair styles o (m ∷ ms) = Fair (o .step .state) (runNext styles o m .step .answer) m × AllFair styles (runNext styles o m) ms
 
 -- ---- what they have in common
 
