@@ -3,7 +3,7 @@ use Prim.Native.Nat.{ℕ, _+_, _*_, _≤_}
 use native.Mathlib.Omega.{arith}
 use mathlib.Core.Path.{_≡_, refl, sym, ap, subst, _∙_}
 use mathlib.Core.Bool.{Bool, true, false, cond, _||_}
-use mathlib.Core.List.{List, [], _∷_, _++_, foldl, foldl-append}
+use mathlib.Core.List.{List, [], _∷_, _++_, foldl, foldl-append, append-nil}
 use lib.ListN.{length}
 use Rattle.util.proofs.Floats.{no}
 use Rattle.geometry.specs.declared.Rect.{Rect}
@@ -43,8 +43,8 @@ use Rattle.run.specs.declared.Progress.{Progress}
 use Rattle.run.specs.declared.Progress.the-variants.{Finished, Asking}
 use Rattle.run.specs.declared.Answer.{Answer}
 use Rattle.run.specs.declared.Answer.the-variants.{Ask, Finish, Refused}
-use Rattle.run.specs.Call.{Lent, Outcome}
-use Rattle.run.specs.Theorems.{isRefused, askedFor, Heard, Stands, next, heededIn, courseOf, Loan, own, other, nextWith}
+use Rattle.run.specs.Call.{Lent, Outcome, outcome}
+use Rattle.run.specs.Theorems.{isRefused, askedFor, Heard, Loan, own, other, Turn, next, nextWith, turned, Lends, AllLend, called, Stands, heededIn, courseOf}
 use Rattle.run.specs.Run.{boxAtHand, opened, openedBy, openingVerdict, replied, repliedBy, replyVerdict, takenBy, takenIn, isWrong, laidOut, measuredOn}
 use Rattle.run.proofs.Refusals.{refused-reply-keeps, refused-opening-keeps}
 use Rattle.run.proofs.Conditions.{opening-refused-exactly, opening-accepted-exactly, reply-refused-exactly, reply-accepted-exactly}
@@ -54,8 +54,8 @@ use Rattle.run.proofs.ByBox.{ForBox, opening-for, reply-for}
 use Rattle.run.proofs.Straight.{straight-run}
 use Rattle.mirror.proofs.Mirror.{mirror}
 use Rattle.mirror.specs.Image.{imageOpening, imageCandidates}
-use Rattle.mirror.specs.Runs.{Message, runNext, imageNext, MirroredRuns, leftAtOpening}
-use Rattle.demands.specs.Entries.{Opens, AnyCalls, ownSlices, Hears, Run, BothRuns}
+use Rattle.mirror.specs.Runs.{Message, runNext, imageNext, Fair, AllFair, MirroredRuns, leftAtOpening}
+use Rattle.demands.specs.Entries.{Opens, AnyCalls, Takes, Run, BothRuns}
 use Rattle.demands.specs.Entries as entry
 use Rattle.demands.specs.Demands.{OpeningDemands, ReplyDemands, ThreeQuestionsEach, EqualsStraightRun, SizedLayout, SizeLaw, LaidOutAsAsked, MirrorImage}
 
@@ -86,27 +86,44 @@ for-box i (AnyCalls.reply {n = n} {before = before} {has = has} reply surfaced l
 pub three-questions-each : ThreeQuestionsEach
 three-questions-each i n has calls = let b = for-box i calls in (b .0 .three, λ h. b .0 .none (let k = b .1 in omega arith))
 
--- ---- a run is the list of its calls
+-- ---- a run is the list of its turns
 
-hears : (styles : List ℕ) (before : Outcome) (h : Heard) (loan : Loan) (has : Outcome) → Hears styles before h loan has → has ≡ nextWith styles before h loan
+takes : (styles : List ℕ) (before : Outcome) (h : Heard) (loan : Loan) (has : Outcome) → Takes styles before h loan has → has ≡ nextWith styles before h loan
 unfolding next
-hears styles before h own has (Hears.lentOwn c) = c
-hears styles before h (other lent) has (Hears.lentOther {has = left} c) =
-    ap (λ (x : Outcome). record { step = x .step; layouts = before .layouts; working = before .working; unclaimed = before .unclaimed })
-    c
+takes styles before h own has (Takes.lentOwn c) = c
+takes styles before h (other slices) has (Takes.lentOther {left = left} c) = ap (λ (x : Outcome). outcome (x .step) (before .layouts) (before .working) (before .unclaimed)) c
 
-run-is : (o : Opening) (candidates : List ℕ) (lent : Lent) {heard : List Heard} {has : Outcome} → Run o candidates lent heard has
-    → has ≡ foldl (next (lent .styles)) (opened o candidates lent) heard
-run-is o candidates lent (Run.opening {has = has} c) = c
-run-is o candidates lent (Run.reply {heard = heard} {before = before} {has = has} h earlier c) =
-    hears (lent .styles) before h own has c
-    ∙ ap (λ (x : Outcome). next (lent .styles) x h) (run-is o candidates lent earlier)
-    ∙ sym (foldl-append (next (lent .styles)) (opened o candidates lent) heard (h ∷ []))
+-- what holds of each turn, in a list that ends with one more
+all-lend-after : (styles : List ℕ) (o : Outcome) (ts : List Turn) (t : Turn) → AllLend styles o ts
+    → Lends (t .loan) (turned styles (foldl (turned styles) o ts) t .step .answer)
+    → AllLend styles o (ts ++ (t ∷ []))
+all-lend-after styles o [] t all last = (last, tt)
+all-lend-after styles o (x ∷ ts) t all last = (all .0, all-lend-after styles (turned styles o x) ts t (all .1) last)
+
+module _ (o : Opening) (candidates : List ℕ) (lent : Lent) where
+  run-is : {turns : List Turn} {has : Outcome} → Run o candidates lent turns has → has ≡ called o candidates lent turns
+  run-is (Run.opening c n) = c
+  run-is (Run.reply {turns = turns} {before = before} {has = has} t earlier c n) =
+      takes (lent .styles) before (t .heard) (t .loan) has c
+      ∙ ap (λ (x : Outcome). turned (lent .styles) x t) (run-is earlier)
+      ∙ sym (foldl-append (turned (lent .styles)) (opened o candidates lent) turns (t ∷ []))
+
+  run-opened : {turns : List Turn} {has : Outcome} → Run o candidates lent turns has → isRefused (opened o candidates lent .step .answer) ≡ false
+  run-opened (Run.opening c n) = subst (λ (x : Outcome). isRefused (x .step .answer) ≡ false) c n
+  run-opened (Run.reply t earlier c n) = run-opened earlier
+
+  run-lends : {turns : List Turn} {has : Outcome} → Run o candidates lent turns has → AllLend (lent .styles) (opened o candidates lent) turns
+  run-lends (Run.opening c n) = tt
+  run-lends (Run.reply {turns = turns} {before = before} {has = has} t earlier c n) =
+      all-lend-after (lent .styles) (opened o candidates lent) turns t (run-lends earlier)
+      (subst (λ (x : Outcome). Lends (t .loan) (x .step .answer))
+      (takes (lent .styles) before (t .heard) (t .loan) has c ∙ ap (λ (x : Outcome). turned (lent .styles) x t) (run-is earlier)) n)
 
 pub equals-straight-run : EqualsStraightRun
-equals-straight-run o candidates lent heard has calls a =
-    subst (λ (x : Outcome). Stands lent (length (heededIn o candidates lent heard)) x (courseOf o candidates lent heard))
-    (sym (run-is o candidates lent calls)) (straight-run o candidates lent heard a)
+equals-straight-run o candidates lent turns has calls =
+    subst (λ (x : Outcome). Stands lent (length (heededIn o candidates lent turns)) x (courseOf o candidates lent turns))
+    (sym (run-is o candidates lent calls))
+    (straight-run o candidates lent turns (run-opened o candidates lent calls) (run-lends o candidates lent calls))
 
 -- ---- the size law
 
@@ -223,24 +240,46 @@ laid-out-as-asked block style candidate replies overflow input e =
 
 -- ---- the mirror image
 
-both-are : (o : Opening) (candidates : List ℕ) (lent lent' : Lent) {messages : List Message} {has has' : Outcome}
-    → BothRuns o candidates lent lent' messages has has'
-    → (has ≡ foldl (runNext (lent .styles)) (opened o candidates lent) messages)
-    × (has' ≡ foldl (imageNext (lent' .styles)) (opened (imageOpening o) (imageCandidates (o .area) candidates) lent') messages)
-both-are o candidates lent lent' (BothRuns.opening {has = has} {has' = has'} c c') = (c, c')
-both-are o candidates lent lent' (BothRuns.reply {messages = messages} {before = before} {before' = before'} {has = has} {has' = has'} m earlier c c') =
-    let e = both-are o candidates lent lent' earlier in (
-      hears (lent .styles) before (m .heard) (m .loan) has c
-          ∙ ap (λ (x : Outcome). runNext (lent .styles) x m) (e .0)
-          ∙ sym (foldl-append (runNext (lent .styles)) (opened o candidates lent) messages (m ∷ [])),
-      hears (lent' .styles) before' (m .heard) (m .imageLoan) has' c'
-          ∙ ap (λ (x : Outcome). imageNext (lent' .styles) x m) (e .1)
-          ∙ sym (foldl-append (imageNext (lent' .styles)) (opened (imageOpening o) (imageCandidates (o .area) candidates) lent') messages (m ∷ [])),
-    )
+all-fair-after : (styles : List ℕ) (o : Outcome) (ms : List Message) (m : Message) → AllFair styles o ms
+    → Fair (foldl (runNext styles) o ms .step .state) (runNext styles (foldl (runNext styles) o ms) m .step .answer) m
+    → AllFair styles o (ms ++ (m ∷ []))
+all-fair-after styles o [] m all last = (last, tt)
+all-fair-after styles o (x ∷ ms) m all last = (all .0, all-fair-after styles (runNext styles o x) ms m (all .1) last)
+
+module _ (o : Opening) (candidates : List ℕ) (lent lent' : Lent) where
+  image : Outcome
+  image = opened (imageOpening o) (imageCandidates (o .area) candidates) lent'
+
+  run-of : {messages : List Message} {has has' : Outcome} → BothRuns o candidates lent lent' messages has has'
+      → has ≡ foldl (runNext (lent .styles)) (opened o candidates lent) messages
+  run-of (BothRuns.opening c c') = c
+  run-of (BothRuns.reply {messages = messages} {before = before} {has = has} m earlier c c' f) =
+      takes (lent .styles) before (m .turn .heard) (m .turn .loan) has c
+      ∙ ap (λ (x : Outcome). runNext (lent .styles) x m) (run-of earlier)
+      ∙ sym (foldl-append (runNext (lent .styles)) (opened o candidates lent) messages (m ∷ []))
+
+  image-of : {messages : List Message} {has has' : Outcome} → BothRuns o candidates lent lent' messages has has'
+      → has' ≡ foldl (imageNext (lent' .styles)) image messages
+  unfolding image
+  image-of (BothRuns.opening c c') = c'
+  image-of (BothRuns.reply {messages = messages} {before' = before'} {has' = has'} m earlier c c' f) =
+      takes (lent' .styles) before' (m .image .heard) (m .image .loan) has' c'
+      ∙ ap (λ (x : Outcome). imageNext (lent' .styles) x m) (image-of earlier)
+      ∙ sym (foldl-append (imageNext (lent' .styles)) image messages (m ∷ []))
+
+  both-fair : {messages : List Message} {has has' : Outcome} → BothRuns o candidates lent lent' messages has has'
+      → AllFair (lent .styles) (opened o candidates lent) messages
+  both-fair (BothRuns.opening c c') = tt
+  both-fair (BothRuns.reply {messages = messages} {before = before} {has = has} m earlier c c' f) =
+      let e = run-of earlier in
+      all-fair-after (lent .styles) (opened o candidates lent) messages m (both-fair earlier)
+      (subst (λ (x : Outcome). Fair (x .step .state) (runNext (lent .styles) x m .step .answer) m) e
+      (subst (λ (x : Outcome). Fair (before .step .state) (x .step .answer) m) (takes (lent .styles) before (m .turn .heard) (m .turn .loan) has c) f))
 
 pub mirror-image : MirrorImage
-mirror-image o candidates lent lent' messages has has' area table quarter image same fair calls =
-    let e = both-are o candidates lent lent' calls in
-    subst (λ (x : Outcome). MirroredRuns (o .area) (leftAtOpening o candidates lent) x has') (sym (e .0))
-    (subst (λ (x : Outcome). MirroredRuns (o .area) (leftAtOpening o candidates lent) (foldl (runNext (lent .styles)) (opened o candidates lent) messages) x) (sym (e .1))
-    (mirror o candidates lent lent' messages area table quarter image same fair))
+unfolding image
+mirror-image o candidates lent lent' messages has has' area table quarter styles same calls =
+    subst (λ (x : Outcome). MirroredRuns (o .area) (leftAtOpening o candidates lent) x has') (sym (run-of o candidates lent lent' calls))
+    (subst (λ (x : Outcome). MirroredRuns (o .area) (leftAtOpening o candidates lent) (foldl (runNext (lent .styles)) (opened o candidates lent) messages) x) (sym (image-of o candidates lent lent' calls))
+    (mirror o candidates lent lent' messages [] area table quarter styles same
+    (subst (AllFair (lent .styles) (opened o candidates lent)) (sym (append-nil messages)) (both-fair o candidates lent lent' calls))))

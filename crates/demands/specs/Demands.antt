@@ -28,12 +28,12 @@ use Rattle.run.specs.declared.Opening.{Opening}
 use Rattle.run.specs.declared.State.{State}
 use Rattle.run.specs.declared.Answer.the-variants.{Refused}
 use Rattle.run.specs.Call.{Lent, Outcome, unwritten}
-use Rattle.run.specs.Run.{opened, closed, boxAtHand, extentsOf}
+use Rattle.run.specs.Run.{closed, boxAtHand, extentsOf}
 use Rattle.run.specs.Conditions.{FirstIs, NoneHolds, openingTests, replyTests}
-use Rattle.run.specs.Theorems.{isRefused, Heard, Stands, heededIn, courseOf}
+use Rattle.run.specs.Theorems.{isRefused, Turn, Stands, heededIn, courseOf}
 use Rattle.mirror.specs.Image.{imageStyles}
 use Rattle.mirror.specs.Quarter.{QuarterArea, QuarterTable, QuarterCandidates}
-use Rattle.mirror.specs.Runs.{Message, AllFair, MirroredRuns, leftAtOpening}
+use Rattle.mirror.specs.Runs.{Message, MirroredRuns, leftAtOpening}
 use Rattle.demands.specs.Entries.{Opens, AnyCalls, Run, BothRuns}
 use Rattle.demands.specs.Entries as entry
 
@@ -79,10 +79,9 @@ ThreeQuestionsEach = (i n : ℕ) (has : Outcome) → AnyCalls i n has → (n ≤
 
 abbrev pub EqualsStraightRun : Type 0
 EqualsStraightRun =
-    (o : Opening) (candidates : List ℕ) (lent : Lent) (heard : List Heard) (has : Outcome)
-    → Run o candidates lent heard has
-    → isRefused (opened o candidates lent .step .answer) ≡ false
-    → Stands lent (length (heededIn o candidates lent heard)) has (courseOf o candidates lent heard)
+    (o : Opening) (candidates : List ℕ) (lent : Lent) (turns : List Turn) (has : Outcome)
+    → Run o candidates lent turns has
+    → Stands lent (length (heededIn o candidates lent turns)) has (courseOf o candidates lent turns)
 
 -- the size told in a lay out question is the size that is written once it is answered, with words and replies as they were
 abbrev pub LaidOutAsAsked : Type 0
@@ -99,7 +98,6 @@ MirrorImage =
     (o : Opening) (candidates : List ℕ) (lent lent' : Lent) (messages : List Message) (has has' : Outcome)
     → QuarterArea (o .area) → QuarterTable (lent .styles) → QuarterCandidates candidates
     → lent' .styles ≡ imageStyles (lent .styles) → extentsOf lent ≡ extentsOf lent'
-    → AllFair (extentsOf lent) (lent .styles) (opened o candidates lent) messages
     → BothRuns o candidates lent lent' messages has has'
     → MirroredRuns (o .area) (leftAtOpening o candidates lent) has has'
 

@@ -3,15 +3,16 @@
 -- Assumes nothing.
 use Prim.Native.Nat.{ℕ, _+_}
 use mathlib.Core.Path.{_≡_}
+use mathlib.Core.Bool.{true, false}
 use mathlib.Core.List.{List, [], _∷_, _++_}
 use Rattle.oof_box.specs.declared.question.Reply.{Reply}
 use Rattle.run.specs.declared.Opening.{Opening}
 use Rattle.run.specs.declared.State.{State}
-use Rattle.run.specs.Call.{Lent, Outcome}
+use Rattle.run.specs.Call.{Lent, Outcome, lent, outcome}
 use Rattle.run.specs.Run.{opened, replied}
-use Rattle.run.specs.Theorems.{Heard, askedFor, Loan, own, other}
+use Rattle.run.specs.Theorems.{isRefused, askedFor, Heard, Loan, own, other, Turn, Lends}
 use Rattle.mirror.specs.Image.{imageOpening, imageCandidates}
-use Rattle.mirror.specs.Runs.{Message}
+use Rattle.mirror.specs.Runs.{Message, Fair}
 
 -- ---- A call, and what the host has after it: what was returned, and the words of the slices that it lent.
 
@@ -36,28 +37,31 @@ pub data AnyCalls (i : ℕ) : ℕ → Outcome → Type 0 where
 
 -- the run's own slices, with the words that the last call left in them
 abbrev pub ownSlices : List ℕ → Outcome → Lent
-ownSlices styles before = record { styles = styles; layouts = before .layouts; working = before .working; unclaimed = before .unclaimed }
+ownSlices styles before = lent styles (before .layouts) (before .working) (before .unclaimed)
 
--- what a call leaves of a run: lent other slices, the run's own keep their words
-pub data Hears (styles : List ℕ) (before : Outcome) (h : Heard) : Loan → Outcome → Type 0 where
+-- what the host has of a run after a reply: if it lent other slices, the run's own keep their words
+pub data Takes (styles : List ℕ) (before : Outcome) (h : Heard) : Loan → Outcome → Type 0 where
   lentOwn :
       {has : Outcome}
       → Replies (before .step .state) (h .reply) (h .surfaced) (ownSlices styles before) has
-      → Hears styles before h own has
+      → Takes styles before h own has
   lentOther :
-      {lent : Lent} {has : Outcome}
-      → Replies (before .step .state) (h .reply) (h .surfaced) lent has
-      → Hears styles before h (other lent) (record { step = has .step; layouts = before .layouts; working = before .working; unclaimed = before .unclaimed })
+      {slices : Lent} {left : Outcome}
+      → Replies (before .step .state) (h .reply) (h .surfaced) slices left
+      → Takes styles before h (other slices) (outcome (left .step) (before .layouts) (before .working) (before .unclaimed))
 
-pub data Run (o : Opening) (candidates : List ℕ) (lent : Lent) : List Heard → Outcome → Type 0 where
-  opening : {has : Outcome} → Opens o candidates lent has → Run o candidates lent [] has
+-- an opening that isn't refused, then replies, each given the state that the last call returned. One that lends other slices is refused
+pub data Run (o : Opening) (candidates : List ℕ) (lent : Lent) : List Turn → Outcome → Type 0 where
+  opening : {has : Outcome} → Opens o candidates lent has → isRefused (has .step .answer) ≡ false → Run o candidates lent [] has
   reply :
-      {heard : List Heard} {before has : Outcome} (h : Heard)
-      → Run o candidates lent heard before
-      → Hears (lent .styles) before h own has
-      → Run o candidates lent (heard ++ (h ∷ [])) has
+      {turns : List Turn} {before has : Outcome} (t : Turn)
+      → Run o candidates lent turns before
+      → Takes (lent .styles) before (t .heard) (t .loan) has
+      → Lends (t .loan) (has .step .answer)
+      → Run o candidates lent (turns ++ (t ∷ [])) has
 
--- ---- A run and its mirror image, side by side: each message is a reply that both are given. Either lends its own slices, or others.
+-- ---- A run and its mirror image, side by side: each message is one reply, given to both. What is asked of it is `Fair`
+-- (mirror/specs/Runs.antt), by the state that came with it and by what was answered to it.
 
 pub data BothRuns (o : Opening) (candidates : List ℕ) (lent lent' : Lent) : List Message → Outcome → Outcome → Type 0 where
   opening :
@@ -68,6 +72,7 @@ pub data BothRuns (o : Opening) (candidates : List ℕ) (lent lent' : Lent) : Li
   reply :
       {messages : List Message} {before before' has has' : Outcome} (m : Message)
       → BothRuns o candidates lent lent' messages before before'
-      → Hears (lent .styles) before (m .heard) (m .loan) has
-      → Hears (lent' .styles) before' (m .heard) (m .imageLoan) has'
+      → Takes (lent .styles) before (m .turn .heard) (m .turn .loan) has
+      → Takes (lent' .styles) before' (m .image .heard) (m .image .loan) has'
+      → Fair (before .step .state) (has .step .answer) m
       → BothRuns o candidates lent lent' (messages ++ (m ∷ [])) has has'
