@@ -8,8 +8,11 @@
  *         result = oof_reply_..(.., state, answer);
  *
  * RESULT. 0: the call was accepted, and the answer's words say what comes next. 1 to 6: it was refused, for the reason
- * of that number (enum oof_refusal), and NO LENT WORD WAS WRITTEN: layouts, lists, state and answer keep every bit, so
- * the call can be mended and made again.
+ * of that number (enum oof_refusal), and NO LENT WORD WAS WRITTEN: layouts, lists and answer keep every bit. What stands
+ * in the state's words then:
+ *   - after a refused reply, what stood there before, bit for bit, so the reply can be mended and made again;
+ *   - after a refused opening, a finished run with all counts 0, so that no reply is taken until an opening is accepted.
+ *     A run that stood in these words before is given up by any opening.
  *
  * POINTERS. Each slice is a pointer, then its length in 32-bit words. What a host owes:
  *   - every pointer is aligned for uint32_t and points at so many words that may be read (and written, where it isn't
@@ -244,8 +247,8 @@ enum {
     OOF_FINISH_BOTTOM = 5
 };
 
-/* ---- the state, 27 words. A host hands it back as it came, and starts with 27 zeros, which are a finished run. It need
- * not read it; what the words mean all the same: */
+/* ---- the state, 27 words. Every opening writes it, so it may hold anything before; 27 zeros are a finished run. Between
+ * calls a host hands it back as it came, and need not read it; what the words mean all the same: */
 
 enum {
     OOF_STATE_PROGRESS = 0, /* 0 finished, 1 to 3 the question for size keywords (both, width, height), 4 the question that

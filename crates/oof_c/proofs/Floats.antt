@@ -41,7 +41,7 @@ use Rattle.run.specs.declared.State.{State}
 use Rattle.oof_c.specs.StateWords.{at, floatAt, keywordOf, keywordWidth, keywordHeight, fillOf, fillSize, repliesOf, overflowIn, blockOf, openedOf, stateOf}
 use Rattle.oof_c.specs.Laws.{Floats, FitsReply}
 
-zero-fits : T (fits binary32 0f)
+pub zero-fits : T (fits binary32 0f)
 zero-fits = ofBits-fits binary32 0
 
 -- ---- replies kept

@@ -3,16 +3,12 @@ use Prim.Native.Nat.{ℕ, _+_, _*_, _/_, _<_, _≤_}
 use native.Mathlib.Nat.{lt-mul-div-succ}
 use native.Mathlib.Omega.{arith}
 use mathlib.Core.Bool.{true, false, not, _||_}
-use mathlib.Core.List.{List, map, foldl}
-use mathlib.Core.Path.{_≡_, refl, sym, ap, _∙_}
+use mathlib.Core.List.{List, [], _∷_, map, foldl}
+use mathlib.Core.Path.{_≡_, refl, sym, ap, subst, _∙_}
 use lib.Dec.{ltb, eqb, lit<}
 use lib.ListN.{length}
 use borrow.Author.Tests.{ltb-false, eqb-true, leb-true, not-false}
-use Rattle.util.proofs.Floats.{no}
 use Rattle.geometry.specs.declared.Rect.{Rect}
-use Rattle.refusal.specs.Refusal.{numberOf}
-use Rattle.refusal.specs.declared.Refusal.{Refusal}
-use Rattle.refusal.specs.declared.Refusal.the-variants.{BadArea, BadExtent, BadStyle, BadCandidate, ListFull, WrongReply, UnresolvedSide, BadScreenLine}
 use Rattle.style.specs.declared.ContainingBlockClaims.{ContainingBlockClaims}
 use Rattle.records.specs.Records.{room}
 use Rattle.style_record.specs.Record.{styleWords, items}
@@ -31,24 +27,22 @@ use Rattle.oof_box.specs.declared.question.Reply.the-variants.{LaidOut}
 use Rattle.oof_box.specs.declared.question.Taken.the-variants.{Kept}
 use Rattle.run.specs.Call.{Lent, Outcome}
 use Rattle.run.specs.Refusals.{accepted, ragged, badTable, badList, badSlices, otherLengths, listFull, lentBy, wrongCounts}
-use Rattle.run.specs.Run.{asking, finishing, proceeding, claimsOf, noneFilled, openingVerdict, begun, boxAtHand, isWrong, takenBy, replyVerdict, measuredOn, laidOut, replied}
+use Rattle.run.specs.Run.{asking, finishing, proceeding, claimsOf, noneFilled, openingVerdict, closed, begun, opened, boxAtHand, isWrong, takenBy, replyVerdict, measuredOn, laidOut, replied}
 use Rattle.run.specs.Theorems.{isRefused, Asked, askedAtOpening, askedWith}
-use Rattle.run.specs.declared.Answer.{Answer}
-use Rattle.run.specs.declared.Answer.the-variants.{Ask, Finish, Refused}
 use Rattle.run.specs.declared.Counts.{Counts}
 use Rattle.run.specs.declared.Extents.{Extents}
 use Rattle.run.specs.declared.Opened.{Opened}
 use Rattle.run.specs.declared.Opening.{Opening}
 use Rattle.run.specs.declared.State.{State}
 use Rattle.run.proofs.Ways.{NextWay, asks, ends, next-way, OpeningWay, begins, opening-way, ReplyWay, measures, laysOut, reply-way, passed, neither}
-use Rattle.run.proofs.Refusals.{begun-accepts, measured-accepts, laid-accepts}
+use Rattle.run.proofs.Refusals.{measured-accepts, laid-accepts}
 use Rattle.placer.proofs.Calls.{counted}
 use Rattle.placer.proofs.Replies.{laid-is}
-use Rattle.oof_c.specs.StateWords.{stateOf, stateWords}
-use Rattle.oof_c.specs.Entry.{resultOf, stateLeft, Words, lentIn, opening, replying, Left}
-use Rattle.oof_c.specs.Laws.{Floats, InAWord, Counted, FitsReply, OpeningIsKept, ReplyIsKept, Made, Run, stop, call, RunIsKept}
-use Rattle.oof_c.proofs.Floats.{FitsReplies, none-fit, words-fit, kept-fit, union-fits, zeros-fit, added-fits}
-use Rattle.oof_c.proofs.Laws.{state-back}
+use Rattle.oof_c.specs.StateWords.{stateOf}
+use Rattle.oof_c.specs.Entry.{resultOf, stateLeft, lentIn, openedInWords, repliedInWords}
+use Rattle.oof_c.specs.Laws.{Floats, InAWord, Counted, FitsReply, Short, OpeningIsKept, ReplyIsKept, Made, stateAfter, call, RunIsKept}
+use Rattle.oof_c.proofs.Floats.{FitsReplies, zero-fits, none-fit, words-fit, kept-fit, union-fits, zeros-fit, added-fits}
+use Rattle.oof_c.proofs.Laws.{state-back, refused-is-not}
 
 -- ---- lengths that passed
 
@@ -284,76 +278,73 @@ laid-whole s overflow surfaced l f p =
       overflow = union-fits (s .overflow) (placed .contribution) (f .overflow) (added-fits (s .opened .block) (styleAt (l .styles) (box .node)) box (s .replies) overflow);
     })
 
--- ---- the words
+-- ---- an opening
 
--- an accepted call writes its state
-written : (s : State) (a : Answer) (before : List ℕ) → isRefused a ≡ false → stateLeft s a before ≡ stateWords s
-unfolding stateLeft
-written s (Ask q) before e = refl
-written s (Finish f) before e = refl
-written s (Refused r) before e = no {b = true} refl e
-
--- so its words mean that state
-means : (call : Words → Outcome) (before after : Words) (r : ℕ) (p : Outcome) → Left r call before after → call before ≡ p
-    → isRefused (p .step .answer) ≡ false
-    → Whole (p .step .state)
-    → stateOf (after .state) ≡ call before .step .state
-means call before after r p left e f w =
-    ap stateOf (left .state ∙ ap (λ (o : Outcome). stateLeft (o .step .state) (o .step .answer) (before .state)) e ∙ written (p .step .state) (p .step .answer) (before .state) f)
-    ∙ state-back (p .step .state) (w .floats) (w .counts)
-    ∙ sym (ap (λ (o : Outcome). o .step .state) e)
-
-no-number : (r : Refusal) → 0 ≡ numberOf r → ⊥
-no-number BadArea e = absurd (omega (arith, e))
-no-number BadExtent e = absurd (omega (arith, e))
-no-number BadStyle e = absurd (omega (arith, e))
-no-number BadCandidate e = absurd (omega (arith, e))
-no-number ListFull e = absurd (omega (arith, e))
-no-number WrongReply e = absurd (omega (arith, e))
-no-number UnresolvedSide e = absurd (omega (arith, e))
-no-number BadScreenLine e = absurd (omega (arith, e))
+refused-whole : (l : Lent) → Short l → Whole (closed l)
+unfolding closed
+refused-whole l n =
+    whole-of _ none-fit
+    (record {
+      size = (zero-fits, zero-fits);
+      offset = (zero-fits, zero-fits);
+      lengths = record { styles = n .styles; layouts = n .layouts; working = n .working; unclaimed = n .unclaimed };
+      working = omega arith;
+      unclaimed = omega arith;
+      begun = omega arith;
+      answered = omega arith;
+      overflow = zeros-fit;
+    })
 
 pub opening-is-kept : OpeningIsKept
-unfolding resultOf
-opening-is-kept o candidates styles before after f g left = go (opening-way o candidates (lentIn styles before))
+unfolding openedInWords resultOf
+opening-is-kept o candidates styles before k = let w = go (opening-way o candidates l) in state-back _ (w .floats) (w .counts)
   where
-    go : OpeningWay o candidates (lentIn styles before) → stateOf (after .state) ≡ opening o candidates styles before .step .state
-    go (OpeningWay.turnedDown r e) = absurd (no-number r (left .result ∙ ap (λ (p : Outcome). resultOf (p .step .answer)) e))
-    go (begins v e) =
-        means (opening o candidates styles) before after 0 (begun o candidates (lentIn styles before)) left e
-        (begun-accepts o candidates (lentIn styles before))
-        (begun-whole o candidates (lentIn styles before) f g v)
+    l : Lent
+    l = lentIn styles before
+
+    go : OpeningWay o candidates l → Whole (opened o candidates l .step .state)
+    go (OpeningWay.turnedDown r e) =
+        rw e (refused-whole l (k .lengths (λ z. refused-is-not r (sym (ap (λ (left : Outcome). resultOf (left .step .answer)) e) ∙ z))))
+    go (begins v e) = rw e (begun-whole o candidates l (k .size) (k .offset) v)
+
+-- ---- a reply
+
+-- an accepted one writes its state, and these words mean it
+means : (before : List ℕ) {o p : Outcome} → o ≡ p → isRefused (p .step .answer) ≡ false → Whole (p .step .state)
+    → stateOf (stateLeft (o .step) before) ≡ o .step .state
+unfolding stateLeft
+means before {p = p} e f w =
+    subst (λ (o : Outcome). stateOf (stateLeft (o .step) before) ≡ o .step .state) (sym e) (rw f (state-back (p .step .state) (w .floats) (w .counts)))
 
 pub reply-is-kept : ReplyIsKept
-unfolding stateLeft
-reply-is-kept r reply surfaced styles before after g left = go (reply-way s reply surfaced (lentIn styles before))
+unfolding repliedInWords stateLeft
+reply-is-kept reply surfaced styles before g = go (reply-way s reply surfaced l)
   where
     s : State
     s = stateOf (before .state)
 
-    go : ReplyWay s reply surfaced (lentIn styles before) → stateOf (after .state) ≡ replying reply surfaced styles before .step .state
-    go (ReplyWay.turnedDown q e) =
-        ap stateOf (left .state ∙ ap (λ (o : Outcome). stateLeft (o .step .state) (o .step .answer) (before .state)) e)
-        ∙ sym (ap (λ (o : Outcome). o .step .state) e)
+    l : Lent
+    l = lentIn styles before
+
+    go : ReplyWay s reply surfaced l → stateOf (repliedInWords reply surfaced styles before .words .state) ≡ replied s reply surfaced l .step .state
+    go (ReplyWay.turnedDown q e) = subst (λ (o : Outcome). stateOf (stateLeft (o .step) (before .state)) ≡ o .step .state) (sym e) refl
     go (measures replies v t e) =
-        means (replying reply surfaced styles) before after r (measuredOn s replies (lentIn styles before)) left e
-        (measured-accepts s replies (lentIn styles before))
-        (measured-whole s reply replies surfaced (lentIn styles before) (words-fit (before .state)) g (past s reply surfaced (lentIn styles before) v) t)
+        means (before .state) e (measured-accepts s replies l)
+        (measured-whole s reply replies surfaced l (words-fit (before .state)) g (past s reply surfaced l v) t)
     go (laysOut overflow v t e) =
-        means (replying reply surfaced styles) before after r (laidOut s overflow surfaced (lentIn styles before)) left e
-        (laid-accepts s overflow surfaced (lentIn styles before))
-        (laid-whole s overflow surfaced (lentIn styles before) (words-fit (before .state)) (rw (laid-is s reply overflow t) at (past s reply surfaced (lentIn styles before) v)))
+        means (before .state) e (laid-accepts s overflow surfaced l)
+        (laid-whole s overflow surfaced l (words-fit (before .state)) (rw (laid-is s reply overflow t) at (past s reply surfaced l v)))
 
 -- ---- a whole run
 
 pub run-is-kept : RunIsKept
-unfolding askedAtOpening askedWith
-run-is-kept o candidates styles before after calls last f g left run = on (askedAtOpening o candidates (lentIn styles before)) (opening-is-kept o candidates styles before after f g left) run
+unfolding stateAfter askedAtOpening askedWith
+run-is-kept o candidates styles before calls k =
+    on calls _ (askedAtOpening o candidates (lentIn styles before)) (opening-is-kept o candidates styles before k)
   where
-    on : {w last : List ℕ} {cs : List Made} (a : Asked) → stateOf w ≡ a .state → Run w cs last → stateOf last ≡ foldl askedWith a (map call cs) .state
-    on a e stop = e
-    on a e (Run.go c cs f left rest) =
-        on (askedWith a (call c))
-        (reply-is-kept (c .result) (c .reply) (c .surfaced) (c .styles) (c .before) (c .after) f left
-        ∙ ap (λ (s : State). replied s (c .reply) (c .surfaced) (lentIn (c .styles) (c .before)) .step .state) e)
-        rest
+    on : (cs : List Made) (w : List ℕ) (a : Asked) → stateOf w ≡ a .state → stateOf (foldl stateAfter w cs) ≡ foldl askedWith a (map call cs) .state
+    on [] w a e = e
+    on (c ∷ cs) w a e =
+        on cs (stateAfter w c) (askedWith a (call c))
+        (reply-is-kept (c .reply) (c .surfaced) (c .lent .styles) _ (c .floats)
+        ∙ ap (λ (s : State). replied s (c .reply) (c .surfaced) (c .lent) .step .state) e)

@@ -1,12 +1,18 @@
 -- The laws of `specs/Laws.antt`. Assumes nothing.
 use Prim.Native.Nat.{ℕ}
 use native.Mathlib.Nat.{mod-eq-of-lt}
+use native.Mathlib.Omega.{arith}
+use mathlib.Core.Bool.{true, false}
+use mathlib.Core.List.{List}
 use mathlib.Core.Path.{_≡_, refl, ap, _∙_}
 use lib.Dec.{T}
 use lib.Ieee.{Float, fits, ofBits, toBits, binary32}
+use Rattle.util.proofs.Floats.{no}
 use Rattle.util.proofs.Laws.{float-back}
 use Rattle.geometry.specs.declared.Size.{Size}
+use Rattle.refusal.specs.Refusal.{numberOf}
 use Rattle.refusal.specs.declared.Refusal.{Refusal}
+use Rattle.refusal.specs.declared.Refusal.the-variants.{BadArea, BadExtent, BadStyle, BadCandidate, ListFull, WrongReply, UnresolvedSide, BadScreenLine}
 use Rattle.style.specs.Codes.{directionOf, overflowOf}
 use Rattle.style.proofs.Laws.{direction-codes, overflow-codes, bits-codes}
 use Rattle.style.specs.declared.ContainingBlockClaims.{ContainingBlockClaims}
@@ -16,16 +22,19 @@ use Rattle.oof_box.specs.declared.question.KeywordReply.{KeywordReply}
 use Rattle.oof_box.specs.declared.question.KeywordReply.the-variants as keyword
 use Rattle.oof_box.specs.declared.question.FillReply.{FillReply}
 use Rattle.oof_box.specs.declared.question.FillReply.the-variants as fill
-use Rattle.run.specs.Call.{Outcome}
+use Rattle.run.specs.Call.{Lent, Outcome}
 use Rattle.run.specs.Run.{closed}
-use Rattle.run.proofs.Refusals.{refused-reply-keeps, refused-opening-keeps}
+use Rattle.run.specs.Theorems.{isRefused}
+use Rattle.run.proofs.Refusals.{begun-accepts, measured-accepts, laid-accepts, finished-refuses}
+use Rattle.run.proofs.Ways.{OpeningWay, begins, opening-way, ReplyWay, measures, laysOut, reply-way}
+use Rattle.run.specs.declared.State.{State}
 use Rattle.run.specs.declared.Answer.{Answer}
 use Rattle.run.specs.declared.Answer.the-variants.{Ask, Finish, Refused}
 use Rattle.run.specs.declared.Progress.{Progress}
 use Rattle.run.specs.declared.Progress.the-variants.{Finished, Asking}
 use Rattle.oof_c.specs.StateWords.{countWord, progressOf, stageCode, progressCode, keywordOf, keywordKind, keywordWidth, keywordHeight, fillOf, fillKind, fillSize, claimsOf, claimsCode, repliesOf, countsOf, overflowIn, blockOf, extentsOf, openedOf, stateOf, openingCodes, stateWords}
-use Rattle.oof_c.specs.Entry.{resultOf, stateLeft, answerLeft, Words, lentIn, opening, replying, Left}
-use Rattle.oof_c.specs.Laws.{InAWord, StateBack, ZeroState, RefusalWritesNothing}
+use Rattle.oof_c.specs.Entry.{resultOf, stateLeft, answerLeft, Words, words, inWords, lentIn, openedInWords, repliedInWords}
+use Rattle.oof_c.specs.Laws.{InAWord, StateBack, ZeroState, RefusedOpeningCloses, NoReplyAfterRefusedOpening, RefusedReplyWritesNothing}
 
 -- ---- each word means what it was written for
 
@@ -119,36 +128,65 @@ zero-state = refl
 
 -- ---- a refusal
 
--- an outcome that leaves the slices as they were lent where it is refused
-same : (r : ℕ) (call : Words → Outcome) (before after : Words)
-    → ((q : Refusal) → call before .step .answer ≡ Refused q → (call before .layouts ≡ before .layouts) × (call before .working ≡ before .working) × (call before .unclaimed ≡ before .unclaimed))
-    → Left r call before after
-    → (r ≡ 0 → ⊥)
-    → after ≡ before
-unfolding resultOf stateLeft answerLeft
-same r call before after kept left h = go (call before .step .answer) refl
+-- the result is 0 just where the answer is no refusal
+pub accepted-is-zero : (a : Answer) → isRefused a ≡ false → resultOf a ≡ 0
+unfolding resultOf
+accepted-is-zero (Ask q) e = refl
+accepted-is-zero (Finish f) e = refl
+accepted-is-zero (Refused r) e = no {b = true} refl e
+
+pub refused-is-not : (r : Refusal) → numberOf r ≡ 0 → ⊥
+refused-is-not BadArea e = absurd (omega (arith, e))
+refused-is-not BadExtent e = absurd (omega (arith, e))
+refused-is-not BadStyle e = absurd (omega (arith, e))
+refused-is-not BadCandidate e = absurd (omega (arith, e))
+refused-is-not ListFull e = absurd (omega (arith, e))
+refused-is-not WrongReply e = absurd (omega (arith, e))
+refused-is-not UnresolvedSide e = absurd (omega (arith, e))
+refused-is-not BadScreenLine e = absurd (omega (arith, e))
+
+-- an outcome that isn't refused
+zero-of : {o p : Outcome} → o ≡ p → isRefused (p .step .answer) ≡ false → resultOf (o .step .answer) ≡ 0
+zero-of {p = p} e f = ap (λ (o : Outcome). resultOf (o .step .answer)) e ∙ accepted-is-zero (p .step .answer) f
+
+pub refused-opening-closes : RefusedOpeningCloses
+unfolding openedInWords answerLeft
+refused-opening-closes o candidates styles before h = go (opening-way o candidates (lentIn styles before))
   where
-    go : (a : Answer) → call before .step .answer ≡ a → after ≡ before
-    go (Ask q) e = absurd (h (left .result ∙ ap resultOf e))
-    go (Finish f) e = absurd (h (left .result ∙ ap resultOf e))
-    go (Refused q) e =
-        λ j. record {
-          layouts = (left .layouts ∙ kept q e .0) j;
-          working = (left .working ∙ kept q e .1) j;
-          unclaimed = (left .unclaimed ∙ kept q e .2) j;
-          state = (left .state ∙ ap (λ (a : Answer). stateLeft (call before .step .state) a (before .state)) e) j;
-          answer = (left .answer ∙ ap (λ (a : Answer). answerLeft a (before .answer)) e) j;
-        }
+    go : OpeningWay o candidates (lentIn styles before)
+        → openedInWords o candidates styles before .words
+        ≡ words (before .layouts) (before .working) (before .unclaimed) (stateWords (closed (lentIn styles before))) (before .answer)
+    go (OpeningWay.turnedDown r e) = ap (λ (left : Outcome). inWords left (stateWords (left .step .state)) (before .answer) .words) e
+    go (begins v e) = absurd (h (zero-of e (begun-accepts o candidates (lentIn styles before))))
 
-slices : {o : Outcome} {p : Outcome} → o ≡ p → (o .layouts ≡ p .layouts) × (o .working ≡ p .working) × (o .unclaimed ≡ p .unclaimed)
-slices e = (ap (λ (o : Outcome). o .layouts) e, ap (λ (o : Outcome). o .working) e, ap (λ (o : Outcome). o .unclaimed) e)
+refused-not-zero : (a : Answer) → isRefused a ≡ true → resultOf a ≡ 0 → ⊥
+unfolding resultOf
+refused-not-zero (Ask q) e z = no {b = false} e refl
+refused-not-zero (Finish f) e z = no {b = false} e refl
+refused-not-zero (Refused r) e z = refused-is-not r z
 
-pub refusal-writes-nothing : RefusalWritesNothing
-refusal-writes-nothing = (
-  λ r o candidates styles before after left h.
-      same r (opening o candidates styles) before after
-      (λ q e. slices (refused-opening-keeps o candidates (lentIn styles before) q e)) left h,
-  λ r reply surfaced styles before after left h.
-      same r (replying reply surfaced styles) before after
-      (λ q e. slices (refused-reply-keeps (stateOf (before .state)) reply surfaced (lentIn styles before) q e)) left h,
-)
+closed-is-finished : (lent : Lent) → stateOf (stateWords (closed lent)) .progress ≡ Finished
+unfolding stateOf stateWords progressOf progressCode closed
+closed-is-finished lent = refl
+
+pub no-reply-after-refused-opening : NoReplyAfterRefusedOpening
+unfolding repliedInWords
+no-reply-after-refused-opening o candidates styles before h reply surfaced styles' later e z =
+    let closes = refused-opening-closes o candidates styles before h in
+    let finished = ap (λ (w : List ℕ). stateOf w .progress) (e ∙ ap (λ (w : Words). w .state) closes) ∙ closed-is-finished (lentIn styles before) in
+    refused-not-zero _ (finished-refuses (stateOf (later .state)) reply surfaced (lentIn styles' later) finished) z
+
+pub refused-reply-writes-nothing : RefusedReplyWritesNothing
+unfolding repliedInWords answerLeft stateLeft
+refused-reply-writes-nothing reply surfaced styles before h = go (reply-way s reply surfaced lent)
+  where
+    s : State
+    s = stateOf (before .state)
+
+    lent : Lent
+    lent = lentIn styles before
+
+    go : ReplyWay s reply surfaced lent → repliedInWords reply surfaced styles before .words ≡ before
+    go (ReplyWay.turnedDown r e) = ap (λ (left : Outcome). inWords left (stateLeft (left .step) (before .state)) (before .answer) .words) e
+    go (measures replies v t e) = absurd (h (zero-of e (measured-accepts s replies lent)))
+    go (laysOut overflow v t e) = absurd (h (zero-of e (laid-accepts s overflow surfaced lent)))

@@ -2,7 +2,8 @@
 // and answer pass as a pointer each. hosts/c/oof.h declares them for C.
 ghost use mathlib.Core.Path.{_≡_};
 ghost use mathlib.Core.List.{[]};
-ghost use Rattle.oof_c.specs.Entry.{Told, words, opening, replying, Left};
+ghost use Rattle.run.specs.Theorems.{isRefused};
+ghost use Rattle.oof_c.specs.Entry.{resultOf, answerLeft, stateLeft, told, came, before, returned, openingOf, openedInWords, repliedInWords};
 use geometry::Point;
 use geometry::Rect;
 use geometry::Size;
@@ -15,30 +16,44 @@ use tree::layout::OofPositioningArea;
 mod answer;
 mod state;
 
-// The result of a call. Unless it was refused, its state and its answer are written.
-fn tell(
-    step: Step,
-    state: &mut [u32; state::STATE_WORDS],
-    answer: &mut [u32; answer::ANSWER_WORDS],
-) -> u32
-    ensures { λ r. ⌜ Told r (now (state .exit)) (now (answer .exit)) (now (state .entry)) (now (answer .entry)) step ⌝ }
+// The result of a call. Unless it was refused, its answer is written.
+fn tell(a: Answer, answer: &mut [u32; answer::ANSWER_WORDS]) -> u32
+    ensures { λ r. ⌜ told r (now (answer .exit)) ≡ told (resultOf a) (answerLeft a (now (answer .entry))) ⌝ }
 {
-    let s = step.state;
-    let a = step.answer;
-    let words = state::state_words(s);
     match a {
         Answer::Refused(refusal) => refusal.number(),
         Answer::Ask(question) => {
-            *state = words;
             *answer = answer::question_words(question);
             0
         }
         Answer::Finish(finish) => {
-            *state = words;
             *answer = answer::finish_words(finish);
             0
         }
     }
+}
+
+fn is_refused(a: Answer) -> bool
+    ensures { λ r. ⌜ r ≡ isRefused a ⌝ }
+{
+    match a {
+        Answer::Ask(_) => false,
+        Answer::Finish(_) => false,
+        Answer::Refused(_) => true,
+    }
+}
+
+// The state's words after a reply: those of a refused one stay as they came, whatever they are.
+fn keep(step: Step, state: &mut [u32; state::STATE_WORDS])
+    ensures { λ r. ⌜ now (state .exit) ≡ stateLeft step (now (state .entry)) ⌝ }
+{
+    let s = step.state;
+    let a = step.answer;
+    let words = state::state_words(s);
+    if is_refused(a) {
+        return;
+    }
+    *state = words;
 }
 
 // Opens a run.
@@ -60,7 +75,7 @@ pub extern "C" fn oof_open(
     state: &mut [u32; state::STATE_WORDS],
     answer: &mut [u32; answer::ANSWER_WORDS],
 ) -> u32
-    ensures { λ r. ⌜ Left r (opening (record { area = record { size = record { width = width; height = height }; offset = record { x = x; y = y } }; direction = direction; claims = claims; overflowx = «overflow_x»; overflowy = «overflow_y» }) (now (candidates .entry)) (now (styles .entry))) (words (now (layouts .entry)) (now (working .entry)) (now (unclaimed .entry)) (now (state .entry)) (now (answer .entry))) (words (now (layouts .exit)) (now (working .exit)) (now (unclaimed .exit)) (now (state .exit)) (now (answer .exit))) ⌝ }
+    ensures { λ r. ⌜ returned r layouts working unclaimed state answer ≡ openedInWords (openingOf width height x y direction claims «overflow_x» «overflow_y») (came candidates) (came styles) (before layouts working unclaimed state answer) ⌝ }
 {
     let area = OofPositioningArea {
         size: Size { width, height },
@@ -74,7 +89,11 @@ pub extern "C" fn oof_open(
         overflowy: overflow_y,
     };
     let step = placer::open(opening, styles, candidates, layouts, working, unclaimed);
-    tell(step, state, answer)
+    let s = step.state;
+    let a = step.answer;
+    let opened = state::state_words(s);
+    *state = opened;
+    tell(a, answer)
 }
 
 // A reply to the open question.
@@ -88,11 +107,13 @@ fn respond(
     state: &mut [u32; state::STATE_WORDS],
     answer: &mut [u32; answer::ANSWER_WORDS],
 ) -> u32
-    ensures { λ r. ⌜ Left r (replying reply (now (surfaced .entry)) (now (styles .entry))) (words (now (layouts .entry)) (now (working .entry)) (now (unclaimed .entry)) (now (state .entry)) (now (answer .entry))) (words (now (layouts .exit)) (now (working .exit)) (now (unclaimed .exit)) (now (state .exit)) (now (answer .exit))) ⌝ }
+    ensures { λ r. ⌜ returned r layouts working unclaimed state answer ≡ repliedInWords reply (came surfaced) (came styles) (before layouts working unclaimed state answer) ⌝ }
 {
     let s = state::state_of(&*state);
     let step = placer::reply(s, reply, surfaced, styles, layouts, working, unclaimed);
-    tell(step, state, answer)
+    let a = step.answer;
+    keep(step, state);
+    tell(a, answer)
 }
 
 // Both sizes, measured.
@@ -107,7 +128,7 @@ pub extern "C" fn oof_reply_both(
     state: &mut [u32; state::STATE_WORDS],
     answer: &mut [u32; answer::ANSWER_WORDS],
 ) -> u32
-    ensures { λ r. ⌜ Left r (replying (Reply.Both (record { width = width; height = height })) [] (now (styles .entry))) (words (now (layouts .entry)) (now (working .entry)) (now (unclaimed .entry)) (now (state .entry)) (now (answer .entry))) (words (now (layouts .exit)) (now (working .exit)) (now (unclaimed .exit)) (now (state .exit)) (now (answer .exit))) ⌝ }
+    ensures { λ r. ⌜ returned r layouts working unclaimed state answer ≡ repliedInWords (Reply.Both (record { width = width; height = height })) [] (came styles) (before layouts working unclaimed state answer) ⌝ }
 {
     let reply = Reply::Both(Size { width, height });
     let none: [u32; 0] = [];
@@ -134,7 +155,7 @@ pub extern "C" fn oof_reply_width(
     state: &mut [u32; state::STATE_WORDS],
     answer: &mut [u32; answer::ANSWER_WORDS],
 ) -> u32
-    ensures { λ r. ⌜ Left r (replying (Reply.Width width) [] (now (styles .entry))) (words (now (layouts .entry)) (now (working .entry)) (now (unclaimed .entry)) (now (state .entry)) (now (answer .entry))) (words (now (layouts .exit)) (now (working .exit)) (now (unclaimed .exit)) (now (state .exit)) (now (answer .exit))) ⌝ }
+    ensures { λ r. ⌜ returned r layouts working unclaimed state answer ≡ repliedInWords (Reply.Width width) [] (came styles) (before layouts working unclaimed state answer) ⌝ }
 {
     let none: [u32; 0] = [];
     respond(
@@ -160,7 +181,7 @@ pub extern "C" fn oof_reply_height(
     state: &mut [u32; state::STATE_WORDS],
     answer: &mut [u32; answer::ANSWER_WORDS],
 ) -> u32
-    ensures { λ r. ⌜ Left r (replying (Reply.Height height) [] (now (styles .entry))) (words (now (layouts .entry)) (now (working .entry)) (now (unclaimed .entry)) (now (state .entry)) (now (answer .entry))) (words (now (layouts .exit)) (now (working .exit)) (now (unclaimed .exit)) (now (state .exit)) (now (answer .exit))) ⌝ }
+    ensures { λ r. ⌜ returned r layouts working unclaimed state answer ≡ repliedInWords (Reply.Height height) [] (came styles) (before layouts working unclaimed state answer) ⌝ }
 {
     let none: [u32; 0] = [];
     respond(
@@ -190,7 +211,7 @@ pub extern "C" fn oof_reply_laid_out(
     state: &mut [u32; state::STATE_WORDS],
     answer: &mut [u32; answer::ANSWER_WORDS],
 ) -> u32
-    ensures { λ r. ⌜ Left r (replying (Reply.LaidOut (record { left = left; right = right; top = top; bottom = bottom })) (now (surfaced .entry)) (now (styles .entry))) (words (now (layouts .entry)) (now (working .entry)) (now (unclaimed .entry)) (now (state .entry)) (now (answer .entry))) (words (now (layouts .exit)) (now (working .exit)) (now (unclaimed .exit)) (now (state .exit)) (now (answer .exit))) ⌝ }
+    ensures { λ r. ⌜ returned r layouts working unclaimed state answer ≡ repliedInWords (Reply.LaidOut (record { left = left; right = right; top = top; bottom = bottom })) (came surfaced) (came styles) (before layouts working unclaimed state answer) ⌝ }
 {
     let overflow = Rect {
         left,

@@ -1,5 +1,5 @@
-//! Damaged calls. What each must answer is the model's word; a refused call may write no lent word, and an accepted one only
-//! its own.
+//! Damaged calls. What each must answer is the model's word; a refused call may write no lent word but its own state, where it
+//! is an opening, and an accepted one only its own.
 use crate::model;
 use crate::rng::Rng;
 use crate::side::{question, Difference};
@@ -78,8 +78,15 @@ pub fn one(
 ) -> Result<(), Difference> {
     let (mut words, mut host) = lend(rng);
     if matches!(family, OpenCodes | OpenLengths | OpenStyles | OpenCandidates | OpenRoom | OpenSeveral) {
+        // over noise, or over the state of an open run
+        if rng.one_in(2) && Library::default().open(&mut words) != 0 {
+            return Err("a good opening is refused".to_string());
+        }
         damage_opening(family, &mut words, rng);
-        return opening(&mut words, library, seen, noticed);
+        opening(&mut words, library, seen, noticed)?;
+        // what it left is the state that the next call is given
+        let said = Said { kind: rng.of(&KINDS), values: [(); 4].map(|_| rng.next() as u32), surfaced: vec![] };
+        return reply(&said, &mut words, library, seen, noticed);
     }
     let mut whole = Library::default();
     if whole.open(&mut words) != 0 {
@@ -110,8 +117,9 @@ const KINDS: [Kind; 4] = [Kind::Both, Kind::Width, Kind::Height, Kind::LayOut];
 // ---- a call, checked
 
 fn opening(w: &mut Words, library: &mut Library, seen: &mut Answered, noticed: &mut bool) -> Result<(), Difference> {
-    let (before, expected) = (w.clone(), model::opening(w));
+    let (mut before, expected) = (w.clone(), model::opening(w));
     seen[expected as usize] += 1;
+    before.state = model::closed(w); // of a refused one; whatever an accepted one writes there is not compared
     let result = library.open(w);
     let filled = [0, 0];
     let outcome = check("opening", expected, result, &before, w, filled, None);
@@ -148,8 +156,8 @@ fn tell(expected: u32, outcome: Result<(), Difference>, noticed: &mut bool) -> R
     outcome
 }
 
-/// A refused call leaves every word; an accepted one writes the layout of the box at hand, the lists behind their filled
-/// records, state and answer
+/// A refused call leaves every word, of an opening but for its state, which `before` has; an accepted one writes the layout of
+/// the box at hand, the lists behind their filled records, state and answer
 fn check(
     call: &str,
     expected: u32,

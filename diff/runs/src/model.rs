@@ -1,4 +1,5 @@
-//! Document 01's table of refusals, on its own: which number a call must answer, 0 if it is accepted.
+//! Document 01's table of refusals, on its own: which number a call must answer, 0 if it is accepted, and what a refused
+//! opening returns.
 //!
 //! Written from the document alone. It shares no code with the oracle, the Rust host or the Rattle crates.
 use crate::words::{Said, Words};
@@ -37,6 +38,15 @@ pub fn opening(w: &Words) -> u32 {
         return 5;
     }
     0
+}
+
+/// A refused opening returns the state of a finished run with all counts 0; its lengths are those lent
+pub fn closed(w: &Words) -> [u32; 27] {
+    let mut state = [0; 27];
+    for (at, slice) in [&w.styles, &w.layouts, &w.working, &w.unclaimed].into_iter().enumerate() {
+        state[LENGTHS + at] = slice.len() as u32;
+    }
+    state
 }
 
 /// A reply 2, 6, 3, 4, 5

@@ -74,6 +74,7 @@ pub fn compare(
         Err(number) => {
             seen.refused[number as usize] += 1;
             held("opening", number, result)?;
+            wanted.state = model::closed(&wanted);
             return hold("a refused opening", &words, &wanted, seen);
         }
     };

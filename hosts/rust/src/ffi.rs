@@ -1,7 +1,10 @@
 //! The five entries of the static library `oof_c`, over words. This is the only module with `unsafe`.
 //!
-//! Every entry takes any words in any number, and a call that it refuses writes none of them. So the functions here are safe:
+//! Every entry takes any words in any number, and a call that it refuses writes no lent word. So the functions here are safe:
 //! the slices are Rust's, and two of which one may be written don't overlap.
+//!
+//! The state's words are the state that a call returns: an opening always writes them, a refused one those of a finished run
+//! with all counts 0; a refused reply leaves them, and the answer's, bit for bit.
 #![allow(unsafe_code)]
 
 /// Words of a state. All zeros are the state of a finished run.
@@ -35,7 +38,7 @@ pub mod state {
     pub const LENGTHS: usize = 23;
 }
 
-/// What every call lends. `state` and `answer` are written when a call is accepted.
+/// What every call lends.
 pub struct Lent<'a> {
     /// Whole styles, 57 words each
     pub styles: &'a [u32],
@@ -45,9 +48,9 @@ pub struct Lent<'a> {
     pub working: &'a mut [u32],
     /// Room for the others
     pub unclaimed: &'a mut [u32],
-    /// What the run keeps between calls
+    /// What the run keeps between calls. Written by every opening, and by a reply that is accepted
     pub state: &'a mut [u32; STATE],
-    /// The next question, or the finish
+    /// The next question, or the finish. Written when a call is accepted
     pub answer: &'a mut [u32; ANSWER],
 }
 

@@ -1,7 +1,7 @@
 //! Why a call is turned down.
 use std::fmt;
 
-/// Why a call was turned down. Such a call has written nothing.
+/// Why a call was turned down. Such a call has written no lent word.
 ///
 /// From [`compute_oof_layout_for_area`](crate::compute_oof_layout_for_area) come only `BadExtent`, `BadCandidate` and
 /// `ListFull`: its types have no bad codes, and it replies what it was asked.

@@ -200,11 +200,18 @@ fn refused(number: u32) -> Option<Refusal> {
     Refusal::from_number(number)
 }
 
-/// Each refusal of an opening; no lent word is written, state and answer included
-#[test]
-fn refused_openings_write_nothing() {
+/// A finished run with all counts 0, opened over slices of these lengths
+fn closed(w: &Words) -> [u32; ffi::STATE] {
+    let mut state = [0; ffi::STATE];
+    let lengths = [w.styles.len(), w.layouts.len(), w.working.len(), w.unclaimed.len()];
+    (0..4).for_each(|i| state[ffi::state::LENGTHS + i] = lengths[i] as u32);
+    state
+}
+
+/// Ways to have an opening refused, and how
+const BAD_OPENINGS: [(Refusal, fn(&mut Words)); 13] = {
     use Refusal::*;
-    let damages: [(Refusal, fn(&mut Words)); 13] = [
+    [
         (BadArea, |w| w.codes[0] = 2),
         (BadArea, |w| w.codes[1] = 4),
         (BadArea, |w| w.codes[2] = 4),
@@ -218,15 +225,43 @@ fn refused_openings_write_nothing() {
         (BadStyle, |w| w.styles[0] = 257),
         (BadCandidate, |w| w.candidates[0] = 1),
         (ListFull, |w| w.working.clear()),
-    ];
-    for (at, (refusal, damage)) in damages.into_iter().enumerate() {
+    ]
+};
+
+/// Each refusal of an opening: its state is that of a finished run; no other word is written, the answer's included
+#[test]
+fn refused_openings_write_their_state_only() {
+    for (at, (refusal, damage)) in BAD_OPENINGS.into_iter().enumerate() {
         let mut w = words();
         damage(&mut w);
-        let before = w.clone();
+        let left = Words { state: closed(&w), ..w.clone() };
         assert_eq!(refused(w.open()), Some(refusal), "damage {at}");
-        assert_eq!(w, before, "damage {at}");
+        assert_eq!(w, left, "damage {at}");
     }
     assert_eq!(words().open(), 0);
+}
+
+/// So there is no run to go on with: neither one of zeros, nor the one that stood in the words before
+#[test]
+fn after_a_refused_opening_no_reply_is_taken() {
+    let mut w = Words { state: [0; ffi::STATE], ..words() };
+    w.styles[16] = 3;
+    assert_eq!(refused(w.open()), Some(Refusal::BadStyle));
+    assert_eq!(refused(w.reply(Reply::Both(120.0, 18.0), &[])), Some(Refusal::WrongReply));
+
+    for (at, (refusal, damage)) in BAD_OPENINGS.into_iter().enumerate() {
+        let mut w = words();
+        assert_eq!(w.open(), 0);
+        let mut bad = w.clone();
+        damage(&mut bad);
+        assert_eq!(refused(bad.open()), Some(refusal), "damage {at}");
+        for reply in [Reply::Both(120.0, 18.0), Reply::Width(1.0), Reply::Height(1.0), Reply::LaidOut([0.0; 4])] {
+            let number = if refusal == Refusal::BadExtent && bad.candidates == w.candidates { 2 } else { 6 };
+            assert_eq!(bad.reply(reply, &[]), number, "damage {at}");
+        }
+        let mut next = Words { state: bad.state, ..w };
+        assert_ne!(next.reply(Reply::Both(120.0, 18.0), &[]), 0, "damage {at}");
+    }
 }
 
 /// Each refusal of a reply, to the measure question and to the lay-out question; the run then goes on

@@ -1,44 +1,51 @@
-use Rattle.oof_c.specs.Entry.{words, replying}
-use Rattle.oof_c.proofs.Calls.{told-of}
+use Rattle.run.specs.declared.Step.{Step}
+use Rattle.oof_c.specs.Entry.{stateLeft, repliedInWords}
+use Rattle.oof_c.proofs.Calls.{in-words}
 use borrow.Author.Needs.{needs}
 use Rattle.oof_c.proofs.respond.Statement.{statement}
 use Rattle.oof_c.proofs.respond.Tie as tie
 use Rattle.oof_c.proofs.respond.Reads as reads
 use Rattle.oof_c.proofs.respond.Lts as lts
+use Rattle.oof_c.proofs.keep.Reads as keep-reads
 use Rattle.oof_c.proofs.state.state_of.Reads as state-of-reads
 use Rattle.oof_c.proofs.tell.Reads as tell-reads
 use Rattle.placer.proofs.reply.Reads as reply-reads
 
--- src/lib.rt:92:9
+-- src/lib.rt:110:9
 state-of-requires : tie.Need-state-of-requires
 state-of-requires c κs = search needs
 
--- src/lib.rt:93:9
+-- src/lib.rt:111:9
 reply-requires : tie.Need-reply-requires
 reply-requires c κs = search needs
 
--- src/lib.rt:94:5
+-- src/lib.rt:113:5
+keep-requires : tie.Need-keep-requires
+keep-requires c κs = search needs
+
+-- src/lib.rt:114:5
 tell-requires : tie.Need-tell-requires
 tell-requires c κs = search needs
 
--- src/lib.rt:80:1
+-- src/lib.rt:98:1
 same-length : tie.Need-same-length
 same-length c = search needs
 
--- src/lib.rt:80:1
+-- src/lib.rt:98:1
 same-length-2 : tie.Need-same-length-2
 same-length-2 c = search needs
 
--- src/lib.rt:80:1
+-- src/lib.rt:98:1
 same-length-3 : tie.Need-same-length-3
 same-length-3 c = search needs
 
--- src/lib.rt:80:1
+-- src/lib.rt:98:1
 returns : tie.Need-returns
+unfolding repliedInWords
 returns c =
-    let a = c .before .before .before .before .before .before .before .before .before .before .before .before .before .before .before .before .before .before .before .before .args in
-    told-of _ _ _ _ _ _ _ (replying (a .reply) (a .surfaced .now) (a .styles .now)) (words (a .layouts .now) (a .working .now) (a .unclaimed .now) (a .state .now) (a .answer .now))
-    (rw (c .before .before .before .before .before .before .before .before .before .before .before .before .before .state-of .ensures) at (c .before .before .before .before .before .before .before .before .before .reply .ensures)) (c .tell .ensures)
+    let a = c .before .before .before .before .before .before .before .before .before .before .before .before .before .before .before .before .before .before .before .before .before .args in
+    in-words (λ (t : Step). stateLeft t (a .state .now)) (a .answer .now)
+    (rw (c .before .before .before .before .before .before .before .before .before .before .before .before .before .before .state-of .ensures) at (c .before .before .before .before .before .before .before .before .before .before .reply .ensures)) (c .before .before .keep .ensures) (c .tell .ensures)
 
 pub respond-spec : {M : Type 1} → statement M
 respond-spec =
@@ -46,6 +53,7 @@ respond-spec =
     (tie.spec
     state-of-requires
     reply-requires
+    keep-requires
     tell-requires
     same-length
     same-length-2
