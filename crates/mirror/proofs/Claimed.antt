@@ -35,7 +35,7 @@ use Rattle.mirror_box.specs.Mirrored.{CandidateImage}
 use Rattle.mirror_box.proofs.Law.{image-is-exact}
 use Rattle.mirror.specs.Image.{imageCandidates}
 use Rattle.mirror.specs.Quarter.{QuarterCandidates}
-use Rattle.mirror.specs.Runs.{Each, none, one, Unclaimed, surfaced, opened}
+use Rattle.mirror.specs.Runs.{Each, none, one, Unclaimed, surfaced, image}
 use Rattle.mirror.proofs.Lists.{nobody, first-by}
 use Rattle.mirror.proofs.Candidates.{count-kept, decoded-image, decoded-position, record-words}
 use Rattle.mirror.proofs.Linked.{Ready}
@@ -115,7 +115,7 @@ slice-back by ws w false room = list-back w (keep by false (candidatesIn ws)) (k
 -- the unclaimed records of an opening are images
 pub opened-images : {area : OofPositioningArea} {n : ℕ} {cs cs' : List OofCandidate} → Each (Ready area n) cs cs' → Unclaimed area (length cs) cs cs'
 opened-images none = surfaced none
-opened-images (one r e) = opened (r .image) (opened-images e)
+opened-images (one r e) = image (r .image) (opened-images e)
 
 -- ---- its words break no rule
 

@@ -91,12 +91,12 @@ met = (at-end, on-the-way)
 
     at-end : MirroredRuns (panel .area) 1 (after replies) (imageAfter replies)
     at-end =
-        subst (λ (n : ℕ). MirroredRuns (panel .area) n (after replies) (imageAfter replies)) (computed .left)
+        subst (λ (n : ℕ). MirroredRuns (panel .area) n (after replies) (imageAfter replies)) (computed .atOpening)
         (mirror panel four lent lent' replies [] quarter-panel quarter-table quarter-four refl refl all-fair)
 
     on-the-way : MirroredRuns (panel .area) 1 (after (wrongKind ∷ surfacesFixed ∷ [])) (imageAfter (wrongKind ∷ surfacesFixed ∷ []))
     on-the-way =
-        subst (λ (n : ℕ). MirroredRuns (panel .area) n (after (wrongKind ∷ surfacesFixed ∷ [])) (imageAfter (wrongKind ∷ surfacesFixed ∷ []))) (computed .left)
+        subst (λ (n : ℕ). MirroredRuns (panel .area) n (after (wrongKind ∷ surfacesFixed ∷ [])) (imageAfter (wrongKind ∷ surfacesFixed ∷ []))) (computed .atOpening)
         (mirror panel four lent lent' (wrongKind ∷ surfacesFixed ∷ []) (measured ∷ laidOut ∷ wrongLengths ∷ laidOut ∷ []) quarter-panel quarter-table quarter-four refl refl all-fair)
 
 -- ---- what it asks is needed: each screen has all but one thing

@@ -32,7 +32,7 @@ use Rattle.mirror.proofs.Lists.{first-each}
 use Rattle.mirror.proofs.ReadBack.{Read}
 use Rattle.mirror.proofs.Linked.{Frame, Shared, Own, stateOf, slicesOf, Ready, boxOf, Lists, Laid}
 use Rattle.mirror.proofs.Next.{openedOf, leaving}
-use Rattle.mirror.proofs.Surfaced.{none-kept, left}
+use Rattle.mirror.proofs.Surfaced.{none-kept, count}
 
 -- ---- one run
 
@@ -55,7 +55,7 @@ after styles by c surfaced placed p =
 
 abbrev pub countsAfter : ContainingBlockClaims → Counts → List ℕ → Counts
 countsAfter by c surfaced =
-    record { filled = record { working = c .filled .working; unclaimed = c .filled .unclaimed + left by surfaced }; begun = c .begun; answered = c .answered + 1 }
+    record { filled = record { working = c .filled .working; unclaimed = c .filled .unclaimed + count by surfaced }; begun = c .begun; answered = c .answered + 1 }
 
 pub laid-as : (f : Frame) (styles : List ℕ) (s : Shared) (p : Own) (overflow : Rect) (surfaced : List ℕ) → keep (s .claims) true (candidatesIn surfaced) ≡ []
     → let after = after styles (s .claims) (s .counts) surfaced (placedOf styles p (s .counts) (s .replies) overflow) p in

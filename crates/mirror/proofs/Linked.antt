@@ -42,7 +42,7 @@ pub record Frame : Type 0 where
   pub block : ContainingBlock
   pub styles : List ℕ
   pub extents : Extents
-  pub left : ℕ
+  pub atOpening : ℕ
 
 -- as demand 3 asks, of a table that passes refusal 3
 pub record QuarterFrame (f : Frame) : Type 0 where
@@ -101,7 +101,7 @@ pub record Lists (f : Frame) (filled : Filled) (p p' : Own) : Type 0 where
   pub claimed : Each (Ready (f .block .area) (items (f .styles))) (firstCandidates (filled .working) (p .working)) (firstCandidates (filled .working) (p' .working))
   pub good : badCandidate (f .styles) (p .working) (filled .working) ≡ false
   pub good' : badCandidate (imageStyles (f .styles)) (p' .working) (filled .working) ≡ false
-  pub unclaimed : Unclaimed (f .block .area) (f .left) (firstCandidates (filled .unclaimed) (p .unclaimed)) (firstCandidates (filled .unclaimed) (p' .unclaimed))
+  pub unclaimed : Unclaimed (f .block .area) (f .atOpening) (firstCandidates (filled .unclaimed) (p .unclaimed)) (firstCandidates (filled .unclaimed) (p' .unclaimed))
 
 -- the boxes laid out
 abbrev pub Laid : Frame → ℕ → Own → Own → Type 0
@@ -132,7 +132,7 @@ same-nodes : {area : OofPositioningArea} {n : ℕ} {cs cs' : List OofCandidate} 
 same-nodes none = refl
 same-nodes (one {cs = cs} {cs' = cs'} r e) = rw (r .image .node, same-nodes e) refl
 
-pub mirrored : {f : Frame} {o o' : Outcome} → Linked f o o' → MirroredRuns (f .block .area) (f .left) o o'
+pub mirrored : {f : Frame} {o o' : Outcome} → Linked f o o' → MirroredRuns (f .block .area) (f .atOpening) o o'
 mirrored (linked s p p' h a) =
     record {
       answer = a;

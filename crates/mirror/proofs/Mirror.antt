@@ -18,7 +18,7 @@ use Rattle.run.specs.Theorems.{isRefused, Heard, next, Loan, own, other, nextWi
 use Rattle.mirror.specs.Image.{imageOpening, imageStyles, imageCandidates}
 use Rattle.mirror.specs.Quarter.{QuarterArea, QuarterTable, QuarterCandidates, QuarterReply}
 use Rattle.mirror.specs.Runs as runs
-use Rattle.mirror.specs.Runs.{Message, runNext, imageNext, lengthsOf, isUnread, Fair, AllFair, MirroredRuns, leftAtOpening}
+use Rattle.mirror.specs.Runs.{Message, runNext, imageNext, lengthsOf, isUnread, Fair, AllFair, MirroredRuns, unclaimedAtOpening}
 use Rattle.mirror.specs.Mirror.{Mirror}
 use Rattle.mirror.proofs.Unread.{same-surfaced, both-refused}
 use Rattle.mirror.proofs.Linked.{Frame, QuarterFrame, Shared, Own, stateOf, outcomeOf, slicesOf, Links, Linked, linked, both-are, mirrored}
@@ -57,15 +57,15 @@ module _ (f : Frame) (q : QuarterFrame f) where
     abbrev heard' : Heard
     heard' = record { reply = reply; surfaced = surfaced' }
 
-    abbrev left : Loan → Outcome
-    left l = nextWith (f .styles) (outcomeOf f s p a) heard l
+    abbrev leaves : Loan → Outcome
+    leaves l = nextWith (f .styles) (outcomeOf f s p a) heard l
 
-    abbrev left' : Loan → Outcome
-    left' l = nextWith (imageStyles (f .styles)) (outcomeOf f s p' a') heard' l
+    abbrev leaves' : Loan → Outcome
+    leaves' l = nextWith (imageStyles (f .styles)) (outcomeOf f s p' a') heard' l
 
     -- refused with 2 or 6, whatever words are lent
     unread : (l l' : Loan) → length (lentBy reply surfaced) ≡ length (lentBy reply surfaced') → lengthsOf (f .extents) l ≡ lengthsOf (f .extents) l'
-        → isUnread (left l .step .answer) ≡ true → Linked f (left l) (left' l')
+        → isUnread (leaves l .step .answer) ≡ true → Linked f (leaves l) (leaves' l')
     unfolding takenBy
     unread l l' same lengths u =
         let lent = lentIn (f .styles) p l in
@@ -76,25 +76,26 @@ module _ (f : Frame) (q : QuarterFrame f) where
         (ap isUnread (answered f s (f .styles) p a heard l) ∙ u) in
         both-are f (stays f s (f .styles) p a heard l (r .1)) (stays f s (imageStyles (f .styles)) p' a' heard' l' (r .2)) (linked s p p' links runs.refused)
 
+    -- what is asked of an accepted call
+    abbrev IfAccepted : Loan → Type 0
+    IfAccepted l = isRefused (leaves l .step .answer) ≡ false → QuarterReply reply × (keep (s .claims) true (candidatesIn (lentBy reply surfaced)) ≡ [])
+
     -- both are lent their own slices
-    read : lentBy reply surfaced ≡ lentBy reply surfaced'
-        → (isRefused (left own .step .answer) ≡ false → QuarterReply reply × (keep (s .claims) true (candidatesIn (lentBy reply surfaced)) ≡ []))
-        → Linked f (left own) (left' own)
+    read : lentBy reply surfaced ≡ lentBy reply surfaced' → IfAccepted own → Linked f (leaves own) (leaves' own)
     unfolding next
     read same fair =
         both-are f refl (sym (same-surfaced (stateOf f s p') reply surfaced surfaced' (slicesOf (imageStyles (f .styles)) p') same))
         (replied-linked f q s p p' links reply surfaced fair)
 
-    either : (l l' : Loan) → Fair (stateOf f s p) (left l .step .answer) (record { turn = record { heard = heard; loan = l }; image = record { heard = heard'; loan = l' } })
-        → Linked f (left l) (left' l')
-    either l l' fair = go (isUnread (left l .step .answer)) refl
+    either : (l l' : Loan) → Fair (stateOf f s p) (leaves l .step .answer) (record { turn = record { heard = heard; loan = l }; image = record { heard = heard'; loan = l' } })
+        → Linked f (leaves l) (leaves' l')
+    either l l' fair = go (isUnread (leaves l .step .answer)) refl
       where
-        go : (b : Bool) → isUnread (left l .step .answer) ≡ b → Linked f (left l) (left' l')
+        go : (b : Bool) → isUnread (leaves l .step .answer) ≡ b → Linked f (leaves l) (leaves' l')
         go true u = unread l l' (fair .alike .surfaced) (fair .alike .slices) u
         go false u =
-            let own-slices = fair .words u .slices in
-            rw (own-slices, fair .words u .imageSlices)
-            (read (fair .words u .surfaced) (subst (λ (l : Loan). isRefused (left l .step .answer) ≡ false → QuarterReply reply × (keep (s .claims) true (candidatesIn (lentBy reply surfaced)) ≡ [])) own-slices (λ e. (fair .quarters e, fair .unclaimed e))))
+            let same = fair .words u in
+            rw (same .slices, same .imageSlices) (read (same .surfaced) (subst IfAccepted (same .slices) (λ e. (fair .quarters e, fair .unclaimed e))))
 
   pub one-reply : {o o' : Outcome} (m : Message) → Linked f o o' → Fair (o .step .state) (runNext (f .styles) o m .step .answer) m
       → Linked f (runNext (f .styles) o m) (imageNext (imageStyles (f .styles)) o' m)
@@ -123,7 +124,7 @@ from-opening : (o : Opening) (candidates : List ℕ) (lent : Lent) (layouts work
     → QuarterArea (o .area) → QuarterTable (lent .styles) → QuarterCandidates candidates
     → extentsOf lent ≡ extentsOf (imageLent o candidates lent layouts working unclaimed)
     → AllFair (lent .styles) (opened o candidates lent) (soFar ++ later)
-    → MirroredRuns (o .area) (leftAtOpening o candidates lent) (foldl (runNext (lent .styles)) (opened o candidates lent) soFar)
+    → MirroredRuns (o .area) (unclaimedAtOpening o candidates lent) (foldl (runNext (lent .styles)) (opened o candidates lent) soFar)
     (foldl (imageNext (imageStyles (lent .styles))) (opened (imageOpening o) (imageCandidates (o .area) candidates) (imageLent o candidates lent layouts working unclaimed)) soFar)
 from-opening o candidates lent layouts working unclaimed soFar later area table quarter same fair =
     mirrored
@@ -134,7 +135,7 @@ pub mirror : Mirror
 mirror o candidates lent lent' soFar later area table quarter image same fair =
     subst
     (λ (lent' : Lent).
-    MirroredRuns (o .area) (leftAtOpening o candidates lent) (foldl (runNext (lent .styles)) (opened o candidates lent) soFar)
+    MirroredRuns (o .area) (unclaimedAtOpening o candidates lent) (foldl (runNext (lent .styles)) (opened o candidates lent) soFar)
     (foldl (imageNext (lent' .styles)) (opened (imageOpening o) (imageCandidates (o .area) candidates) lent') soFar))
     (sym with-image)
     (from-opening o candidates lent (lent' .layouts) (lent' .working) (lent' .unclaimed) soFar later area table quarter (same ∙ ap extentsOf with-image) fair)

@@ -8,6 +8,7 @@ use lib.Dec.{lit<}
 use lib.ListN.{length, getD}
 use borrow.Author.Tests.{ltb-false, le-leb}
 use Rattle.geometry.specs.Geometry.{zeroRect, zeroSize, zeroPoint}
+use Rattle.geometry.specs.declared.Rect.{Rect}
 use Rattle.refusal.specs.declared.Refusal.{Refusal}
 use Rattle.style.specs.declared.Direction.the-variants.{Ltr}
 use Rattle.style.specs.declared.Overflow.the-variants.{Visible}
@@ -25,11 +26,13 @@ use Rattle.run.specs.declared.Opening.{Opening}
 use Rattle.run.specs.declared.Progress.the-variants.{Finished}
 use Rattle.run.specs.declared.Counts.{Counts}
 use Rattle.run.specs.declared.Extents.{Extents}
+use Rattle.run.specs.declared.Opened.{Opened}
+use Rattle.run.specs.declared.Step.{Step}
 use Rattle.run.specs.declared.Answer.the-variants.{Refused}
 use Rattle.run.specs.Call.{Lent, Outcome, unwritten}
 use Rattle.run.specs.Refusals.{Verdict, accepted, refused, badArea, badStyle, badCandidate}
-use Rattle.run.specs.Run.{claimsOf, blockOf, extentsOf, proceeding, openingVerdict, closed, begun, openedBy, opened}
-use Rattle.run.proofs.Ways.{neither}
+use Rattle.run.specs.Run.{claimsOf, blockOf, extentsOf, asking, finishing, proceeding, openingVerdict, closed, begun, openedBy, opened}
+use Rattle.run.proofs.Ways.{neither, NextWay, asks, ends, next-way}
 use Rattle.exact.proofs.Same.{zero-same, equal}
 use Rattle.mirror_box.specs.Image as box
 use Rattle.mirror_box.specs.Quarter.{QuarterBlock, QuarterStyle}
@@ -37,7 +40,7 @@ use Rattle.mirror_box.specs.Mirrored.{SameRect}
 use Rattle.mirror.specs.Image.{imageOpening, imageStyles, imageCandidates}
 use Rattle.mirror.specs.Quarter.{QuarterArea, QuarterItem, QuarterTable, QuarterCandidates}
 use Rattle.mirror.specs.Runs as runs
-use Rattle.mirror.specs.Runs.{Each, none, Unclaimed, surfaced, leftBy, leftAtOpening}
+use Rattle.mirror.specs.Runs.{Each, none, Unclaimed, surfaced, unclaimedAtOpening}
 use Rattle.mirror.proofs.Styles.{direction-decoded, items-kept, no-ratio}
 use Rattle.mirror.proofs.Lists.{nobody, each-length, each-at, each-kept}
 use Rattle.mirror.proofs.Verdicts.{OpeningPassed, opening-passed, same-opening}
@@ -71,11 +74,30 @@ opened-as : (o : Opening) (candidates : List ℕ) (lent : Lent) {v : Verdict} �
 unfolding opened
 opened-as o candidates lent e = rw e refl
 
+-- how many unclaimed records a run holds
+abbrev held : Outcome → ℕ
+held o = o .step .state .counts .filled .unclaimed
+
+-- the next question, or the finish, fills no list
+same-filled : (styles working : List ℕ) (run : Opened) (counts : Counts) (overflow : Rect)
+    → proceeding styles working run counts overflow .state .counts .filled .unclaimed ≡ counts .filled .unclaimed
+unfolding asking finishing
+same-filled styles working run counts overflow = go (next-way styles working run counts overflow)
+  where
+    go : NextWay styles working run counts overflow → proceeding styles working run counts overflow .state .counts .filled .unclaimed ≡ counts .filled .unclaimed
+    go (asks h e) = ap (λ (step : Step). step .state .counts .filled .unclaimed) e
+    go (ends h e) = ap (λ (step : Step). step .state .counts .filled .unclaimed) e
+
+-- so after the opening they are as it swept them
+held-at-opening : (o : Opening) (candidates : List ℕ) (lent : Lent) → held (begun o candidates lent) ≡ length (keep (claimsOf o) false (candidatesIn candidates))
+unfolding begun
+held-at-opening o candidates lent = same-filled (lent .styles) _ _ _ zeroRect
+
 -- ---- both are opened
 
 module _ (o : Opening) (candidates : List ℕ) (lent : Lent) (layouts working unclaimed : List ℕ) where
   abbrev pub frame : Frame
-  frame = record { block = blockOf o; styles = lent .styles; extents = extentsOf lent; left = leftAtOpening o candidates lent }
+  frame = record { block = blockOf o; styles = lent .styles; extents = extentsOf lent; atOpening = unclaimedAtOpening o candidates lent }
 
   -- the image's slices
   abbrev pub imageLent : Lent
@@ -108,7 +130,7 @@ module _ (o : Opening) (candidates : List ℕ) (lent : Lent) (layouts working un
 
     closed-as : (r : Refusal) → unwritten imageLent (record { state = closed imageLent; answer = Refused r }) ≡ outcomeOf frame over (untouched imageLent) (Refused r)
     unfolding closed nobodys
-    closed-as r = ap (λ (e : Extents). outcomeOf (record { block = blockOf o; styles = lent .styles; extents = e; left = leftAtOpening o candidates lent }) over (untouched imageLent) (Refused r)) (sym same)
+    closed-as r = ap (λ (e : Extents). outcomeOf (record { block = blockOf o; styles = lent .styles; extents = e; atOpening = unclaimedAtOpening o candidates lent }) over (untouched imageLent) (Refused r)) (sym same)
 
     turned-down : (r : Refusal) → openingVerdict o candidates lent ≡ refused r
         → Linked frame (unwritten lent (record { state = closed lent; answer = Refused r })) (unwritten imageLent (record { state = closed imageLent; answer = Refused r }))
@@ -124,7 +146,7 @@ module _ (o : Opening) (candidates : List ℕ) (lent : Lent) (layouts working un
                 claimed = none;
                 good = no-records (lent .styles) (lent .working);
                 good' = no-records (imageStyles (lent .styles)) working;
-                unclaimed = subst (λ (n : ℕ). Unclaimed (o .area) n [] []) (sym (ap (λ (v : Verdict). leftBy v o candidates) d)) (surfaced none);
+                unclaimed = subst (λ (n : ℕ). Unclaimed (o .area) n [] []) (sym (ap held (opened-as o candidates lent d))) (surfaced none);
               };
           laid = λ i h. absurd (omega arith);
           overflow = zero-rect;
@@ -210,7 +232,7 @@ module _ (o : Opening) (candidates : List ℕ) (lent : Lent) (layouts working un
                   rw (items-kept (lent .styles), kept-alike true)
                   (ap not (front-good working (inImage true) (passed' .room .0) (items (lent .styles)) image-there));
               unclaimed = rw (slice-back by candidates (lent .unclaimed) false (passed .room .1), image-back false unclaimed (passed' .room .1))
-                  (subst (λ (n : ℕ). Unclaimed (o .area) n (inList false) (inImage false)) (sym (ap (λ (v : Verdict). leftBy v o candidates) d)) (opened-images (ready false)));
+                  (subst (λ (n : ℕ). Unclaimed (o .area) n (inList false) (inImage false)) (sym (ap held (opened-as o candidates lent d) ∙ held-at-opening o candidates lent)) (opened-images (ready false)));
             }
 
         begins : Linked frame (begun o candidates lent) (begun (imageOpening o) image imageLent)

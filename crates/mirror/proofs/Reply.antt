@@ -40,7 +40,7 @@ use Rattle.mirror.proofs.Linked as link
 use Rattle.mirror.proofs.Linked.{Frame, QuarterFrame, Shared, Own, stateOf, slicesOf, Ready, boxOf, Lists, Blocks, Links, Linked, linked, both-are}
 use Rattle.mirror.proofs.Box.{laid-same, read-same}
 use Rattle.mirror.proofs.Next.{ready-at, asks-linked, proceeds-linked}
-use Rattle.mirror.proofs.Surfaced.{left-unclaimed}
+use Rattle.mirror.proofs.Surfaced.{surfaced-unclaimed}
 use Rattle.mirror.proofs.LaidOut.{placedOf, after, countsAfter, laid-as, laid-next}
 
 -- ---- both runs
@@ -121,7 +121,7 @@ module _ (f : Frame) (q : QuarterFrame f) (s : Shared) (p p' : Own) (links : Lin
             good = old .good;
             good' = old .good';
             unclaimed =
-                left-unclaimed (s .claims) surfaced (p .unclaimed) (p' .unclaimed) (s .counts .filled .unclaimed) (rw lay at (passed .room .1)) (rw lay at (passed' .room .1))
+                surfaced-unclaimed (s .claims) surfaced (p .unclaimed) (p' .unclaimed) (s .counts .filled .unclaimed) (rw lay at (passed .room .1)) (rw lay at (passed' .room .1))
                 (placed .layout .location) (placed' .layout .location) (mirrored-box .layout .y) (old .unclaimed);
           }
 

@@ -46,7 +46,7 @@ use Rattle.run.specs.Call.{Lent, Outcome}
 use Rattle.run.specs.Run.{opened}
 use Rattle.run.specs.Theorems.{Loan, own, other, Turn, laidSoFar}
 use Rattle.mirror.specs.Image.{imageOpening, imageStyles, imageCandidates, otherDirection, otherEdge, across, imageStyle, reflectedWord, imageCandidate, listed, eachRecord}
-use Rattle.mirror.specs.Runs.{Message, runNext, imageNext, isUnread, surfacedIn, unclaimedSoFar, layoutOfBox, leftAtOpening}
+use Rattle.mirror.specs.Runs.{Message, runNext, imageNext, isUnread, surfacedIn, unclaimedSoFar, layoutOfBox, unclaimedAtOpening}
 
 -- ---- words
 
@@ -272,7 +272,7 @@ pub record Computed : Type 0 where
   -- 50.5, 75.875 and 50.5
   pub image : figures (imageAfter replies) ≡ 14 ∷ 3 ∷ 1111490560 ∷ 1106247680 ∷ 1117241344 ∷ 1101135872 ∷ 1111490560 ∷ 1106247680 ∷ []
   -- one unclaimed record of the opening, from 30 on and up to 86; and one surfaced, moved to where its box stands
-  pub left : leftAtOpening panel four lent ≡ 1
+  pub atOpening : unclaimedAtOpening panel four lent ≡ 1
   pub unclaimed : unclaimedWords (after replies) ≡ 1106247680 ∷ 1108869120 ∷ []
   pub imageUnclaimed : unclaimedWords (imageAfter replies) ≡ 1118568448 ∷ 1111490560 ∷ []
   -- nobody claims what is surfaced
@@ -301,7 +301,7 @@ computed =
       answers = refl;
       run = refl;
       image = refl;
-      left = refl;
+      atOpening = refl;
       unclaimed = refl;
       imageUnclaimed = refl;
       free = refl;

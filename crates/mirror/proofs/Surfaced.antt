@@ -16,7 +16,7 @@ use Rattle.sweep.specs.declared.Shift.{Shift}
 use Rattle.sweep.specs.declared.Shift.the-variants.{By}
 use Rattle.sweep.proofs.Steps.{kept-moved}
 use Rattle.sweep.proofs.Laws.{swept-fits, kept-fits, appended-back}
-use Rattle.mirror.specs.Runs.{Each, none, one, SameButX, Unclaimed, surfaced, opened}
+use Rattle.mirror.specs.Runs.{Each, none, one, SameButX, Unclaimed, surfaced, image}
 use Rattle.mirror.proofs.Lists.{each-kept}
 
 nothing : (cs : List OofCandidate) → length cs ≡ 0 → cs ≡ []
@@ -33,7 +33,7 @@ each-moved a b e [] = none
 each-moved a b e (c ∷ cs) = one (record { node = refl; order = refl; position = refl; align = refl; y = ap (shiftedAxis (c .place .y)) e }) (each-moved a b e cs)
 
 more-unclaimed : {area : OofPositioningArea} {n : ℕ} {cs cs' ds ds' : List OofCandidate} → Unclaimed area n cs cs' → Each SameButX ds ds' → Unclaimed area n (cs ++ ds) (cs' ++ ds')
-more-unclaimed (opened i u) e = opened i (more-unclaimed u e)
+more-unclaimed (image i u) e = image i (more-unclaimed u e)
 more-unclaimed (surfaced u) e = surfaced (joined u e)
   where
     joined : {cs cs' ds ds' : List OofCandidate} → Each SameButX cs cs' → Each SameButX ds ds' → Each SameButX (cs ++ ds) (cs' ++ ds')
@@ -42,24 +42,24 @@ more-unclaimed (surfaced u) e = surfaced (joined u e)
 
 module _ (by : ContainingBlockClaims) (words : List ℕ) where
   -- how many they are
-  abbrev pub left : ℕ
-  left = length (keep by false (candidatesIn words))
+  abbrev pub count : ℕ
+  count = length (keep by false (candidatesIn words))
 
-  module _ (u : List ℕ) (held : ℕ) (room : candidateWidth * (held + left) ≤ length u) where
+  module _ (u : List ℕ) (held : ℕ) (room : candidateWidth * (held + count) ≤ length u) where
     -- the unclaimed list, read back
-    pub left-back : (at : Point) → firstCandidates (held + left) (appended u held (keep by false (map (moved (By at)) (candidatesIn words))))
+    pub unclaimed-back : (at : Point) → firstCandidates (held + count) (appended u held (keep by false (map (moved (By at)) (candidatesIn words))))
         ≡ firstCandidates held u ++ keep by false (map (moved (By at)) (candidatesIn words))
-    left-back at =
+    unclaimed-back at =
         let cs = keep by false (map (moved (By at)) (candidatesIn words)) in
-        let e : length cs ≡ left = kept-moved by false (By at) (candidatesIn words) in
+        let e : length cs ≡ count = kept-moved by false (By at) (candidatesIn words) in
         ap (λ (n : ℕ). firstCandidates (held + n) (appended u held cs)) (sym e)
         ∙ appended-back u held cs (kept-fits by (map (moved (By at)) (candidatesIn words)) (swept-fits (By at) words) .1) (rw e room)
 
-  pub left-unclaimed : {area : OofPositioningArea} {n : ℕ} (u u' : List ℕ) (held : ℕ) → candidateWidth * (held + left) ≤ length u → candidateWidth * (held + left) ≤ length u'
+  pub surfaced-unclaimed : {area : OofPositioningArea} {n : ℕ} (u u' : List ℕ) (held : ℕ) → candidateWidth * (held + count) ≤ length u → candidateWidth * (held + count) ≤ length u'
       → (a b : Point) → a .y ≡ b .y
       → Unclaimed area n (firstCandidates held u) (firstCandidates held u')
-      → Unclaimed area n (firstCandidates (held + left) (appended u held (keep by false (map (moved (By a)) (candidatesIn words)))))
-      (firstCandidates (held + left) (appended u' held (keep by false (map (moved (By b)) (candidatesIn words)))))
-  left-unclaimed u u' held r r' a b e h =
-      rw (left-back u held r a, left-back u' held r' b)
+      → Unclaimed area n (firstCandidates (held + count) (appended u held (keep by false (map (moved (By a)) (candidatesIn words)))))
+      (firstCandidates (held + count) (appended u' held (keep by false (map (moved (By b)) (candidatesIn words)))))
+  surfaced-unclaimed u u' held r r' a b e h =
+      rw (unclaimed-back u held r a, unclaimed-back u' held r' b)
       (more-unclaimed h (each-kept by false (λ c c' s. s .position) (each-moved a b e (candidatesIn words))))

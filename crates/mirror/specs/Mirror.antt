@@ -1,6 +1,7 @@
--- Demand 3. Take a run and its mirror image, and give both one list of replies, whatever it holds: after the opening (the empty list) and
--- after each reply (a list that ends there) both have given the same answer, and each box laid out by then stands mirrored.
--- `proofs/Mirror.antt` proves it. Left-to-right isn't asked: the theorem holds for a run of either direction. Assumes nothing.
+-- Demand 3. Take a run and its mirror image, and give both one list of replies, refused ones included. After the opening and after each
+-- reply, both have given the same answer, and each box laid out by then stands mirrored. `proofs/Mirror.antt` proves it.
+-- The list is `soFar ++ later`: `soFar` is empty after the opening, and any beginning of the list after a reply.
+-- Left-to-right isn't asked: the theorem holds for a run of either direction. Assumes nothing.
 use Prim.Native.Nat.{ℕ}
 use mathlib.Core.Path.{_≡_}
 use mathlib.Core.List.{List, _++_, foldl}
@@ -9,7 +10,7 @@ use Rattle.run.specs.Call.{Lent}
 use Rattle.run.specs.Run.{opened, extentsOf}
 use Rattle.mirror.specs.Image.{imageOpening, imageStyles, imageCandidates}
 use Rattle.mirror.specs.Quarter.{QuarterArea, QuarterTable, QuarterCandidates}
-use Rattle.mirror.specs.Runs.{Message, runNext, imageNext, AllFair, MirroredRuns, leftAtOpening}
+use Rattle.mirror.specs.Runs.{Message, runNext, imageNext, AllFair, MirroredRuns, unclaimedAtOpening}
 
 abbrev pub Mirror : Type 0
 Mirror =
@@ -18,7 +19,8 @@ Mirror =
     → QuarterArea (o .area) → QuarterTable (lent .styles) → QuarterCandidates candidates
     -- the image's slices are as long; but for its styles they may hold any words
     → lent' .styles ≡ imageStyles (lent .styles) → extentsOf lent ≡ extentsOf lent'
-    -- the whole list: accepted replies are of whole quarter pixels and surface no box that is claimed; any reply may be refused
+    -- the whole list: the same kind, values and slice lengths for both; accepted replies are of whole quarter pixels, and surface no box
+    -- that is claimed
     → AllFair (lent .styles) (opened o candidates lent) (soFar ++ later)
-    → MirroredRuns (o .area) (leftAtOpening o candidates lent) (foldl (runNext (lent .styles)) (opened o candidates lent) soFar)
+    → MirroredRuns (o .area) (unclaimedAtOpening o candidates lent) (foldl (runNext (lent .styles)) (opened o candidates lent) soFar)
     (foldl (imageNext (lent' .styles)) (opened (imageOpening o) (imageCandidates (o .area) candidates) lent') soFar)

@@ -1,4 +1,5 @@
--- A run and its mirror image, fed one list of replies: what the host may lend, and what the two then have in common. Assumes nothing.
+-- A run and its mirror image, given one list of replies: what is asked of each reply, and what the two then have in common.
+-- Assumes nothing.
 use Prim.Native.Nat.{ℕ, suc, _<_}
 use mathlib.Core.Path.{_≡_}
 use mathlib.Core.Bool.{Bool, false, _||_}
@@ -13,7 +14,7 @@ use Rattle.tree.specs.declared.layout.OofPositioningArea.{OofPositioningArea}
 use Rattle.records.specs.Records.{recordAt}
 use Rattle.tree_record.specs.Candidate.{candidateWidth, candidateOf}
 use Rattle.tree_record.specs.Layout.{layoutWidth, layoutOf}
-use Rattle.sweep.specs.Sweep.{firstCandidates, candidatesIn, claimed, others}
+use Rattle.sweep.specs.Sweep.{firstCandidates, candidatesIn, claimed}
 use Rattle.oof_box.specs.declared.question.Question.{Question}
 use Rattle.run.specs.declared.Extents.{Extents}
 use Rattle.run.specs.declared.Finish as ending
@@ -22,16 +23,15 @@ use Rattle.run.specs.declared.Answer.the-variants.{Ask, Finish, Refused}
 use Rattle.run.specs.Call.{Lent, Outcome}
 use Rattle.run.specs.declared.Opening.{Opening}
 use Rattle.run.specs.declared.State.{State}
-use Rattle.run.specs.Refusals as verdict
-use Rattle.run.specs.Refusals.{Verdict, lentBy}
-use Rattle.run.specs.Run.{extentsOf, openingVerdict, claimsOf}
+use Rattle.run.specs.Refusals.{lentBy}
+use Rattle.run.specs.Run.{extentsOf, opened}
 use Rattle.run.specs.Theorems.{isRefused, Loan, own, other, Turn, turned, laidSoFar, claimedSoFar, hoisted}
 use Rattle.mirror_box.specs.Mirrored.{CandidateImage, SameQuestion, MirroredLayout, SameRect}
 use Rattle.mirror.specs.Quarter.{QuarterReply}
 
 -- ---- replies
 
--- one reply, as the run is given it and as its image is
+-- a reply that both are given, with what each is lent
 pub record Message : Type 0 where
   pub turn : Turn
   pub image : Turn
@@ -42,45 +42,45 @@ runNext styles o m = turned styles o (m .turn)
 abbrev pub imageNext : List ℕ → Outcome → Message → Outcome
 imageNext styles o m = turned styles o (m .image)
 
--- ---- what is asked of them
+-- ---- what is asked of them: `Fair`, at the end, of each
 
--- the surfaced words of a lay out reply; those lent with a measure reply nobody looks at
+-- the surfaced words of a lay out reply: those lent with a measure reply are neither checked nor read
 abbrev pub surfacedIn : Turn → List ℕ
 surfacedIn t = lentBy (t .heard .reply) (t .heard .surfaced)
 
--- how long the lent slices are
+-- the lengths of the slices that are lent
 abbrev pub lengthsOf : Extents → Loan → Extents
 lengthsOf opened own = opened
 lengthsOf opened (other lent) = extentsOf lent
 
--- the same for both: the reply's kind and values, and the slice lengths
+-- "the same kind, values and slice lengths for both"
 pub record Alike (opened : Extents) (t t' : Turn) : Type 0 where
   pub reply : t .heard .reply ≡ t' .heard .reply
   pub surfaced : length (surfacedIn t) ≡ length (surfacedIn t')
   pub slices : lengthsOf opened (t .loan) ≡ lengthsOf opened (t' .loan)
 
--- nobody else writes the lent words: both are lent their own slices. What a box surfaces is part of the reply: the same words for both
+-- "nobody else writes the lent words": both are lent their own slices. What a box surfaces is part of its reply: the same words for both
 pub record SameWords (t t' : Turn) : Type 0 where
   pub slices : t .loan ≡ own
   pub imageSlices : t' .loan ≡ own
   pub surfaced : surfacedIn t ≡ surfacedIn t'
 
--- refused with 2 or 6: lengths, the reply's kind and the state decide these, whatever words the slices hold
+-- refused with 2 or 6, which go by lengths, the reply's kind and the state: so it would be with any words in the slices
 abbrev pub isUnread : Answer → Bool
 isUnread (Ask q) = false
 isUnread (Finish f) = false
 isUnread (Refused r) = eqb (numberOf r) 2 || eqb (numberOf r) 6
 
--- one reply, by the state that the run's last call returned and by its answer to this one
+-- by the state that the run's last call returned, and the run's answer to this one
 pub record Fair (before : State) (answer : Answer) (m : Message) : Type 0 where
   pub alike : Alike (before .opened .extents) (m .turn) (m .image)
-  -- unless the words don't matter
+  -- unless no word was read
   pub words : isUnread answer ≡ false → SameWords (m .turn) (m .image)
-  -- if it is accepted: its values are whole quarter pixels, and no box that it surfaces is claimed
+  -- an accepted reply: its values are whole quarter pixels, and no box that it surfaces is claimed
   pub quarters : isRefused answer ≡ false → QuarterReply (m .turn .heard .reply)
   pub unclaimed : isRefused answer ≡ false → claimed (before .opened .claims) (candidatesIn (surfacedIn (m .turn))) ≡ []
 
--- each of a list, o being what the run's last call left
+-- each reply of a list, o being what the run's last call left
 abbrev pub AllFair : List ℕ → Outcome → List Message → Type 0
 AllFair styles o [] = Unit {0}
 AllFair styles o (m ∷ ms) = Fair (o .step .state) (runNext styles o m .step .answer) m × AllFair styles (runNext styles o m) ms
@@ -106,18 +106,14 @@ pub record SameButX (c c' : OofCandidate) : Type 0 where
   pub align : c .place .x .align ≡ c' .place .x .align
   pub y : c .place .y ≡ c' .place .y
 
--- unclaimed records: the first n, of the opening's candidates, mirror images; after them those that boxes surfaced
+-- unclaimed records: the first n, which are the opening's, are mirror images; after them stand those that boxes surfaced
 pub data Unclaimed (area : OofPositioningArea) : ℕ → List OofCandidate → List OofCandidate → Type 0 where
   surfaced : {cs cs' : List OofCandidate} → Each SameButX cs cs' → Unclaimed area 0 cs cs'
-  opened : {n : ℕ} {c c' : OofCandidate} {cs cs' : List OofCandidate} → CandidateImage area c c' → Unclaimed area n cs cs' → Unclaimed area (suc n) (c ∷ cs) (c' ∷ cs')
+  image : {n : ℕ} {c c' : OofCandidate} {cs cs' : List OofCandidate} → CandidateImage area c c' → Unclaimed area n cs cs' → Unclaimed area (suc n) (c ∷ cs) (c' ∷ cs')
 
 -- how many of the opening's candidates are unclaimed: none, if it was refused
-abbrev pub leftBy : Verdict → Opening → List ℕ → ℕ
-leftBy verdict.accepted o candidates = length (others (claimsOf o) (candidatesIn candidates))
-leftBy (verdict.refused r) o candidates = 0
-
-abbrev pub leftAtOpening : Opening → List ℕ → Lent → ℕ
-leftAtOpening o candidates lent = leftBy (openingVerdict o candidates lent) o candidates
+abbrev pub unclaimedAtOpening : Opening → List ℕ → Lent → ℕ
+unclaimedAtOpening o candidates lent = opened o candidates lent .step .state .counts .filled .unclaimed
 
 -- the unclaimed records so far
 abbrev pub unclaimedSoFar : Outcome → List OofCandidate
@@ -127,7 +123,7 @@ unclaimedSoFar o = firstCandidates (o .step .state .counts .filled .unclaimed) (
 abbrev pub layoutOfBox : Outcome → ℕ → Layout
 layoutOfBox o i = layoutOf (recordAt layoutWidth (o .layouts) (candidateOf (recordAt candidateWidth (o .working) i) .node))
 
-pub record MirroredRuns (area : OofPositioningArea) (left : ℕ) (o o' : Outcome) : Type 0 where
+pub record MirroredRuns (area : OofPositioningArea) (atOpening : ℕ) (o o' : Outcome) : Type 0 where
   -- the answer to the last call
   pub answer : SameAnswer (o .step .answer) (o' .step .answer)
   -- filled records, boxes begun, questions answered
@@ -136,7 +132,7 @@ pub record MirroredRuns (area : OofPositioningArea) (left : ℕ) (o o' : Outcome
   pub overflow : SameRect (o .step .state .overflow) (o' .step .state .overflow)
   pub order : hoisted o ≡ hoisted o'
   pub claimed : Each (CandidateImage area) (claimedSoFar o) (claimedSoFar o')
-  pub unclaimed : Unclaimed area left (unclaimedSoFar o) (unclaimedSoFar o')
+  pub unclaimed : Unclaimed area atOpening (unclaimedSoFar o) (unclaimedSoFar o')
   pub laid : laidSoFar o ≡ laidSoFar o'
   -- as far from the area's left edge as from its right edge, left and right exchanged, all else equal
   pub boxes : (i : ℕ) → i < laidSoFar o → MirroredLayout area (layoutOfBox o i) (layoutOfBox o' i)
