@@ -26,15 +26,7 @@ use Rattle.sweep.specs.Sweep.{candidatesIn, claimed, others}
 use Rattle.sweep.specs.declared.Filled.{Filled}
 use Rattle.refusal.specs.declared.Refusal.{Refusal}
 use Rattle.refusal.specs.declared.Refusal.the-variants.{BadArea, BadExtent, BadStyle, BadCandidate, ListFull, WrongReply}
-use Rattle.geometry.specs.Geometry.{bothPresent}
-use Rattle.geometry.specs.declared.MaybeSize.{MaybeSize}
-use Rattle.geometry.specs.declared.Size.{Size}
-use Rattle.common.specs.declared.sizing_keyword.SizingKeywordResolution.{SizingKeywordResolution}
-use Rattle.common.specs.declared.sizing_keyword.SizingKeywordResolution.the-variants.{NoKeyword, Exact, Measure}
-use Rattle.oof_resolve.specs.Resolved.{resolvedBox}
-use Rattle.oof_box.specs.Box.{keywordStretch, sizeKeywords}
-use Rattle.oof_box.specs.Cut.{taken, isFilled, isFirst, stretchedBy, keywordAsked, sizeAsked, orLater, askedOf, askedAfter}
-use Rattle.oof_box.specs.declared.question.Asked.{Asked}
+use Rattle.oof_box.specs.Cut.{taken}
 use Rattle.oof_box.specs.declared.question.Replies.{Replies}
 use Rattle.oof_box.specs.declared.question.Reply.{Reply}
 use Rattle.oof_box.specs.declared.question.Reply.the-variants as reply
@@ -54,11 +46,12 @@ use Rattle.run.specs.Call.{Lent}
 use Rattle.run.specs.Refusals.{Verdict, accepted, refused, badArea, ragged, badTable, badList, badSlices, otherLengths, isBad, badStyle, badCandidate, listFull, wrongCounts, lentBy}
 use Rattle.run.specs.Run.{extentsOf, claimsOf, noneFilled, opened, openedBy, openingVerdict, takenIn, takenBy, isWrong, replied, repliedBy, replyVerdict}
 use Rattle.run.specs.Conditions.{AreaIsBad, GoodTable, Whole, GoodList, SlicesAreBad, Among, Allowed, StyleIsBad, places, word, AxisIsBad, RecordIsBad, CandidateIsBad, QuestionKind, both, width, height, layOut, kindOfQuestion, kindOfReply, kindAt, NotAsked, CountsAreWrong, openingTests, replyTests}
-use Rattle.run.specs.Theorems.{isRefused, OpeningRefusedExactly, OpeningAcceptedExactly, ReplyRefusedExactly, ReplyAcceptedExactly, StageTellsKind}
+use Rattle.run.specs.Theorems.{isRefused, OpeningRefusedExactly, OpeningAcceptedExactly, ReplyRefusedExactly, ReplyAcceptedExactly, OtherLengthsRefused, StageTellsKind}
 use Rattle.run.proofs.Ways.{passed, neither}
 use Rattle.run.proofs.Refusals.{begun-accepts, measured-accepts, laid-accepts}
 use Rattle.run.proofs.Decides.{Decides, by-iff, either, regroup, opposite, refutes, both-fail, guard, last, below, at-most, equal, not-every, Says, no-more, then, refused-first, accepted-none}
 use Rattle.run.proofs.Decides as decides
+use Rattle.run.proofs.EachQuestion.{of-asked}
 
 -- ---- 1
 
@@ -407,33 +400,13 @@ reply-refused-exactly s given surfaced lent r = Iff·trans (reply-goes s given s
 pub reply-accepted-exactly : ReplyAcceptedExactly
 reply-accepted-exactly s given surfaced lent = Iff·trans (reply-goes s given surfaced lent .none) (accepted-none (reply-says s given surfaced lent))
 
+-- slices of other lengths
+pub other-lengths-refused : OtherLengthsRefused
+other-lengths-refused s given surfaced lent d = reply-refused-exactly s given surfaced lent BadExtent .1 (inl (inr (inl d), refl))
+
 -- ---- stages tell kinds
 
-abbrev TellsKind : Asked → Type 0
-TellsKind a = kindOfQuestion (a .question) ≡ kindAt (a .stage)
-
-chosen : (b : Bool) (x y : Asked) → TellsKind x → TellsKind y → TellsKind (cond b x y)
-chosen true x y h k = h
-chosen false x y h k = k
-
-after-keywords : (node : ℕ) (across down : SizingKeywordResolution) (known : MaybeSize) (stretch : Size) (later : Asked) → TellsKind later
-    → TellsKind (orLater (keywordAsked node across down known stretch) later)
-unfolding keywordAsked
-after-keywords node NoKeyword NoKeyword known stretch later h = h
-after-keywords node NoKeyword (Exact y) known stretch later h = h
-after-keywords node NoKeyword (Measure down) known stretch later h = refl
-after-keywords node (Exact w) NoKeyword known stretch later h = h
-after-keywords node (Exact w) (Exact y) known stretch later h = h
-after-keywords node (Exact w) (Measure down) known stretch later h = refl
-after-keywords node (Measure across) NoKeyword known stretch later h = refl
-after-keywords node (Measure across) (Exact y) known stretch later h = refl
-after-keywords node (Measure across) (Measure down) known stretch later h = refl
-
 pub stage-tells-kind : StageTellsKind
-unfolding askedAfter askedOf sizeAsked
 stage-tells-kind block style candidate replies =
-    let box = resolvedBox block style candidate in
-    let keywords = sizeKeywords style box in
-    let later = sizeAsked (candidate .node) style box keywords replies in
-    let h : TellsKind later = chosen (isFilled (replies .fill) || bothPresent (stretchedBy style box keywords replies .known)) _ _ refl refl in
-    chosen (isFirst (replies .keyword) (replies .fill)) _ later (after-keywords (candidate .node) (keywords .width) (keywords .height) (box .size) (keywordStretch box) later h) h
+    of-asked (λ a. kindOfQuestion (a .question) ≡ kindAt (a .stage)) (record { both = λ m. refl; width = λ m. refl; height = λ m. refl; fill = λ m. refl }) block style candidate replies
+    (λ space. refl)

@@ -2,7 +2,9 @@ pub mod Call
 pub mod Decides
 pub mod Ways
 pub mod Refusals
+pub mod EachQuestion
 pub mod Conditions
+pub mod Told
 pub mod Questions
 pub mod BoxTalk
 pub mod Worlds

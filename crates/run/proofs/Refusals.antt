@@ -14,11 +14,11 @@ use Rattle.run.specs.declared.Opened.{Opened}
 use Rattle.run.specs.declared.State.{State}
 use Rattle.run.specs.declared.Progress.{Progress}
 use Rattle.run.specs.declared.Answer.{Answer}
-use Rattle.run.specs.declared.Answer.the-variants.{Refused}
+use Rattle.run.specs.declared.Answer.the-variants.{Ask, Finish, Refused}
 use Rattle.run.specs.declared.Step.{Step}
 use Rattle.run.specs.Call.{Lent, Outcome, unwritten}
 use Rattle.run.specs.Run.{asking, finishing, proceeding, closed, begun, opened, takenIn, takenBy, isWrong, measuredOn, laidOut, replied}
-use Rattle.run.specs.Theorems.{isRefused, RefusedReplyKeeps, RefusedOpeningKeeps, FinishedRefuses}
+use Rattle.run.specs.Theorems.{isRefused, Heard, next, Loan, own, other, Turn, nextWith, turned, RefusedReplyKeeps, RefusedOpeningKeeps, FinishedRefuses}
 use Rattle.run.proofs.Ways.{NextWay, asks, ends, next-way, OpeningWay, begins, opening-way, ReplyWay, measures, laysOut, reply-way}
 
 abbrev pub refusedIn : Outcome → Bool
@@ -89,3 +89,27 @@ finished-refuses s reply surfaced lent f = go (reply-way s reply surfaced lent)
     go (ReplyWay.turnedDown r e) = ap refusedIn e
     go (measures replies v t e) = no (wrong t) refl
     go (laysOut overflow v t e) = no (wrong t) refl
+
+-- ---- a refused call in a run, whatever it is lent
+
+-- a state and words, with an answer
+abbrev pub saying : Answer → Outcome → Outcome
+saying a x = record { step = record { state = x .step .state; answer = a }; layouts = x .layouts; working = x .working; unclaimed = x .unclaimed }
+
+-- leaves what it was given, but for the answer
+pub turn-refused : (styles : List ℕ) (x : Outcome) (t : Turn) → refusedIn (turned styles x t) ≡ true
+    → turned styles x t ≡ saying (turned styles x t .step .answer) x
+unfolding next
+turn-refused styles x t e = go (t .loan) e (turned styles x t .step .answer) refl
+  where
+    h : Heard
+    h = t .heard
+
+    go : (loan : Loan) → refusedIn (nextWith styles x h loan) ≡ true → (a : Answer) → nextWith styles x h loan .step .answer ≡ a
+        → nextWith styles x h loan ≡ saying (nextWith styles x h loan .step .answer) x
+    go loan e (Ask q) d = no e (ap isRefused d)
+    go loan e (Finish f) d = no e (ap isRefused d)
+    go own e (Refused r) d = refused-reply-keeps (x .step .state) (h .reply) (h .surfaced) _ r d ∙ ap (λ (a : Answer). saying a x) (sym d)
+    go (other lent) e (Refused r) d =
+        ap (λ (o : Outcome). record { step = o .step; layouts = x .layouts; working = x .working; unclaimed = x .unclaimed }) (refused-reply-keeps (x .step .state) (h .reply) (h .surfaced) lent r d)
+        ∙ ap (λ (a : Answer). saying a x) (sym d)

@@ -6,6 +6,7 @@ use native.Mathlib.Nat.{zero-add, add-zero}
 use mathlib.Core.Path.{_≡_, refl, sym, ap, _∙_, subst, subst₂}
 use mathlib.Core.Bool.{Bool, true, false, cond}
 use mathlib.Core.List.{List, [], _∷_, _++_, map, foldl, append-nil, map-map}
+use mathlib.Core.Option.{some}
 use lib.ListN.{length, length-append}
 use Rattle.util.proofs.Floats.{no}
 use Rattle.geometry.specs.Geometry.{unionOf}
@@ -31,16 +32,17 @@ use Rattle.oof_box.specs.declared.question.Taken.the-variants.{Laid}
 use Rattle.run.specs.declared.Opening.{Opening}
 use Rattle.run.specs.declared.Counts.{Counts}
 use Rattle.run.specs.declared.Opened.{Opened}
-use Rattle.run.specs.declared.Answer.{Answer}
-use Rattle.run.specs.declared.Answer.the-variants.{Ask, Finish, Refused}
+use Rattle.run.specs.declared.Answer.the-variants.{Ask}
 use Rattle.run.specs.declared.Step.{Step}
 use Rattle.run.specs.Call.{Lent, Outcome}
 use Rattle.run.specs.Refusals.{accepted}
 use Rattle.run.specs.Run.{boxAtHand, asking, finishing, proceeding, claimsOf, blockOf, extentsOf, begun, opened, takenBy, replyVerdict, measuredOn, laidOut}
+use Rattle.run.specs.Conditions.{kindOfQuestion, kindAt}
 use Rattle.run.specs.Straight.{World, Box, atOpening, afterBox, Course, ended, during, boxes, straight}
-use Rattle.run.specs.Theorems.{laidCount, laidSoFar, Heard, next, isRefused, heeded, hearing, soFar, saidAfter, laidInto, claimedIn, Stands, called, heededIn, courseOf, StraightRun, hoisted, HoistedOrder}
+use Rattle.run.specs.Theorems.{laidCount, laidSoFar, Heard, next, Loan, own, other, Turn, nextWith, turned, Lends, AllLend, heeded, hearing, soFar, saidAfter, laidInto, claimedIn, begunIn, openIn, awaited, awaitedIn, Stands, called, heededIn, courseOf, StraightRun, hoisted, HoistedOrder}
 use Rattle.run.proofs.Ways.{NextWay, asks, ends, next-way, OpeningWay, begins, opening-way, ReplyWay, measures, laysOut, reply-way, opening-room, reply-room, lent-all}
-use Rattle.run.proofs.Refusals.{refusedIn, refused-reply-keeps, finished-refuses}
+use Rattle.run.proofs.Refusals.{refusedIn, saying, turn-refused, finished-refuses}
+use Rattle.run.proofs.Conditions.{stage-tells-kind}
 use Rattle.run.proofs.BoxTalk.{Asks, heardBy, hearing-during, At, at-first, asks-at, kept-at, laid-at}
 use Rattle.run.proofs.Worlds.{list-back, rear, rear-count, laidIn, laid-last, claimed-count, claimed-after, unclaimed-after, laid-after, Sound, opening-sound, First, first-back, after-sound}
 
@@ -110,6 +112,13 @@ module _ (o : Opening) (lent : Lent) where
       → askingAt w replies answered .step .answer ≡ Ask (questionOf c replies)
   unfolding asking
   asked-at replies answered f = ap (λ (c : OofCandidate). Ask (questionOf c replies)) (box-at answered f)
+
+  kind-at : {w : World} {c : OofCandidate} {rest : List OofCandidate} (replies : Replies) (answered : ℕ) → IsFirst w c rest
+      → awaited (askingAt w replies answered .step .state .progress) ≡ some (kindOfQuestion (questionOf c replies))
+  unfolding asking
+  kind-at {c = c} replies answered f =
+      ap (λ (c : OofCandidate). some (kindAt (stageOf c replies))) (box-at answered f)
+      ∙ ap some (sym (stage-tells-kind (blockOf o) (style (c .node)) c replies))
 
   -- a reply is taken as it takes it
   taken-at : {w : World} {c : OofCandidate} {rest : List OofCandidate} (replies : Replies) (answered : ℕ) (given : Reply) → IsFirst w c rest
@@ -291,10 +300,6 @@ module _ (o : Opening) (lent : Lent) where
 
   -- ---- over a whole list of replies
 
-  -- a state and words, with an answer
-  abbrev saying : Answer → Outcome → Outcome
-  saying a x = record { step = record { state = x .step .state; answer = a }; layouts = x .layouts; working = x .working; unclaimed = x .unclaimed }
-
   -- x has the state and the words that the last call left that wasn't refused
   record Through (answered : ℕ) (x : Outcome) (course : Course) : Type 0 where
     last : Outcome
@@ -306,26 +311,14 @@ module _ (o : Opening) (lent : Lent) where
   unfolding next
   next-same y h e = ap (λ (z : Outcome). next (lent .styles) z h) e
 
-  -- a refused call leaves what it was given
-  next-refused : (x : Outcome) (h : Heard) → refusedIn (next (lent .styles) x h) ≡ true
-      → next (lent .styles) x h ≡ saying (next (lent .styles) x h .step .answer) x
-  unfolding next
-  next-refused x h e = go (next (lent .styles) x h .step .answer) refl
-    where
-      go : (a : Answer) → next (lent .styles) x h .step .answer ≡ a → next (lent .styles) x h ≡ saying (next (lent .styles) x h .step .answer) x
-      go (Ask q) d = no e (ap isRefused d)
-      go (Finish f) d = no e (ap isRefused d)
-      go (Refused r) d =
-          refused-reply-keeps (x .step .state) (h .reply) (h .surfaced) _ r d ∙ ap (λ (a : Answer). saying a x) (sym d)
-
   -- one call more
-  after-refused : {answered : ℕ} {x : Outcome} {course : Course} (h : Heard) → refusedIn (next (lent .styles) x h) ≡ true → Through answered x course
-      → Through answered (next (lent .styles) x h) course
-  after-refused {x = x} h e p =
+  after-refused : {answered : ℕ} {x : Outcome} {course : Course} (t : Turn) → refusedIn (turned (lent .styles) x t) ≡ true → Through answered x course
+      → Through answered (turned (lent .styles) x t) course
+  after-refused {x = x} t e p =
       record {
         last = p .last;
         position = p .position;
-        same = next-refused x h e ∙ ap (saying (next (lent .styles) x h .step .answer)) (p .same);
+        same = turn-refused (lent .styles) x t e ∙ ap (saying (turned (lent .styles) x t .step .answer)) (p .same);
         itself = λ f. no e f;
       }
 
@@ -340,63 +333,82 @@ module _ (o : Opening) (lent : Lent) where
         itself = λ f. refl;
       }
 
+  -- which is lent the run's own slices
+  heeded-own : {answered : ℕ} {x : Outcome} {course : Course} (t : Turn) → Lends (t .loan) (turned (lent .styles) x t .step .answer)
+      → refusedIn (turned (lent .styles) x t) ≡ false
+      → Through answered x course
+      → Through (answered + 1) (turned (lent .styles) x t) (hearing course (t .heard))
+  heeded-own {answered} {x} {course} t l e p = go (t .loan) l e
+    where
+      go : (loan : Loan) → Lends loan (nextWith (lent .styles) x (t .heard) loan .step .answer) → refusedIn (nextWith (lent .styles) x (t .heard) loan) ≡ false
+          → Through (answered + 1) (nextWith (lent .styles) x (t .heard) loan) (hearing course (t .heard))
+      go own l e = after-heeded (t .heard) e p
+      go (other others) l e = no l e
+
   -- any number of them
   abbrev After : ℕ → Course → List Heard → Outcome → Type 0
   After answered course taken x = Through (answered + length taken) x (foldl hearing course taken)
 
-  all-calls : (answered : ℕ) (x : Outcome) (course : Course) (heard : List Heard) → Through answered x course
-      → After answered course (heeded (lent .styles) x heard) (foldl (next (lent .styles)) x heard)
+  all-calls : (answered : ℕ) (x : Outcome) (course : Course) (turns : List Turn) → AllLend (lent .styles) x turns → Through answered x course
+      → After answered course (heeded (lent .styles) x turns) (foldl (turned (lent .styles)) x turns)
   unfolding heeded
-  all-calls answered x course [] p = rw add-zero p
-  all-calls answered x course (h ∷ heard) p =
-      let y = next (lent .styles) x h in
-      go y (heeded (lent .styles) y heard) (refusedIn y) (λ e. all-calls answered y course heard (after-refused h e p))
-      (λ e. all-calls (answered + 1) y (hearing course h) heard (after-heeded h e p))
+  all-calls answered x course [] l p = rw add-zero p
+  all-calls answered x course (t ∷ turns) l p =
+      let y = turned (lent .styles) x t in
+      go y (heeded (lent .styles) y turns) (refusedIn y) (λ e. all-calls answered y course turns (l .1) (after-refused t e p))
+      (λ e. all-calls (answered + 1) y (hearing course (t .heard)) turns (l .1) (heeded-own t (l .0) e p))
       refl
     where
       one-on : (m n : ℕ) → m + 1 + n ≡ m + suc n
       one-on m n = omega arith
 
-      go : (y : Outcome) (later : List Heard) (b : Bool) → (refusedIn y ≡ true → After answered course later (foldl (next (lent .styles)) y heard))
-          → (refusedIn y ≡ false → After (answered + 1) (hearing course h) later (foldl (next (lent .styles)) y heard))
+      go : (y : Outcome) (later : List Heard) (b : Bool) → (refusedIn y ≡ true → After answered course later (foldl (turned (lent .styles)) y turns))
+          → (refusedIn y ≡ false → After (answered + 1) (hearing course (t .heard)) later (foldl (turned (lent .styles)) y turns))
           → refusedIn y ≡ b
-          → After answered course (cond b later (h ∷ later)) (foldl (next (lent .styles)) y heard)
+          → After answered course (cond b later (t .heard ∷ later)) (foldl (turned (lent .styles)) y turns)
       go y later true refused taken e = refused e
       go y later false refused taken e =
-          subst (λ (n : ℕ). Through n (foldl (next (lent .styles)) y heard) (foldl hearing (hearing course h) later)) (one-on answered (length later))
+          subst (λ (n : ℕ). Through n (foldl (turned (lent .styles)) y turns) (foldl hearing (hearing course (t .heard)) later)) (one-on answered (length later))
           (taken e)
 
   -- ---- what stands there
 
   says-asking : (w : World) (k : Placed → Course) (answered : ℕ) {q : Question} {t : Talk Placed} → Asks q t
-      → (soFar (during w t k) ≡ w) × (saidAfter answered (during w t k) ≡ Ask q)
+      → (soFar (during w t k) ≡ w) × (begunIn (during w t k) ≡ length (w .laid) + 1) × (saidAfter answered (during w t k) ≡ Ask q)
+      × (awaitedIn (during w t k) ≡ some (kindOfQuestion q))
   unfolding during
-  says-asking w k answered (Asks.asks reply) = (refl, refl)
+  says-asking w k answered (Asks.asks reply) = (refl, refl, refl, refl)
 
-  -- at a world
+  -- at a world: the last call that wasn't refused left it with this step
   stands-at : (w : World) (answered : ℕ) (step : Step) {x y : Outcome} {course : Course} → x ≡ saying (x .step .answer) y
       → (refusedIn x ≡ false → x ≡ y)
       → y ≡ leaving w step
-      → step .state .counts .filled ≡ countsAt w 0 0 .filled
+      → step .state .counts ≡ countsAt w (begunIn course) answered
       → laidCount (step .state .progress) (step .state .counts .begun) ≡ length (w .laid)
+      → step .state .overflow ≡ w .overflow
+      → openIn (lent .styles) (leaving w step) ≡ saidAfter answered course
+      → awaited (step .state .progress) ≡ awaitedIn course
       → step .answer ≡ saidAfter answered course
       → soFar course ≡ w
       → Stands lent answered x course
-  stands-at w answered step d i e f n a s =
+  stands-at w answered step {x} {y} {course} d i e c n v p q a s =
       record {
-        layouts = ap (λ (z : Outcome). z .layouts) d ∙ ap (λ (z : Outcome). z .layouts) e ∙ ap (λ (v : World). laidInto (lent .layouts) (v .laid)) (sym s);
-        working = ap (λ (z : Outcome). z .working) d ∙ ap (λ (z : Outcome). z .working) e ∙ ap workingAt (sym s);
-        unclaimed =
-            ap (λ (z : Outcome). z .unclaimed) d ∙ ap (λ (z : Outcome). z .unclaimed) e ∙ ap (λ (v : World). appended (lent .unclaimed) 0 (v .unclaimed)) (sym s);
-        filled =
-            ap (λ (z : Outcome). z .step .state .counts .filled) d ∙ ap (λ (z : Outcome). z .step .state .counts .filled) e ∙ f
-            ∙ ap (λ (v : World). countsAt v 0 0 .filled) (sym s);
-        laid =
-            ap laidSoFar d
-            ∙ ap laidSoFar e ∙ n
-            ∙ ap (λ (v : World). length (v .laid)) (sym s);
+        layouts = left (λ z. z .layouts) refl ∙ ap (λ (v : World). laidInto (lent .layouts) (v .laid)) (sym s);
+        working = left (λ z. z .working) refl ∙ ap workingAt (sym s);
+        unclaimed = left (λ z. z .unclaimed) refl ∙ ap (λ (v : World). appended (lent .unclaimed) 0 (v .unclaimed)) (sym s);
+        filled = left (λ z. z .step .state .counts .filled) refl ∙ ap (λ (c : Counts). c .filled) c ∙ ap (λ (v : World). countsAt v 0 0 .filled) (sym s);
+        begun = left (λ z. z .step .state .counts .begun) refl ∙ ap (λ (c : Counts). c .begun) c;
+        counted = left (λ z. z .step .state .counts .answered) refl ∙ ap (λ (c : Counts). c .answered) c;
+        laid = left laidSoFar refl ∙ n ∙ ap (λ (v : World). length (v .laid)) (sym s);
+        overflow = left (λ z. z .step .state .overflow) refl ∙ v ∙ ap (λ (v : World). v .overflow) (sym s);
+        pending = left (openIn (lent .styles)) refl ∙ p;
+        kind = left (λ z. awaited (z .step .state .progress)) refl ∙ q;
         answer = λ n. ap (λ (z : Outcome). z .step .answer) (i n) ∙ ap (λ (z : Outcome). z .step .answer) e ∙ a;
       }
+    where
+      -- what is read of state and words, and not of the answer
+      left : {A : Type 0} (f : Outcome → A) → f (saying (x .step .answer) y) ≡ f y → f x ≡ f (leaving w step)
+      left f k = ap f d ∙ k ∙ ap f e
 
   stands : {answered : ℕ} {x : Outcome} {course : Course} → Through answered x course → Stands lent answered x course
   unfolding asking finishing
@@ -405,13 +417,21 @@ module _ (o : Opening) (lent : Lent) where
       go : Position answered (p .last) course → Stands lent answered x course
       go (waits w c rest most replies t f m a d k) =
           let says = says-asking w (onward most w c rest) answered (asks-at (blockOf o) (style (c .node)) c a) in
+          let asked = asked-at replies answered f ∙ sym (says .2) in
           subst (Stands lent answered x) (sym k)
-          (stands-at w answered (askingAt w replies answered .step) (p .same) (p .itself) d refl (last (length (w .laid))) (asked-at replies answered f ∙ sym (says .1)) (says .0))
+          (stands-at w answered (askingAt w replies answered .step) (p .same) (p .itself) d (ap (λ (n : ℕ). countsAt w n answered) (sym (says .1)))
+          (last (length (w .laid)))
+          refl
+          asked
+          (kind-at replies answered f ∙ sym (says .3))
+          asked
+          (says .0))
         where
           last : (n : ℕ) → n + 1 - 1 ≡ n
           last n = omega arith
       go (over w e s d k) =
-          subst (Stands lent answered x) (sym k) (stands-at w answered (finishingAt w answered .step) (p .same) (p .itself) d refl refl refl refl)
+          subst (Stands lent answered x) (sym k)
+          (stands-at w answered (finishingAt w answered .step) (p .same) (p .itself) d refl refl refl refl refl refl refl)
 
   -- at the end the hoisted order is that of the boxes laid out
   ended-order : (w : World) (answered : ℕ) → w .waiting ≡ [] → Sound (lent .working) w
@@ -424,17 +444,18 @@ module _ (o : Opening) (lent : Lent) where
 
 -- ---- the opening, then every call
 
-at-last : (o : Opening) (candidates : List ℕ) (lent : Lent) (heard : List Heard) → refusedIn (opened o candidates lent) ≡ false
-    → Through o lent (length (heededIn o candidates lent heard)) (called o candidates lent heard) (courseOf o candidates lent heard)
+at-last : (o : Opening) (candidates : List ℕ) (lent : Lent) (turns : List Turn) → refusedIn (opened o candidates lent) ≡ false
+    → AllLend (lent .styles) (opened o candidates lent) turns
+    → Through o lent (length (heededIn o candidates lent turns)) (called o candidates lent turns) (courseOf o candidates lent turns)
 unfolding straight atOpening
-at-last o candidates lent heard e = go (opening-way o candidates lent)
+at-last o candidates lent turns e l = go (opening-way o candidates lent)
   where
     go : OpeningWay o candidates lent
-        → Through o lent (length (heededIn o candidates lent heard)) (called o candidates lent heard) (courseOf o candidates lent heard)
+        → Through o lent (length (heededIn o candidates lent turns)) (called o candidates lent turns) (courseOf o candidates lent turns)
     go (OpeningWay.turnedDown r x) = no (ap refusedIn x) e
     go (begins v x) =
         rw zero-add at
-        (all-calls o lent 0 (opened o candidates lent) (straight 4096 (blockOf o) (claimsOf o) (style o lent) (candidatesIn candidates)) heard
+        (all-calls o lent 0 (opened o candidates lent) (straight 4096 (blockOf o) (claimsOf o) (style o lent) (candidatesIn candidates)) turns l
         (record {
           last = opened o candidates lent;
           position =
@@ -447,7 +468,7 @@ at-last o candidates lent heard e = go (opening-way o candidates lent)
         }))
 
 pub straight-run : StraightRun
-straight-run o candidates lent heard e = stands o lent (at-last o candidates lent heard e)
+straight-run o candidates lent turns e l = stands o lent (at-last o candidates lent turns e l)
 
 -- ---- the hoisted order
 
@@ -461,18 +482,18 @@ unfolding during
 not-asking w v k (Asks.asks reply) e = absurd e
 
 pub hoisted-order : HoistedOrder
-hoisted-order o candidates lent heard w e d = go (p .position)
+hoisted-order o candidates lent turns w e l d = go (p .position)
   where
-    p : Through o lent (length (heededIn o candidates lent heard)) (called o candidates lent heard) (courseOf o candidates lent heard)
-    p = at-last o candidates lent heard e
+    p : Through o lent (length (heededIn o candidates lent turns)) (called o candidates lent turns) (courseOf o candidates lent turns)
+    p = at-last o candidates lent turns e l
 
-    ending : EndsIn w (courseOf o candidates lent heard)
+    ending : EndsIn w (courseOf o candidates lent turns)
     ending = subst (EndsIn w) (sym d) refl
 
-    go : Position o lent (length (heededIn o candidates lent heard)) (p .last) (courseOf o candidates lent heard)
-        → hoisted (called o candidates lent heard) ≡ map (λ (b : Box). b .candidate .node) (w .laid)
+    go : Position o lent (length (heededIn o candidates lent turns)) (p .last) (courseOf o candidates lent turns)
+        → hoisted (called o candidates lent turns) ≡ map (λ (b : Box). b .candidate .node) (w .laid)
     go (waits v c rest most replies t f m a x k) =
         not-asking w v (onward o lent most v c rest) (asks-at (blockOf o) (style o lent (c .node)) c a) (subst (EndsIn w) k ending)
     go (over v f s x k) =
-        ap hoisted (p .same) ∙ ap hoisted x ∙ ended-order o lent v (length (heededIn o candidates lent heard)) f s
+        ap hoisted (p .same) ∙ ap hoisted x ∙ ended-order o lent v (length (heededIn o candidates lent turns)) f s
         ∙ ap (λ (v : World). map (λ (b : Box). b .candidate .node) (v .laid)) (subst (EndsIn w) k ending)

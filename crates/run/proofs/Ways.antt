@@ -27,11 +27,13 @@ use Rattle.oof_box.specs.declared.question.Taken.the-variants.{Wrong, Kept, Lai
 use Rattle.run.specs.declared.Opening.{Opening}
 use Rattle.run.specs.declared.Counts.{Counts}
 use Rattle.run.specs.declared.Opened.{Opened}
+use Rattle.run.specs.declared.Progress.{Progress}
+use Rattle.run.specs.declared.Progress.the-variants.{Finished, Asking}
 use Rattle.run.specs.declared.State.{State}
 use Rattle.run.specs.declared.Answer.the-variants.{Refused}
 use Rattle.run.specs.Call.{Lent, unwritten}
 use Rattle.run.specs.Refusals.{Verdict, accepted, refused, _when_else_, ragged, badTable, badSlices, badList, listFull, lentBy}
-use Rattle.run.specs.Run.{asking, finishing, proceeding, closed, begun, opened, claimsOf, noneFilled, openingVerdict, measuredOn, laidOut, refusing, replyVerdict, takenBy, replied}
+use Rattle.run.specs.Run.{asking, finishing, proceeding, closed, begun, opened, claimsOf, noneFilled, openingVerdict, measuredOn, laidOut, refusing, replyVerdict, takenIn, takenBy, replied}
 
 -- ---- the next box, or the finish
 
@@ -172,3 +174,21 @@ lent-all r stage given surfaced e = go stage given (ap isLaid e)
     go Fill (reply.Height h) e = no e refl
     go LayOut (reply.Height h) e = no e refl
     go stage (reply.LaidOut overflow) e = refl
+
+-- a lay out reply is never kept as a measure
+pub never-kept : {A : Type 0} (s : State) (overflow : Rect) {replies : Replies} → takenBy s (reply.LaidOut overflow) ≡ Kept replies → A
+unfolding takenBy taken
+never-kept s overflow e = no (ap isKept e) (go (s .progress))
+  where
+    isKept : Taken → Bool
+    isKept Wrong = false
+    isKept (Kept r) = true
+    isKept (Laid overflow) = false
+
+    go : (p : Progress) → isKept (takenIn p (s .replies) (reply.LaidOut overflow)) ≡ false
+    go Finished = refl
+    go (Asking KeywordBoth) = refl
+    go (Asking KeywordWidth) = refl
+    go (Asking KeywordHeight) = refl
+    go (Asking Fill) = refl
+    go (Asking LayOut) = refl

@@ -9,7 +9,10 @@ use lib.Dec.{eqb}
 use lib.ListN.{length}
 use Rattle.refusal.specs.Refusal.{numberOf}
 use Rattle.refusal.specs.declared.Refusal.{Refusal}
+use Rattle.refusal.specs.declared.Refusal.the-variants.{BadExtent}
+use Rattle.geometry.specs.declared.Rect.{Rect}
 use Rattle.style.specs.declared.Style.{Style}
+use Rattle.tree.specs.declared.layout.Layout.{Layout}
 use Rattle.tree.specs.declared.layout.OofCandidate.{OofCandidate}
 use Rattle.records.specs.Records.{written}
 use Rattle.tree_record.specs.Layout.{layoutWidth, layoutWords}
@@ -19,7 +22,10 @@ use Rattle.oof_resolve.specs.declared.ContainingBlock.{ContainingBlock}
 use Rattle.oof_box.specs.Cut.{askedAfter}
 use Rattle.oof_box.specs.Theorems.{replyTo}
 use Rattle.oof_box.specs.declared.question.Replies.{Replies}
+use Rattle.oof_box.specs.declared.question.LayoutInput.{LayoutInput}
+use Rattle.oof_box.specs.declared.question.Question.the-variants.{LayOut}
 use Rattle.oof_box.specs.declared.question.Reply.{Reply}
+use Rattle.oof_box.specs.declared.question.Reply.the-variants.{LaidOut}
 use Rattle.run.specs.declared.Opening.{Opening}
 use Rattle.run.specs.declared.State.{State}
 use Rattle.run.specs.declared.Progress.{Progress}
@@ -28,8 +34,8 @@ use Rattle.run.specs.declared.Answer.{Answer}
 use Rattle.run.specs.declared.Answer.the-variants.{Ask, Finish, Refused}
 use Rattle.run.specs.declared.Step.{Step}
 use Rattle.run.specs.Call.{Lent, Outcome, unwritten}
-use Rattle.run.specs.Run.{opened, replied, closed, claimsOf, blockOf}
-use Rattle.run.specs.Conditions.{FirstIs, NoneHolds, openingTests, replyTests, kindOfQuestion, kindAt}
+use Rattle.run.specs.Run.{boxAtHand, opened, replied, closed, claimsOf, blockOf}
+use Rattle.run.specs.Conditions.{LengthsDiffer, FirstIs, NoneHolds, openingTests, replyTests, QuestionKind, kindOfQuestion, kindAt}
 use Rattle.run.specs.Straight.{World, Box, Course, ended, asks, straight}
 
 abbrev pub isRefused : Answer → Bool
@@ -149,8 +155,8 @@ ThreeQuestionsForEachBox =
     askedForIn i (askedFor i first) (first .state) calls ≤ 3
 
 -- ---- With nobody else writing the lent words, the calls are the straight run: after an opening that isn't refused and any list of
--- replies, refused ones among them, the words are those of the boxes so far, and a call that isn't refused says what the run says next.
--- A list may end anywhere, so this holds after each call.
+-- replies, the words and the state are those of the boxes so far, and a call that isn't refused says what the run says next. Replies may
+-- be refused, for any reason, and may lend other slices where they are. A list may end anywhere, so this holds after each call.
 
 -- a reply, and the words of the candidates lent with it
 pub record Heard : Type 0 where
@@ -187,12 +193,22 @@ nextWith styles o h (other lent) =
 abbrev pub turned : List ℕ → Outcome → Turn → Outcome
 turned styles o t = nextWith styles o (t .heard) (t .loan)
 
+-- other slices are lent with a call only where it is refused
+abbrev pub Lends : Loan → Answer → Type 0
+Lends own answer = Unit {0}
+Lends (other lent) answer = isRefused answer ≡ true
+
+-- along a whole list
+abbrev pub AllLend : List ℕ → Outcome → List Turn → Type 0
+AllLend styles o [] = Unit {0}
+AllLend styles o (t ∷ ts) = Lends (t .loan) (turned styles o t .step .answer) × AllLend styles (turned styles o t) ts
+
 -- the replies that are not refused
-unfoldable pub heeded : List ℕ → Outcome → List Heard → List Heard
+unfoldable pub heeded : List ℕ → Outcome → List Turn → List Heard
 heeded styles o [] = []
-heeded styles o (h ∷ hs) =
-    let later = heeded styles (next styles o h) hs in
-    cond (isRefused (next styles o h .step .answer)) later (h ∷ later)
+heeded styles o (t ∷ ts) =
+    let later = heeded styles (turned styles o t) ts in
+    cond (isRefused (turned styles o t .step .answer)) later (t .heard ∷ later)
 
 -- the course after a reply to its question; a reply of another kind changes nothing
 abbrev pub orStay : {R : Type 0} → Option R → (R → Course) → Course → Course
@@ -230,33 +246,71 @@ laidCount (Asking stage) begun = begun - 1
 abbrev pub laidSoFar : Outcome → ℕ
 laidSoFar o = laidCount (o .step .state .progress) (o .step .state .counts .begun)
 
--- what a call left is where the course stands: every word of the lent slices, the records filled, and the answer unless it is a refusal
+-- how many boxes are begun: those laid out, and the one at hand
+abbrev pub begunIn : Course → ℕ
+begunIn (ended w) = length (w .laid)
+begunIn (asks w q next) = length (w .laid) + 1
+
+-- what a state has open, by the words as they are: the question of the box at hand, or the finish
+abbrev pub openBy : Progress → List ℕ → List ℕ → State → Answer
+openBy Finished styles working s = Finish (record { overflow = s .overflow; count = s .counts .answered })
+openBy (Asking stage) styles working s =
+    let box = boxAtHand working (s .counts) in
+    Ask (askedAfter (s .opened .block) (styleAt styles (box .node)) box (s .replies) .question)
+
+abbrev pub openIn : List ℕ → Outcome → Answer
+openIn styles o = openBy (o .step .state .progress) styles (o .working) (o .step .state)
+
+-- the kind of reply that is waited for, by the state and by the course
+abbrev pub awaited : Progress → Option QuestionKind
+awaited Finished = none
+awaited (Asking stage) = some (kindAt stage)
+
+abbrev pub awaitedIn : Course → Option QuestionKind
+awaitedIn (ended w) = none
+awaitedIn (asks w q next) = some (kindOfQuestion q)
+
+-- what a call left is where the course stands, after so many replies that weren't refused: every word of the lent slices, the counts, the
+-- overflow so far, what is still open, and the answer unless it is a refusal
 pub record Stands (lent : Lent) (answered : ℕ) (o : Outcome) (course : Course) : Type 0 where
   pub layouts : o .layouts ≡ laidInto (lent .layouts) (soFar course .laid)
   pub working : o .working ≡ appended (lent .working) 0 (claimedIn (soFar course))
   pub unclaimed : o .unclaimed ≡ appended (lent .unclaimed) 0 (soFar course .unclaimed)
   pub filled : o .step .state .counts .filled ≡ record { working = length (claimedIn (soFar course)); unclaimed = length (soFar course .unclaimed) }
+  pub begun : o .step .state .counts .begun ≡ begunIn course
+  pub counted : o .step .state .counts .answered ≡ answered
   pub laid : laidSoFar o ≡ length (soFar course .laid)
+  pub overflow : o .step .state .overflow ≡ soFar course .overflow
+  pub pending : openIn (lent .styles) o ≡ saidAfter answered course
+  pub kind : awaited (o .step .state .progress) ≡ awaitedIn course
   pub answer : isRefused (o .step .answer) ≡ false → o .step .answer ≡ saidAfter answered course
 
 -- what an opening and the calls after it leave
-abbrev pub called : Opening → List ℕ → Lent → List Heard → Outcome
-called o candidates lent heard = foldl (next (lent .styles)) (opened o candidates lent) heard
+abbrev pub called : Opening → List ℕ → Lent → List Turn → Outcome
+called o candidates lent turns = foldl (turned (lent .styles)) (opened o candidates lent) turns
 
 -- the replies among them that are not refused
-abbrev pub heededIn : Opening → List ℕ → Lent → List Heard → List Heard
-heededIn o candidates lent heard = heeded (lent .styles) (opened o candidates lent) heard
+abbrev pub heededIn : Opening → List ℕ → Lent → List Turn → List Heard
+heededIn o candidates lent turns = heeded (lent .styles) (opened o candidates lent) turns
 
 -- and where the straight run stands after these; 4,096 records are the most that a working list holds
-abbrev pub courseOf : Opening → List ℕ → Lent → List Heard → Course
-courseOf o candidates lent heard =
-    foldl hearing (straight 4096 (blockOf o) (claimsOf o) (styleAt (lent .styles)) (candidatesIn candidates)) (heededIn o candidates lent heard)
+abbrev pub courseOf : Opening → List ℕ → Lent → List Turn → Course
+courseOf o candidates lent turns =
+    foldl hearing (straight 4096 (blockOf o) (claimsOf o) (styleAt (lent .styles)) (candidatesIn candidates)) (heededIn o candidates lent turns)
 
 abbrev pub StraightRun : Type 0
 StraightRun =
-    (o : Opening) (candidates : List ℕ) (lent : Lent) (heard : List Heard)
+    (o : Opening) (candidates : List ℕ) (lent : Lent) (turns : List Turn)
     → isRefused (opened o candidates lent .step .answer) ≡ false
-    → Stands lent (length (heededIn o candidates lent heard)) (called o candidates lent heard) (courseOf o candidates lent heard)
+    → AllLend (lent .styles) (opened o candidates lent) turns
+    → Stands lent (length (heededIn o candidates lent turns)) (called o candidates lent turns) (courseOf o candidates lent turns)
+
+-- slices of other lengths than at the opening are always refused, whatever the state and the reply
+abbrev pub OtherLengthsRefused : Type 0
+OtherLengthsRefused =
+    (s : State) (reply : Reply) (surfaced : List ℕ) (lent : Lent)
+    → LengthsDiffer s lent
+    → replied s reply surfaced lent .step .answer ≡ Refused BadExtent
 
 -- ---- The hoisted order.
 
@@ -271,7 +325,35 @@ hoisted o = map (λ (c : OofCandidate). c .node) (claimedSoFar o)
 -- at the end of a run it is that of the boxes laid out
 abbrev pub HoistedOrder : Type 0
 HoistedOrder =
-    (o : Opening) (candidates : List ℕ) (lent : Lent) (heard : List Heard) (w : World)
+    (o : Opening) (candidates : List ℕ) (lent : Lent) (turns : List Turn) (w : World)
     → isRefused (opened o candidates lent .step .answer) ≡ false
-    → courseOf o candidates lent heard ≡ ended w
-    → hoisted (called o candidates lent heard) ≡ map (λ (b : Box). b .candidate .node) (w .laid)
+    → AllLend (lent .styles) (opened o candidates lent) turns
+    → courseOf o candidates lent turns ≡ ended w
+    → hoisted (called o candidates lent turns) ≡ map (λ (b : Box). b .candidate .node) (w .laid)
+
+-- ---- The size told in a lay out question is the size written, with the words as the call left them, whatever replies are refused between.
+
+-- what some call left, an opening or a reply to any state, with these styles
+pub data Left (styles : List ℕ) : Outcome → Type 0 where
+  opening : (o : Opening) (candidates : List ℕ) (lent : Lent) → lent .styles ≡ styles → Left styles (opened o candidates lent)
+  reply : (s : State) (reply : Reply) (surfaced : List ℕ) (lent : Lent) → lent .styles ≡ styles → Left styles (replied s reply surfaced lent)
+
+abbrev pub AllRefused : List ℕ → Outcome → List Turn → Type 0
+AllRefused styles o [] = Unit {0}
+AllRefused styles o (t ∷ ts) = (isRefused (turned styles o t .step .answer) ≡ true) × AllRefused styles (turned styles o t) ts
+
+-- a layout of this size was written at this node's place, and no other word of the layouts
+pub record WroteSize (input : LayoutInput) (before after : List ℕ) : Type 0 where
+  pub layout : Layout
+  pub wrote : after ≡ written before (layoutWidth * input .node) (layoutWords layout)
+  pub size : layout .size ≡ input .size
+
+abbrev pub ToldIsWritten : Type 0
+ToldIsWritten =
+    (styles : List ℕ) (o : Outcome) (input : LayoutInput) (between : List Turn) (overflow : Rect) (surfaced : List ℕ)
+    → Left styles o
+    → o .step .answer ≡ Ask (LayOut input)
+    → AllRefused styles o between
+    → let last = next styles (foldl (turned styles) o between) (record { reply = LaidOut overflow; surfaced = surfaced }) in
+    isRefused (last .step .answer) ≡ false
+    → WroteSize input (o .layouts) (last .layouts)
