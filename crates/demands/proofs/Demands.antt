@@ -1,60 +1,32 @@
 -- The three demands of the entries, from their contracts and the theorems of `run`, `oof_box` and `mirror`. Assumes nothing.
-use Prim.Native.Nat.{ℕ, _+_, _*_, _≤_}
+use Prim.Native.Nat.{ℕ, _+_}
 use native.Mathlib.Omega.{arith}
 use mathlib.Core.Path.{_≡_, refl, sym, ap, subst, _∙_}
-use mathlib.Core.Bool.{Bool, true, false, cond, _||_}
+use mathlib.Core.Bool.{false}
 use mathlib.Core.List.{List, [], _∷_, _++_, foldl, foldl-append, append-nil}
 use lib.ListN.{length}
 use Rattle.util.proofs.Floats.{no}
 use Rattle.geometry.specs.declared.Rect.{Rect}
-use Rattle.refusal.specs.declared.Refusal.{Refusal}
-use Rattle.refusal.specs.declared.Refusal.the-variants.{WrongReply}
-use Rattle.geometry.specs.Geometry.{zeroSize, bothPresent}
-use Rattle.geometry.specs.declared.MaybeSize.{MaybeSize}
-use Rattle.geometry.specs.declared.Size.{Size}
-use Rattle.style.specs.declared.Style.{Style}
 use Rattle.style_record.specs.Decode.{styleAt}
-use Rattle.tree.specs.declared.layout.OofCandidate.{OofCandidate}
-use Rattle.common.specs.declared.sizing_keyword.SizingKeywordResolution.{SizingKeywordResolution}
-use Rattle.common.specs.declared.sizing_keyword.SizingKeywordResolution.the-variants.{NoKeyword, Exact, Measure}
-use Rattle.common.specs.declared.sizing_keyword.SizingKeywords.{SizingKeywords}
-use Rattle.oof_resolve.specs.Resolved.{resolvedBox}
-use Rattle.oof_resolve.specs.declared.ContainingBlock.{ContainingBlock}
-use Rattle.oof_resolve.specs.declared.ResolvedBox.{ResolvedBox}
-use Rattle.oof_place.specs.Placing.{layoutOf, boxLayout}
-use Rattle.oof_box.specs.Box.{keywordStretch, sizeKeywords, finalSize}
-use Rattle.oof_box.specs.declared.question.Asked as asking
-use Rattle.oof_box.specs.declared.question.Replies as kept
-use Rattle.oof_box.specs.declared.question.Question.{Question}
-use Rattle.oof_box.specs.declared.question.Question.the-variants.{MeasureBoth, MeasureWidth, MeasureHeight}
-use Rattle.oof_box.specs.declared.question.Question.the-variants as question
 use Rattle.oof_box.specs.declared.question.Reply.{Reply}
 use Rattle.oof_box.specs.declared.question.Reply.the-variants.{LaidOut}
-use Rattle.oof_box.specs.declared.question.Stage.{Stage}
-use Rattle.oof_box.specs.declared.question.Stage.the-variants.{KeywordBoth, KeywordWidth, KeywordHeight, Fill, LayOut}
-use Rattle.oof_box.specs.declared.question.Taken.{Taken}
-use Rattle.oof_box.specs.declared.question.Taken.the-variants.{Wrong, Kept, Laid}
-use Rattle.oof_box.specs.Cut.{taken, takenLaidOut, isFilled, isFirst, measuredSize, stretchedBy, layOutAsked, fillAsked, sizeBy, keywordAsked, sizeAsked, orLater, askedOf, askedAfter, layoutAfter}
+use Rattle.oof_box.specs.Cut.{layoutAfter}
 use Rattle.oof_box.proofs.Floor.{size-law as box-size-law}
 use Rattle.run.specs.declared.Opening.{Opening}
 use Rattle.run.specs.declared.State.{State}
-use Rattle.run.specs.declared.Step.{Step}
-use Rattle.run.specs.declared.Progress.{Progress}
-use Rattle.run.specs.declared.Progress.the-variants.{Finished, Asking}
-use Rattle.run.specs.declared.Answer.{Answer}
-use Rattle.run.specs.declared.Answer.the-variants.{Ask, Finish, Refused}
 use Rattle.run.specs.Call.{Lent, Outcome, outcome}
-use Rattle.run.specs.Theorems.{isRefused, askedFor, Heard, Loan, own, other, Turn, next, nextWith, turned, Lends, AllLend, called, Stands, heededIn, courseOf}
-use Rattle.run.specs.Run.{boxAtHand, opened, openedBy, openingVerdict, replied, repliedBy, replyVerdict, takenBy, takenIn, isWrong, laidOut, measuredOn}
+use Rattle.run.specs.Theorems.{WroteSize, isRefused, askedFor, Heard, Loan, own, other, Turn, next, nextWith, turned, Lends, AllLend, called, Stands, heededIn, courseOf}
+use Rattle.run.specs.Run.{boxAtHand, opened, replied, takenBy, laidOut}
 use Rattle.run.proofs.Refusals.{refused-reply-keeps, refused-opening-keeps}
 use Rattle.run.proofs.Conditions.{opening-refused-exactly, opening-accepted-exactly, reply-refused-exactly, reply-accepted-exactly}
-use Rattle.run.proofs.Ways.{ReplyWay, measures, laysOut, reply-way}
+use Rattle.run.proofs.Ways.{ReplyWay, measures, laysOut, reply-way, never-kept}
+use Rattle.run.proofs.Told.{lays-out}
 use Rattle.run.proofs.Questions.{Hoisted, opening-hoisted, reply-hoisted}
 use Rattle.run.proofs.ByBox.{ForBox, opening-for, reply-for}
 use Rattle.run.proofs.Straight.{straight-run}
 use Rattle.mirror.proofs.Mirror.{mirror}
 use Rattle.mirror.specs.Image.{imageOpening, imageCandidates}
-use Rattle.mirror.specs.Runs.{Message, runNext, imageNext, Fair, AllFair, MirroredRuns, leftAtOpening}
+use Rattle.mirror.specs.Runs.{Message, runNext, imageNext, Fair, AllFair, MirroredRuns, unclaimedAtOpening}
 use Rattle.demands.specs.Entries.{Opens, AnyCalls, Takes, Run, BothRuns}
 use Rattle.demands.specs.Entries as entry
 use Rattle.demands.specs.Demands.{OpeningDemands, ReplyDemands, ThreeQuestionsEach, EqualsStraightRun, SizedLayout, SizeLaw, LaidOutAsAsked, MirrorImage}
@@ -127,27 +99,6 @@ equals-straight-run o candidates lent turns has calls =
 
 -- ---- the size law
 
-abbrev isKept : Taken → Bool
-isKept Wrong = false
-isKept (Kept replies) = true
-isKept (Laid overflow) = false
-
--- a lay out reply is never kept as a measure
-not-kept : (stage : Stage) (overflow : Rect) → isKept (takenLaidOut stage overflow) ≡ false
-not-kept KeywordBoth overflow = refl
-not-kept KeywordWidth overflow = refl
-not-kept KeywordHeight overflow = refl
-not-kept Fill overflow = refl
-not-kept LayOut overflow = refl
-
-never-kept : (s : State) (overflow : Rect) → isKept (takenBy s (LaidOut overflow)) ≡ false
-unfolding takenBy taken
-never-kept s overflow = go (s .progress)
-  where
-    go : (p : Progress) → isKept (takenIn p (s .replies) (LaidOut overflow)) ≡ false
-    go Finished = refl
-    go (Asking stage) = not-kept stage overflow
-
 sized : (s : State) (overflow : Rect) (surfaced : List ℕ) (lent : Lent) → SizedLayout s lent (laidOut s overflow surfaced lent .layouts)
 unfolding laidOut
 sized s overflow surfaced lent =
@@ -161,7 +112,7 @@ size-law s reply surfaced lent overflow k a = go (reply-way s reply surfaced len
   where
     go : ReplyWay s reply surfaced lent → SizedLayout s lent (replied s reply surfaced lent .layouts)
     go (ReplyWay.turnedDown r f) = no (ap (λ (x : Outcome). isRefused (x .step .answer)) f) a
-    go (measures replies v t f) = no (ap isKept (ap (takenBy s) (sym k) ∙ t)) (never-kept s overflow)
+    go (measures replies v t f) = never-kept s overflow (ap (takenBy s) (sym k) ∙ t)
     go (laysOut laid v t f) = subst (λ (x : Outcome). SizedLayout s lent (x .layouts)) (sym f) (sized s laid surfaced lent)
 
 pub reply-demands : (s : State) (reply : Reply) (surfaced : List ℕ) (lent : Lent) {has : Outcome} → entry.Replies s reply surfaced lent has
@@ -176,67 +127,11 @@ reply-demands s reply surfaced lent c =
       size = size-law s reply surfaced lent;
     })
 
-abbrev sizeIn : Question → Size
-sizeIn (MeasureBoth m) = zeroSize
-sizeIn (MeasureWidth m) = zeroSize
-sizeIn (MeasureHeight m) = zeroSize
-sizeIn (question.LayOut l) = l .size
-
-abbrev laysOutIn : Question → Bool
-laysOutIn (MeasureBoth m) = false
-laysOutIn (MeasureWidth m) = false
-laysOutIn (MeasureHeight m) = false
-laysOutIn (question.LayOut l) = true
-
--- a question to lay out tells this size
-abbrev Tells : Size → asking.Asked → Type 0
-Tells size a = laysOutIn (a .question) ≡ true → size ≡ sizeIn (a .question)
-
-chosen : (size : Size) (b : Bool) (x y : asking.Asked) → Tells size x → Tells size y → Tells size (cond b x y)
-chosen size true x y h k = h
-chosen size false x y h k = k
-
--- step 4 asks only to measure
-after-keywords : (size : Size) (node : ℕ) (across down : SizingKeywordResolution) (known : MaybeSize) (stretch : Size) (later : asking.Asked)
-    → Tells size later
-    → Tells size (orLater (keywordAsked node across down known stretch) later)
-unfolding keywordAsked
-after-keywords size node NoKeyword NoKeyword known stretch later h = h
-after-keywords size node NoKeyword (Exact y) known stretch later h = h
-after-keywords size node NoKeyword (Measure down) known stretch later h = λ e. no {b = false} e refl
-after-keywords size node (Exact w) NoKeyword known stretch later h = h
-after-keywords size node (Exact w) (Exact y) known stretch later h = h
-after-keywords size node (Exact w) (Measure down) known stretch later h = λ e. no {b = false} e refl
-after-keywords size node (Measure across) NoKeyword known stretch later h = λ e. no {b = false} e refl
-after-keywords size node (Measure across) (Exact y) known stretch later h = λ e. no {b = false} e refl
-after-keywords size node (Measure across) (Measure down) known stretch later h = λ e. no {b = false} e refl
-
-after-sizes : (node : ℕ) (style : Style) (box : ResolvedBox) (keywords : SizingKeywords) (replies : kept.Replies)
-    → Tells (sizeBy style box keywords replies) (sizeAsked node style box keywords replies)
-unfolding sizeAsked sizeBy
-after-sizes node style box keywords replies =
-    let at = stretchedBy style box keywords replies in
-    let size = finalSize box at (measuredSize (replies .fill)) in
-    chosen size (isFilled (replies .fill) || bothPresent (at .known)) (layOutAsked node size (box .space)) (fillAsked node (at .known) (box .space))
-    (λ e. refl) (λ e. no {b = false} e refl)
-
-asked-size : (block : ContainingBlock) (style : Style) (candidate : OofCandidate) (replies : kept.Replies)
-    → let b = resolvedBox block style candidate in
-    Tells (sizeBy style b (sizeKeywords style b) replies) (askedAfter block style candidate replies)
-unfolding askedAfter askedOf
-asked-size block style candidate replies =
-    let box = resolvedBox block style candidate in
-    let keywords = sizeKeywords style box in
-    let size = sizeBy style box keywords replies in
-    let later = sizeAsked (candidate .node) style box keywords replies in
-    let h = after-sizes (candidate .node) style box keywords replies in
-    chosen size (isFirst (replies .keyword) (replies .fill)) (orLater (keywordAsked (candidate .node) (keywords .width) (keywords .height) (box .size) (keywordStretch box)) later) later
-    (after-keywords size (candidate .node) (keywords .width) (keywords .height) (box .size) (keywordStretch box) later h) h
-
 pub laid-out-as-asked : LaidOutAsAsked
-unfolding layoutAfter boxLayout layoutOf
-laid-out-as-asked block style candidate replies overflow input e =
-    asked-size block style candidate replies (ap laysOutIn e) ∙ ap sizeIn e
+laid-out-as-asked styles before has input overflow surfaced told c n =
+    let e = takes styles before (record { reply = LaidOut overflow; surfaced = surfaced }) own has c in
+    subst (λ (x : Outcome). WroteSize input (before .layouts) (x .layouts)) (sym e)
+    (lays-out styles before input overflow surfaced told (subst (λ (x : Outcome). isRefused (x .step .answer) ≡ false) e n))
 
 -- ---- the mirror image
 
@@ -279,7 +174,7 @@ module _ (o : Opening) (candidates : List ℕ) (lent lent' : Lent) where
 pub mirror-image : MirrorImage
 unfolding image
 mirror-image o candidates lent lent' messages has has' area table quarter styles same calls =
-    subst (λ (x : Outcome). MirroredRuns (o .area) (leftAtOpening o candidates lent) x has') (sym (run-of o candidates lent lent' calls))
-    (subst (λ (x : Outcome). MirroredRuns (o .area) (leftAtOpening o candidates lent) (foldl (runNext (lent .styles)) (opened o candidates lent) messages) x) (sym (image-of o candidates lent lent' calls))
+    subst (λ (x : Outcome). MirroredRuns (o .area) (unclaimedAtOpening o candidates lent) x has') (sym (run-of o candidates lent lent' calls))
+    (subst (λ (x : Outcome). MirroredRuns (o .area) (unclaimedAtOpening o candidates lent) (foldl (runNext (lent .styles)) (opened o candidates lent) messages) x) (sym (image-of o candidates lent lent' calls))
     (mirror o candidates lent lent' messages [] area table quarter styles same
     (subst (AllFair (lent .styles) (opened o candidates lent)) (sym (append-nil messages)) (both-fair o candidates lent lent' calls))))

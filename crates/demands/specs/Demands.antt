@@ -4,21 +4,17 @@
 use Prim.Native.Nat.{ℕ, _*_, _-_, _≤_}
 use mathlib.Core.Logic.{_↔_}
 use mathlib.Core.Path.{_≡_}
-use mathlib.Core.Bool.{true, false}
-use mathlib.Core.List.{List, []}
+use mathlib.Core.Bool.{false}
+use mathlib.Core.List.{List}
 use lib.ListN.{length}
 use Rattle.util.specs.Laws.{AtOrAbove}
 use Rattle.geometry.specs.Geometry.{sums, rectSum}
 use Rattle.geometry.specs.declared.Rect.{Rect}
 use Rattle.refusal.specs.declared.Refusal.{Refusal}
 use Rattle.refusal.specs.Refusal.{numberOf}
-use Rattle.style.specs.declared.Style.{Style}
 use Rattle.tree.specs.declared.layout.Layout.{Layout}
-use Rattle.tree.specs.declared.layout.OofCandidate.{OofCandidate}
 use Rattle.records.specs.Records.{written}
 use Rattle.tree_record.specs.Layout.{layoutWidth, layoutWords}
-use Rattle.oof_resolve.specs.declared.ContainingBlock.{ContainingBlock}
-use Rattle.oof_box.specs.Cut.{askedAfter, layoutAfter}
 use Rattle.oof_box.specs.declared.question.LayoutInput.{LayoutInput}
 use Rattle.oof_box.specs.declared.question.Question.the-variants.{LayOut}
 use Rattle.oof_box.specs.declared.question.Replies.{Replies}
@@ -26,15 +22,15 @@ use Rattle.oof_box.specs.declared.question.Reply.{Reply}
 use Rattle.oof_box.specs.declared.question.Reply.the-variants.{LaidOut}
 use Rattle.run.specs.declared.Opening.{Opening}
 use Rattle.run.specs.declared.State.{State}
-use Rattle.run.specs.declared.Answer.the-variants.{Refused}
+use Rattle.run.specs.declared.Answer.the-variants.{Ask, Refused}
 use Rattle.run.specs.Call.{Lent, Outcome, unwritten}
 use Rattle.run.specs.Run.{closed, boxAtHand, extentsOf}
 use Rattle.run.specs.Conditions.{FirstIs, NoneHolds, openingTests, replyTests}
-use Rattle.run.specs.Theorems.{isRefused, Turn, Stands, heededIn, courseOf}
+use Rattle.run.specs.Theorems.{isRefused, own, openIn, WroteSize, Turn, Stands, heededIn, courseOf}
 use Rattle.mirror.specs.Image.{imageStyles}
 use Rattle.mirror.specs.Quarter.{QuarterArea, QuarterTable, QuarterCandidates}
-use Rattle.mirror.specs.Runs.{Message, MirroredRuns, leftAtOpening}
-use Rattle.demands.specs.Entries.{Opens, AnyCalls, Run, BothRuns}
+use Rattle.mirror.specs.Runs.{Message, MirroredRuns, unclaimedAtOpening}
+use Rattle.demands.specs.Entries.{Opens, AnyCalls, Takes, Run, BothRuns}
 use Rattle.demands.specs.Entries as entry
 
 -- ---- Demand 1. "Whoever calls an entry, with any bits in any number and slices of any length, gets its answer (in a run, a question or
@@ -83,12 +79,15 @@ EqualsStraightRun =
     → Run o candidates lent turns has
     → Stands lent (length (heededIn o candidates lent turns)) has (courseOf o candidates lent turns)
 
--- the size told in a lay out question is the size that is written once it is answered, with words and replies as they were
+-- the size told in a lay out question is the size written, at the place of the node that it names: the question being open by the state and
+-- the words as they are, as it is after the call that asked it (`pending` of `Stands`), whatever replies were refused since
 abbrev pub LaidOutAsAsked : Type 0
 LaidOutAsAsked =
-    (block : ContainingBlock) (style : Style) (candidate : OofCandidate) (replies : Replies) (overflow : Rect) (input : LayoutInput)
-    → askedAfter block style candidate replies .question ≡ LayOut input
-    → layoutAfter block style candidate replies overflow .layout .size ≡ input .size
+    (styles : List ℕ) (before has : Outcome) (input : LayoutInput) (overflow : Rect) (surfaced : List ℕ)
+    → openIn styles before ≡ Ask (LayOut input)
+    → Takes styles before (record { reply = LaidOut overflow; surfaced = surfaced }) own has
+    → isRefused (has .step .answer) ≡ false
+    → WroteSize input (before .layouts) (has .layouts)
 
 -- ---- Demand 3. A run and its mirror image, given any one list of replies, refused ones included (mirror/specs/Mirror.antt has the
 -- hypotheses in words, mirror/specs/Runs.antt what the two then have in common).
@@ -99,7 +98,7 @@ MirrorImage =
     → QuarterArea (o .area) → QuarterTable (lent .styles) → QuarterCandidates candidates
     → lent' .styles ≡ imageStyles (lent .styles) → extentsOf lent ≡ extentsOf lent'
     → BothRuns o candidates lent lent' messages has has'
-    → MirroredRuns (o .area) (leftAtOpening o candidates lent) has has'
+    → MirroredRuns (o .area) (unclaimedAtOpening o candidates lent) has has'
 
 -- ---- What is demanded of runs: the function `demanded` of src/lib.rt ensures these, so that a crate without a proof of each is not proved.
 

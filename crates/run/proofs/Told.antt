@@ -113,7 +113,7 @@ open-question : (p : Progress) (styles working : List ℕ) (s : State) (q : Ques
 open-question Finished styles working s q e = no {b = false} (ap isAsk e) refl
 open-question (Asking stage) styles working s q e = ap (λ (a : Answer). questionIn a q) e
 
-lays-out : (styles : List ℕ) (o : Outcome) (input : LayoutInput) (overflow : Rect) (surfaced : List ℕ)
+pub lays-out : (styles : List ℕ) (o : Outcome) (input : LayoutInput) (overflow : Rect) (surfaced : List ℕ)
     → openIn styles o ≡ Ask (LayOut input)
     → let last = next styles o (record { reply = LaidOut overflow; surfaced = surfaced }) in
     refusedIn last ≡ false
