@@ -1,6 +1,7 @@
--- What the definitions of this crate mean, as statements. `proofs/Laws.antt` proves each, under its name in small letters.
--- Assumes nothing.
-use Prim.Native.Nat.{ℕ, _+_, _-_, _*_, _<_, _≤_}
+-- What the definitions of this crate mean, as statements. `proofs/Laws.antt` and `proofs/Exactly.antt` prove each, under its name in small
+-- letters. Assumes nothing.
+use Prim.Native.Nat.{ℕ, suc, _+_, _-_, _*_, _<_, _≤_}
+use mathlib.Core.Logic.{_↔_}
 use mathlib.Core.Path.{_≡_}
 use mathlib.Core.Bool.{Bool, true, false, _&&_}
 use mathlib.Core.List.{List, [], _∷_, _++_}
@@ -12,11 +13,13 @@ use Rattle.column.specs.declared.Ink.the-variants.{Digits}
 use Rattle.column.specs.Column.{cells, countInk}
 use Rattle.screen.specs.declared.format.Kind.{Kind}
 use Rattle.screen.specs.declared.format.Kind.the-variants.{Code, Eighths}
+use Rattle.screen.specs.declared.format.Line.{Line}
+use Rattle.screen.specs.declared.format.Line.the-variants.{First, Item, Candidate}
 use Rattle.screen.specs.declared.field.Numeral.the-variants.{Malformed, Number}
 use Rattle.screen.specs.declared.field.Word.the-variants.{Of}
 use Rattle.screen.specs.declared.Screen.{Screen}
 use Rattle.screen.specs.declared.Screen.the-variants.{BadLine}
-use Rattle.screen.specs.Format.{COLUMNS}
+use Rattle.screen.specs.Format.{fieldsOf, COLUMNS}
 use Rattle.screen.specs.Field.{isDigit, numeralOf, wordOf}
 use Rattle.screen.specs.Screen.{itemCount, candidateCount, isScreen, stylesOf, repliesOf, candidatesOf, ScreenRead}
 
@@ -58,6 +61,46 @@ NoTrailingBlank = (bs : List ℕ) → numeralOf (bs ++ (32 ∷ [])) ≡ Malforme
 -- `-0` and `+0` mean 0, as codes and as floats
 abbrev pub SignedZero : Type 0
 SignedZero = (k : Kind) → (wordOf k (replicate 9 32 ++ (45 ∷ 48 ∷ [])) ≡ Of 0) × (wordOf k (replicate 9 32 ++ (43 ∷ 48 ∷ [])) ≡ Of 0)
+
+-- ---- Refusal 8, "bad screen line", as a proposition: a text that is no screen.
+
+-- "a code below 0 or above 4,294,967,295; a float above 9,999,999 eighths in size" is out of range
+abbrev pub InRange : Kind → Bool → ℕ → Type 0
+InRange Code true n = n ≡ 0
+InRange Code false n = n ≤ 4294967295
+InRange Eighths s n = n ≤ 9999999
+
+-- a field of 11 bytes: "blanks, at most one sign, one or more digits", of a number in range
+pub record GoodField (k : Kind) (bs : List ℕ) : Type 0 where
+  pub width : length bs ≡ 11
+  pub negative : Bool
+  pub number : ℕ
+  pub spelling : Spelling bs negative number
+  pub range : InRange k negative number
+
+-- a text starts with a line of these fields, ended by one line feed; then comes the rest
+pub data StartsLine : List Kind → List ℕ → List ℕ → Type 0 where
+  feed : {rest : List ℕ} → StartsLine [] (10 ∷ rest) rest
+  field : {k : Kind} {ks : List Kind} {text rest : List ℕ} (bs : List ℕ) → GoodField k bs → StartsLine ks text rest → StartsLine (k ∷ ks) (bs ++ text) rest
+
+-- it starts with n lines of a kind
+pub data StartsLines (l : Line) : ℕ → List ℕ → List ℕ → Type 0 where
+  nothing : {text : List ℕ} → StartsLines l 0 text text
+  line : {n : ℕ} {text next rest : List ℕ} → StartsLine (fieldsOf l) text next → StartsLines l n next rest → StartsLines l (suc n) text rest
+
+-- a first line, as many item and candidate lines as it tells, none missing or left over; at most 128 items and 256 candidates
+pub record IsScreen (text : List ℕ) : Type 0 where
+  pub items : List ℕ
+  pub candidates : List ℕ
+  pub first-line : StartsLine (fieldsOf First) text items
+  pub item-lines : StartsLines Item (itemCount text) items candidates
+  pub candidate-lines : StartsLines Candidate (candidateCount text) candidates []
+  pub few-items : itemCount text ≤ 128
+  pub few-candidates : candidateCount text ≤ 256
+
+-- the test decides it
+abbrev pub ScreenExactly : Type 0
+ScreenExactly = (text : List ℕ) → (isScreen text ≡ true) ↔ IsScreen text
 
 -- ---- a screen
 
