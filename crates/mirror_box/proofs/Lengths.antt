@@ -5,7 +5,7 @@ use Prim.Native.Nat.{ℕ}
 use lib.Dec.{eqb}
 use lib.Ieee.{Float}
 use borrow.Author.Tests.{eqb-true}
-use Rattle.style.specs.Resolve.{autoIn, contentIn, keywordIn, byTag, resolved, valueOf, maybeResolved}
+use Rattle.style.specs.Resolve.{autoIn, inSize, withoutKeyword, fromSize, byTag, resolved, valueOf, maybeResolved}
 use Rattle.style.specs.declared.compact_length.CompactLength.{CompactLength}
 use Rattle.style.specs.declared.resolve.Field.{Field}
 use Rattle.style.specs.declared.resolve.Field.the-variants as field
@@ -38,17 +38,17 @@ auto-quarter field.PaddingOrBorder = tt
 auto-quarter field.Size = tt
 auto-quarter field.MinOrMax = tt
 
-content-quarter : (f : Field) → QuarterResolved (contentIn f)
-content-quarter field.InsetOrMargin = tt
-content-quarter field.PaddingOrBorder = tt
-content-quarter field.Size = tt
-content-quarter field.MinOrMax = tt
+without-keyword-quarter : (r : Resolved) → QuarterResolved r → QuarterResolved (withoutKeyword r)
+without-keyword-quarter NotAllowed h = tt
+without-keyword-quarter Absent h = tt
+without-keyword-quarter (Length x) h = h
+without-keyword-quarter (Keyword k) h = tt
 
-keyword-quarter : (f : Field) (k : SizingKeyword) → QuarterLimit k → QuarterResolved (keywordIn f k)
-keyword-quarter field.InsetOrMargin k h = tt
-keyword-quarter field.PaddingOrBorder k h = tt
-keyword-quarter field.Size k h = h
-keyword-quarter field.MinOrMax k h = tt
+from-size-quarter : (f : Field) (r : Resolved) → QuarterResolved r → QuarterResolved (fromSize f r)
+from-size-quarter field.InsetOrMargin r h = tt
+from-size-quarter field.PaddingOrBorder r h = tt
+from-size-quarter field.Size r h = h
+from-size-quarter field.MinOrMax r h = without-keyword-quarter r h
 
 -- a branch, each way with its outcome
 either : {A : Type 0} (P : A → Type 0) (t : Bool) {x y : A} → (t ≡ true → P x) → (t ≡ false → P y) → P (cond t x y)
@@ -60,19 +60,23 @@ module _ (f : Field) (l : CompactLength) (basis : Float) (h : QuarterLength l) w
   at : (tag : ℕ) → eqb (l .tag) tag ≡ true → Keeps (ruleOf tag) (l .value)
   at tag e = subst (λ (t : ℕ). Keeps (ruleOf t) (l .value)) (eqb-true (l .tag) tag e) h
 
+  in-size-quarter : QuarterResolved (inSize (l .tag) (l .value) basis)
+  in-size-quarter =
+      either QuarterResolved (eqb (l .tag) 11) (λ _. tt)
+      (λ _. either QuarterResolved (eqb (l .tag) 15) (λ e. absurd (at 15 e))
+      (λ _. either QuarterResolved (eqb (l .tag) 27) (λ _. tt)
+      (λ _. either QuarterResolved (eqb (l .tag) 35) (λ _. tt)
+      (λ _. either QuarterResolved (eqb (l .tag) 43) (λ e. at 43 e)
+      (λ _. either QuarterResolved (eqb (l .tag) 59) (λ _. tt)
+      (λ _. either QuarterResolved (eqb (l .tag) 75) (λ _. tt) (λ _. tt)))))))
+
   pub resolved-quarter : QuarterResolved (resolved f l basis)
   unfolding resolved byTag
   resolved-quarter =
       either QuarterResolved (eqb (l .tag) 1) (λ e. at 1 e)
       (λ _. either QuarterResolved (eqb (l .tag) 3) (λ _. auto-quarter f)
       (λ _. either QuarterResolved (eqb (l .tag) 5) (λ e. absurd (at 5 e))
-      (λ _. either QuarterResolved (eqb (l .tag) 11) (λ _. keyword-quarter f keyword.MinContent tt)
-      (λ _. either QuarterResolved (eqb (l .tag) 15) (λ e. absurd (at 15 e))
-      (λ _. either QuarterResolved (eqb (l .tag) 27) (λ _. keyword-quarter f keyword.MaxContent tt)
-      (λ _. either QuarterResolved (eqb (l .tag) 35) (λ _. content-quarter f)
-      (λ _. either QuarterResolved (eqb (l .tag) 43) (λ e. keyword-quarter f (keyword.FitContentLimit (l .value)) (at 43 e))
-      (λ _. either QuarterResolved (eqb (l .tag) 59) (λ _. keyword-quarter f keyword.FitContent tt)
-      (λ _. either QuarterResolved (eqb (l .tag) 75) (λ _. keyword-quarter f keyword.Stretch tt) (λ _. tt))))))))))
+      (λ _. from-size-quarter f (inSize (l .tag) (l .value) basis) in-size-quarter)))
 
 value-quarter : (r : Resolved) → QuarterResolved r → MaybeQuarters 16384 (valueOf r)
 value-quarter NotAllowed h = tt

@@ -11,6 +11,7 @@ use borrow.Author.Tests.{eq-eqb, ne-eqb, eqb-true}
 use Rattle.style.specs.declared.resolve.Field.{Field}
 use Rattle.style.specs.declared.resolve.Field.the-variants as field
 use Rattle.style.specs.declared.resolve.Resolved.{Resolved}
+use Rattle.style.specs.declared.resolve.Resolved.the-variants.{NotAllowed, Absent, Length, Keyword}
 use Rattle.style.specs.declared.BoxSizing.{BoxSizing}
 use Rattle.style.specs.declared.BoxSizing.the-variants.{BorderBox, ContentBox}
 use Rattle.style.specs.declared.Overflow.{Overflow}
@@ -21,10 +22,7 @@ use Rattle.style.specs.declared.alignment.AlignItemsKeyword.{AlignItemsK
 use Rattle.style.specs.declared.alignment.AlignItemsKeyword.the-variants as keyword
 use Rattle.style.specs.declared.alignment.AlignmentSafety.{AlignmentSafety}
 use Rattle.style.specs.declared.alignment.AlignmentSafety.the-variants.{Default, Unsafe, Safe}
-use Rattle.util.specs.Number.{_⊗_}
-use Rattle.util.specs.declared.math.MaybeF32.{MaybeF32}
-use Rattle.util.specs.declared.math.MaybeF32.the-variants.{None, Some}
-use Rattle.style.specs.Resolve.{autoIn, contentIn, keywordIn, byTag, resolved, isAllowed, takes, valueOf}
+use Rattle.style.specs.Resolve.{byTag, withoutKeyword, resolved, isAllowed, takes}
 use Rattle.style.specs.Values.{isSelfRelative, keywordRelative, selfRelative}
 use Rattle.style.specs.Codes.{sizingCode, overflowCode, directionCode, safetyCode, keywordCode, bitsCode, sizingOf, overflowOf, directionOf, safetyOf, keywordOf, bit0, bit1}
 use Rattle.style.specs.Laws.{AdmissionIsOfTheTag, TakesItsTags, tagsOf, among, SizingCodes, OverflowCodes, DirectionCodes, SafetyCodes, KeywordCodes, BitsCodes, SelfRelativeIsResolved}
@@ -35,13 +33,16 @@ allowed-cond : (b : Bool) (x y : Resolved) → isAllowed (cond b x y) ≡ cond b
 allowed-cond true x y = refl
 allowed-cond false x y = refl
 
-neither : (b : Bool) → cond b false false ≡ false
-neither true = refl
-neither false = refl
-
 either : (b c : Bool) → cond b true c ≡ (b || c)
 either true c = refl
 either false c = refl
+
+-- a keyword that has no value is taken all the same
+taken-without : (r : Resolved) → isAllowed (withoutKeyword r) ≡ isAllowed r
+taken-without NotAllowed = refl
+taken-without Absent = refl
+taken-without (Length x) = refl
+taken-without (Keyword k) = refl
 
 -- where a tag is no 3, the test for 3 has no say; where it is 3, it is none of the others
 no-auto : (tag : ℕ) (b : Bool) → eqb tag 3 ≡ b → (eqb tag 1 || cond b false (eqb tag 5 || false)) ≡ (eqb tag 1 || (eqb tag 5 || false))
@@ -50,10 +51,10 @@ no-auto tag false e = refl
 
 allowed-by-tag : (f : Field) (tag : ℕ) (value basis : Float) → isAllowed (byTag f tag value basis) ≡ among (tagsOf f) tag
 unfolding byTag among
-allowed-by-tag field.InsetOrMargin tag value basis = simp (allowed-cond, neither, either)
-allowed-by-tag field.PaddingOrBorder tag value basis = simp (allowed-cond, neither, either) (no-auto tag (eqb tag 3) refl)
-allowed-by-tag field.Size tag value basis = simp (allowed-cond, neither, either)
-allowed-by-tag field.MinOrMax tag value basis = simp (allowed-cond, neither, either)
+allowed-by-tag field.InsetOrMargin tag value basis = simp (allowed-cond, either)
+allowed-by-tag field.PaddingOrBorder tag value basis = simp (allowed-cond, either) (no-auto tag (eqb tag 3) refl)
+allowed-by-tag field.Size tag value basis = simp (allowed-cond, either)
+allowed-by-tag field.MinOrMax tag value basis = simp (allowed-cond, taken-without, either)
 
 pub takes-its-tags : TakesItsTags
 unfolding takes resolved
@@ -62,29 +63,6 @@ takes-its-tags f tag = allowed-by-tag f tag _ _
 pub admission-is-of-the-tag : AdmissionIsOfTheTag
 unfolding takes resolved
 admission-is-of-the-tag f l basis = allowed-by-tag f (l .tag) _ _ ∙ sym (allowed-by-tag f (l .tag) _ _)
-
--- ---- values
-
-value-cond : (b : Bool) (x y : Resolved) → valueOf (cond b x y) ≡ cond b (valueOf x) (valueOf y)
-value-cond true x y = refl
-value-cond false x y = refl
-
-no-value : (b : Bool) → cond b None None ≡ None
-no-value true = refl
-no-value false = refl
-
--- a tag that is 3 is no 5
-no-auto-value : (tag : ℕ) (b : Bool) (x y : MaybeF32) → eqb tag 3 ≡ b → cond (eqb tag 1) x (cond b None (cond (eqb tag 5) y None)) ≡ cond (eqb tag 1) x (cond (eqb tag 5) y None)
-no-auto-value tag true x y e = rw (eqb-true tag 3 e) refl
-no-auto-value tag false x y e = refl
-
--- only lengths and percentages have a value, in every field the same
-pub value-by-tag : (f : Field) (tag : ℕ) (value basis : Float) → valueOf (byTag f tag value basis) ≡ cond (eqb tag 1) (Some value) (cond (eqb tag 5) (Some (basis ⊗ value)) None)
-unfolding byTag
-value-by-tag field.InsetOrMargin tag value basis = simp (value-cond, no-value) (no-auto-value tag (eqb tag 3) (Some value) (Some (basis ⊗ value)) refl)
-value-by-tag field.PaddingOrBorder tag value basis = simp (value-cond, no-value) (no-auto-value tag (eqb tag 3) (Some value) (Some (basis ⊗ value)) refl)
-value-by-tag field.Size tag value basis = simp (value-cond, no-value) (no-auto-value tag (eqb tag 3) (Some value) (Some (basis ⊗ value)) refl)
-value-by-tag field.MinOrMax tag value basis = simp (value-cond, no-value) (no-auto-value tag (eqb tag 3) (Some value) (Some (basis ⊗ value)) refl)
 
 -- ---- codes
 

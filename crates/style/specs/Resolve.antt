@@ -26,19 +26,30 @@ autoIn field.PaddingOrBorder = NotAllowed
 autoIn field.Size = Absent
 autoIn field.MinOrMax = Absent
 
--- content is auto, in the sizes only
-abbrev pub contentIn : Field → Resolved
-contentIn field.InsetOrMargin = NotAllowed
-contentIn field.PaddingOrBorder = NotAllowed
-contentIn field.Size = Absent
-contentIn field.MinOrMax = Absent
+-- the tags that only sizes take, in the size itself: content is auto, the others are sizing keywords
+abbrev pub inSize : ℕ → Float → Float → Resolved
+inSize tag value basis =
+    cond (eqb tag 11) (Keyword keyword.MinContent)
+    (cond (eqb tag 15) (Keyword (keyword.FitContentLimit (basis ⊗ value)))
+    (cond (eqb tag 27) (Keyword keyword.MaxContent)
+    (cond (eqb tag 35) Absent
+    (cond (eqb tag 43) (Keyword (keyword.FitContentLimit value))
+    (cond (eqb tag 59) (Keyword keyword.FitContent)
+    (cond (eqb tag 75) (Keyword keyword.Stretch) NotAllowed))))))
 
 -- a sizing keyword has no value in min and max
-abbrev pub keywordIn : Field → SizingKeyword → Resolved
-keywordIn field.InsetOrMargin k = NotAllowed
-keywordIn field.PaddingOrBorder k = NotAllowed
-keywordIn field.Size k = Keyword k
-keywordIn field.MinOrMax k = Absent
+abbrev pub withoutKeyword : Resolved → Resolved
+withoutKeyword NotAllowed = NotAllowed
+withoutKeyword Absent = Absent
+withoutKeyword (Length x) = Length x
+withoutKeyword (Keyword k) = Absent
+
+-- a tag that only sizes take: what it comes to in a field, from what it comes to in the size
+abbrev pub fromSize : Field → Resolved → Resolved
+fromSize field.InsetOrMargin size = NotAllowed
+fromSize field.PaddingOrBorder size = NotAllowed
+fromSize field.Size size = size
+fromSize field.MinOrMax size = withoutKeyword size
 
 -- by tag, the whole word: 257 is no 1
 unfoldable pub byTag : Field → ℕ → Float → Float → Resolved
@@ -46,13 +57,7 @@ byTag f tag value basis =
     cond (eqb tag 1) (Length value)
     (cond (eqb tag 3) (autoIn f)
     (cond (eqb tag 5) (Length (basis ⊗ value))
-    (cond (eqb tag 11) (keywordIn f keyword.MinContent)
-    (cond (eqb tag 15) (keywordIn f (keyword.FitContentLimit (basis ⊗ value)))
-    (cond (eqb tag 27) (keywordIn f keyword.MaxContent)
-    (cond (eqb tag 35) (contentIn f)
-    (cond (eqb tag 43) (keywordIn f (keyword.FitContentLimit value))
-    (cond (eqb tag 59) (keywordIn f keyword.FitContent)
-    (cond (eqb tag 75) (keywordIn f keyword.Stretch) NotAllowed)))))))))
+    (fromSize f (inSize tag value basis))))
 
 -- what a length comes to in a field, percentages being taken of the basis
 unfoldable pub resolved : Field → CompactLength → Float → Resolved

@@ -1,6 +1,6 @@
-// util/resolve.rs: what a length comes to. One match on the tag decides which fields take it and what it comes to there.
+// util/resolve.rs: what a length comes to. One match on the tag, `resolve`, decides which fields take it and what it comes to there.
 ghost use mathlib.Core.Path.{_≡_};
-ghost use Rattle.style.specs.Resolve.{autoIn, contentIn, keywordIn, resolved, takes, valueOf, maybeResolved, resolvedRect, resolvedSize};
+ghost use Rattle.style.specs.Resolve.{autoIn, inSize, withoutKeyword, fromSize, resolved, isAllowed, takes, valueOf, maybeResolved, resolvedRect, resolvedSize};
 use crate::compact_length::CompactLength;
 use crate::compact_length::LengthRect;
 use crate::compact_length::LengthSize;
@@ -33,111 +33,31 @@ pub enum Resolved {
     Keyword(SizingKeyword),
 }
 
-impl Field {
-    // Auto: no value; padding and border don't take it.
-    fn auto(self) -> Resolved
-        ensures { λ r. ⌜ r ≡ autoIn self ⌝ }
-    {
-        match self {
-            Field::InsetOrMargin => Resolved::Absent,
-            Field::PaddingOrBorder => Resolved::NotAllowed,
-            Field::Size => Resolved::Absent,
-            Field::MinOrMax => Resolved::Absent,
-        }
-    }
-
-    // Content: auto, in the sizes only.
-    fn content(self) -> Resolved
-        ensures { λ r. ⌜ r ≡ contentIn self ⌝ }
-    {
-        match self {
-            Field::InsetOrMargin => Resolved::NotAllowed,
-            Field::PaddingOrBorder => Resolved::NotAllowed,
-            Field::Size => Resolved::Absent,
-            Field::MinOrMax => Resolved::Absent,
-        }
-    }
-
-    // A sizing keyword: no value in min and max.
-    fn keyword(self, keyword: SizingKeyword) -> Resolved
-        ensures { λ r. ⌜ r ≡ keywordIn self keyword ⌝ }
-    {
-        match self {
-            Field::InsetOrMargin => Resolved::NotAllowed,
-            Field::PaddingOrBorder => Resolved::NotAllowed,
-            Field::Size => Resolved::Keyword(keyword),
-            Field::MinOrMax => Resolved::Absent,
-        }
-    }
-}
-
-// What a length comes to in a field, percentages being taken of the basis.
-pub fn resolve(field: Field, length: CompactLength, basis: f32) -> Resolved
-    ensures { λ r. ⌜ r ≡ resolved field length basis ⌝ }
-{
-    let tag = length.tag;
-    match tag {
-        1 => Resolved::Length(length.value),
-        3 => field.auto(),
-        5 => Resolved::Length(basis * length.value),
-        11 => field.keyword(SizingKeyword::MinContent),
-        15 => field.keyword(SizingKeyword::FitContentLimit(basis * length.value)),
-        27 => field.keyword(SizingKeyword::MaxContent),
-        35 => field.content(),
-        43 => field.keyword(SizingKeyword::FitContentLimit(length.value)),
-        59 => field.keyword(SizingKeyword::FitContent),
-        75 => field.keyword(SizingKeyword::Stretch),
-        _ => Resolved::NotAllowed,
-    }
-}
-
-// Whether a tag is one of the ten: first those of lengths, auto and percentages, since most sizes are of these, and 75 apart,
-// since the compiler jumps by a table where tags span more than 64 values.
-fn is_tag(tag: u32) -> bool
-    ensures { λ r. ⌜ r ≡ takes Field.Size tag ⌝ }
-{
-    if tag < 6 {
-        return tag % 2 == 1;
-    }
-    if 59 < tag {
-        return tag == 75;
-    }
-    match tag {
-        11 => true,
-        15 => true,
-        27 => true,
-        35 => true,
-        43 => true,
-        59 => true,
-        _ => false,
-    }
-}
-
-impl Field {
-    // Whether the field takes a tag, that is whether `resolve` allows it: by the field first, since every call checks a
-    // whole table.
-    pub fn takes(self, tag: u32) -> bool
-        ensures { λ r. ⌜ r ≡ takes self tag ⌝ }
-    {
-        match self {
-            Field::InsetOrMargin => match tag {
-                1 => true,
-                3 => true,
-                5 => true,
-                _ => false,
-            },
-            Field::PaddingOrBorder => match tag {
-                1 => true,
-                5 => true,
-                _ => false,
-            },
-            Field::Size => is_tag(tag),
-            Field::MinOrMax => is_tag(tag),
-        }
-    }
-}
-
 impl Resolved {
+    // Without a sizing keyword, which has no value in min and max.
+    fn without_keyword(self) -> Resolved
+        ensures { λ r. ⌜ r ≡ withoutKeyword self ⌝ }
+    {
+        match self {
+            Resolved::NotAllowed => Resolved::NotAllowed,
+            Resolved::Absent => Resolved::Absent,
+            Resolved::Length(x) => Resolved::Length(x),
+            Resolved::Keyword(_) => Resolved::Absent,
+        }
+    }
+
+    // Whether the field takes the tag.
+    fn is_allowed(self) -> bool
+        ensures { λ r. ⌜ r ≡ isAllowed self ⌝ }
+    {
+        match self {
+            Resolved::NotAllowed => false,
+            Resolved::Absent => true,
+            Resolved::Length(_) => true,
+            Resolved::Keyword(_) => true,
+        }
+    }
+
     // The number of pixels, if it comes to one.
     pub fn value(self) -> MaybeF32
         ensures { λ r. ⌜ r ≡ valueOf self ⌝ }
@@ -151,18 +71,81 @@ impl Resolved {
     }
 }
 
-// The number of pixels that a length comes to, if any: the value of `resolve`, which is the same in every field. Only lengths
-// and percentages have one, so that two tests stand in for the match.
+impl Field {
+    // Auto: no value; padding and border don't take it.
+    fn auto(self) -> Resolved
+        ensures { λ r. ⌜ r ≡ autoIn self ⌝ }
+    {
+        match self {
+            Field::InsetOrMargin => Resolved::Absent,
+            Field::PaddingOrBorder => Resolved::NotAllowed,
+            Field::Size => Resolved::Absent,
+            Field::MinOrMax => Resolved::Absent,
+        }
+    }
+
+    // A tag that only sizes take: what it comes to here, from what it comes to in the size.
+    fn from_size(self, size: Resolved) -> Resolved
+        ensures { λ r. ⌜ r ≡ fromSize self size ⌝ }
+    {
+        match self {
+            Field::InsetOrMargin => Resolved::NotAllowed,
+            Field::PaddingOrBorder => Resolved::NotAllowed,
+            Field::Size => size,
+            Field::MinOrMax => size.without_keyword(),
+        }
+    }
+}
+
+// The tags that only sizes take, in the size: content is auto, the others are sizing keywords.
+fn in_size(length: CompactLength, basis: f32) -> Resolved
+    ensures { λ r. ⌜ r ≡ inSize (length .tag) (length .value) basis ⌝ }
+{
+    let word = length.tag;
+    match word {
+        11 => Resolved::Keyword(SizingKeyword::MinContent),
+        15 => Resolved::Keyword(SizingKeyword::FitContentLimit(basis * length.value)),
+        27 => Resolved::Keyword(SizingKeyword::MaxContent),
+        35 => Resolved::Absent,
+        43 => Resolved::Keyword(SizingKeyword::FitContentLimit(length.value)),
+        59 => Resolved::Keyword(SizingKeyword::FitContent),
+        75 => Resolved::Keyword(SizingKeyword::Stretch),
+        _ => Resolved::NotAllowed,
+    }
+}
+
+// What a length comes to in a field, percentages being taken of the basis. The tags that only sizes take are a match of their
+// own: so small, this one is put by the compiler into each caller, which keeps only the part of the answer that it wants.
+pub fn resolve(field: Field, length: CompactLength, basis: f32) -> Resolved
+    ensures { λ r. ⌜ r ≡ resolved field length basis ⌝ }
+{
+    let tag = length.tag;
+    match tag {
+        1 => Resolved::Length(length.value),
+        3 => field.auto(),
+        5 => Resolved::Length(basis * length.value),
+        _ => field.from_size(in_size(length, basis)),
+    }
+}
+
+impl Field {
+    // Whether the field takes a tag, that is whether `resolve` allows it, whatever the value and the basis.
+    pub fn takes(self, tag: u32) -> bool
+        ensures { λ r. ⌜ r ≡ takes self tag ⌝ }
+    {
+        let length = CompactLength {
+            tag: tag,
+            value: 0.0,
+        };
+        resolve(self, length, 0.0).is_allowed()
+    }
+}
+
+// The number of pixels that a length comes to, if any.
 pub fn maybe_resolve(field: Field, length: CompactLength, basis: f32) -> MaybeF32
     ensures { λ r. ⌜ r ≡ maybeResolved field length basis ⌝ }
 {
-    if length.tag == 1 {
-        return MaybeF32::Some(length.value);
-    }
-    if length.tag == 5 {
-        return MaybeF32::Some(basis * length.value);
-    }
-    MaybeF32::None
+    resolve(field, length, basis).value()
 }
 
 // Four sides: left and right against one basis, top and bottom against another.
