@@ -1,11 +1,11 @@
--- The law on axes that are computed: its hypotheses can be met, and the one on the width is needed. Assumes nothing.
-use mathlib.Core.Path.{_≡_, refl}
-use mathlib.Core.List.{[], _∷_}
+-- The law on axes that are computed: its hypotheses can be met, and those on the width and on the room are needed. Assumes nothing.
+use mathlib.Core.Path.{_≡_, refl, subst}
+use mathlib.Core.List.{List, [], _∷_}
 use mathlib.Core.Bool.{Bool, true, false, false≢true}
 use Prim.Native.Nat.{ℕ, _≤_}
 use lib.IntN.{pos, negsuc}
 use lib.Dec.{lit≤}
-use lib.Ieee.{Float, fin, add, sub, mul, div, neg, lt, le, eq, isNan, ofBits, ofInt, binary32}
+use lib.Ieee.{Float, fin, add, sub, mul, div, neg, lt, le, eq, isNan, sum, round, units, odd, size, span, climb, ofBits, ofInt, binary32}
 use lib.Ieee.Exact.{HasValue}
 use Rattle.util.specs.Number.{0f}
 use Rattle.util.specs.Order.{zeroOf, before, larger, smaller, magnitude}
@@ -22,7 +22,9 @@ use Rattle.oof_axis.specs.declared.OofAlignment.{OofAlignment}
 use Rattle.oof_axis.specs.declared.OofAlignment.the-variants as align
 use Rattle.oof_axis.specs.declared.OofAxis.{OofAxis}
 use Rattle.oof_axis.specs.Axis.{startEdge, endEdge, alignIn, centeredBlock, staticBlock, insetBlock, weakerEdge, closedUp, repaired, block, bothInsets, stretchFit, halves, filledMargins, margins, isNormal, alignEdge, limit, keptWithin, selfAligned, staticAligned, positionIn, position, placement}
-use Rattle.exact.specs.Value.{Quarters}
+use Rattle.exact.specs.Integer.{N, zeroN}
+use Rattle.exact.specs.Value.{AddUp, Quarters}
+use Rattle.exact.proofs.Laws.{one-total}
 use Rattle.mirror_axis.specs.Image.{image, exchanged, reflected, reflectedPlace, otherAlign, otherEdge}
 use Rattle.mirror_axis.specs.Law.{Mirrored}
 use Rattle.mirror_axis.proofs.Law.{quarter-mirror}
@@ -105,3 +107,28 @@ spaces = refl
 not-mirrored : (size size' : Float) → Mirrored narrow (image narrow) size size' → ⊥
 unfolding add sub mul div neg lt le eq isNan ofBits ofInt zeroOf before larger smaller magnitude present unwrapOr startEdge endEdge alignIn centeredBlock staticBlock insetBlock weakerEdge closedUp repaired block bothInsets stretchFit halves filledMargins margins isNormal alignEdge limit keptWithin selfAligned staticAligned positionIn position placement image exchanged reflected reflectedPlace otherAlign otherEdge
 not-mirrored size size' h = false≢true (h .stretchFit)
+
+-- ---- the room
+
+-- a static area at 2 ^ 24 pixels, in an area a quarter pixel wide: what is reflected rounds, and the quarter is lost
+abbrev high : Float
+high = fin false 1 (pos 24)
+
+abbrev far : OofAxis
+far = axisOf quarter None None None None (high to high) Start align.Normal Default false false
+
+ends : block far .start ∷ block (image far) .end ∷ [] ≡ high ∷ neg high ∷ []
+unfolding add sub mul div neg lt le eq isNan sum round units odd size span climb ofBits ofInt zeroOf before larger smaller magnitude present unwrapOr startEdge endEdge alignIn centeredBlock staticBlock insetBlock weakerEdge closedUp repaired block bothInsets stretchFit halves filledMargins margins isNormal alignEdge limit keptWithin selfAligned staticAligned positionIn position placement image exchanged reflected reflectedPlace otherAlign otherEdge
+ends = refl
+
+-- they add up to 0, not to the width
+cancel : AddUp (high ∷ neg high ∷ []) 0f
+unfolding neg ofBits
+cancel =
+    let up : N = record { p = 268435456; n = 0 } in
+    let down : N = record { p = 0; n = 268435456 } in
+    (zeroN, (up, down, (false, 268435456, (refl, refl), refl), (down, zeroN, (true, 268435456, (refl, refl), refl), refl, refl), refl), (false, 0, (refl, refl), refl))
+
+room-is-needed : (size size' : Float) → Mirrored far (image far) size size' → ⊥
+unfolding eq ofBits
+room-is-needed size size' h = false≢true (one-total (high ∷ neg high ∷ []) quarter 0f (subst (λ (xs : List Float). AddUp xs quarter) ends (h .blockStart)) cancel)

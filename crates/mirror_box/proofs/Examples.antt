@@ -173,23 +173,34 @@ narrow = blockOf (quarters 1) 0f Ltr
 abbrev percentage : Style
 percentage = styleOf (across auto auto) none none (across (tagged 5 (ofBits binary32 1028443341)) (px 0)) (auto by px 20) None keyword.Normal Ltr
 
+-- 0.1, which is no whole number of quarters
+abbrev tenth : Float
+tenth = ofBits binary32 1036831949
+
 -- a height of a quarter pixel, and a ratio of 0.1
 abbrev tall : Style
-tall = styleOf (across auto auto) none none none (auto by tagged 1 (quarters 1)) (Some (ofBits binary32 1036831949)) keyword.Normal Ltr
+tall = styleOf (across auto auto) none none none (auto by tagged 1 (quarters 1)) (Some tenth) keyword.Normal Ltr
+
+-- measured for min-content
+abbrev measured : Style
+measured = styleOf (across auto auto) none none none (minContent by px 20) None keyword.Normal Ltr
 
 -- how far the box reaches to the left of its start edge
 abbrev leftmost : OofBoxLayout → Float
 leftmost l = l .contribution .left
 
--- x, x of the image and the width make 116 in each row; the two widths are one
+-- x, x of the image and the width make 116 in each row; the two widths are one; the padding changes its side
 computed :
     (both panel filled (candidateAt 0f Start) (replied (quarters 121)) ∷ both panel selfStart (candidateAt 0f Start) (replied (whole 30))
     ∷ both panel selfStart (candidateAt 0f Start) (replied (whole 90)) ∷ both panel static (candidateAt (whole 78) Center) noReplies ∷ []
     ≡ row (fin false 303 (negsuc 2)) (fin false 383 (negsuc 2)) (quarters 121) ∷ row (whole 58) (whole 28) (whole 30) ∷ row (whole 18) (whole 8) (whole 90) ∷ row (whole 63) (whole 23) (whole 30) ∷ [])
     × (eq (leftmost (laid narrow percentage (candidateAt 0f Start) empty)) (leftmost (laidImage narrow percentage (candidateAt 0f Start) empty)) ≡ false)
     × (eq (leftmost (laid narrow tall (candidateAt 0f Start) noReplies)) (leftmost (laidImage narrow tall (candidateAt 0f Start) noReplies)) ≡ false)
+    × (eq (leftmost (laid narrow measured (candidateAt 0f Start) (replied tenth))) (leftmost (laidImage narrow measured (candidateAt 0f Start) (replied tenth))) ≡ false)
+    × (laid panel filled (candidateAt 0f Start) noReplies .layout .padding ≡ record { left = whole 3; right = 0f; top = 0f; bottom = 0f })
+    × (laidImage panel filled (candidateAt 0f Start) noReplies .layout .padding ≡ record { left = 0f; right = whole 3; top = 0f; bottom = 0f })
 unfolding add sub mul div neg lt le eq isNan ofBits ofInt zeroOf before larger smaller magnitude present orElse unwrapOr map mapAdd mapLarger atMost atLeast clamped mapClamped rectOrZero sumX sumY sums rectSum smallerSize definite bothPresent firstSize filledSize addedSize raisedSize clampedSize clampedFloats completed withRatio byTag resolved maybeResolved resolvedRect resolvedSize selfRelative clampedSpace clampedSpaces definiteSpaces fromResolved startEdge endEdge alignIn centeredBlock staticBlock insetBlock weakerEdge closedUp repaired block bothInsets stretchFit stretching stretches isStretch halves filledMargins margins isNormal alignEdge limit keptWithin selfAligned staticAligned positionIn position placement ofWidth ofEachAxis lessOffset horizontal vertical paddingOrBorder styleSize minSize lessMargins spaceFor resolvedBox byKeyword ofResolved keywordOf absoluteStretch ifAbsent keywordsOf propagates reach placedAt contribution keywordStretch sizeKeywords settled ignoresRatio stretchRatio widened heightened raisedMin stretched finalSize scrollbarOf layoutOf fromOrigin boxLayout knownBy stretchedBy sizeBy layoutAfter otherDirection exchangedLengths imageBlock imageStyle edgeSum imageCandidate reflected reflectedPlace otherAlign otherEdge
-computed = (refl, refl, refl)
+computed = (refl, refl, refl, refl, refl, refl)
 
 -- ---- the hypotheses can be met
 
@@ -215,10 +226,13 @@ met =
     })
     hc (image-is-exact panel (candidateAt 0f Start) hb hc) (record { keyword = exactly 121 tt (refl, refl); fill = tt }) (record { left = zero; right = zero })
 
--- ---- without percentages and without ratio only
+-- ---- without percentages, without ratio and with sizes of whole quarters only
 
 percentages-are-left-out : MirroredBox (narrow .area) (laid narrow percentage (candidateAt 0f Start) empty) (laidImage narrow percentage (candidateAt 0f Start) empty) → ⊥
 percentages-are-left-out h = false≢true (sym (computed .1) ∙ h .contribution .left)
 
 a-ratio-is-left-out : MirroredBox (narrow .area) (laid narrow tall (candidateAt 0f Start) noReplies) (laidImage narrow tall (candidateAt 0f Start) noReplies) → ⊥
 a-ratio-is-left-out h = false≢true (sym (computed .2) ∙ h .contribution .left)
+
+a-measured-width-is-whole : MirroredBox (narrow .area) (laid narrow measured (candidateAt 0f Start) (replied tenth)) (laidImage narrow measured (candidateAt 0f Start) (replied tenth)) → ⊥
+a-measured-width-is-whole h = false≢true (sym (computed .3) ∙ h .contribution .left)
