@@ -21,7 +21,7 @@ use Rattle.mirror_axis.proofs.FlipBlock.{imageN}
 use Rattle.mirror_axis.proofs.Facing.{Facing, block-left, block-right, blocks, stretch-shared, stretches-shared, start-is-end, end-is-start, positions}
 
 -- the numbers of an axis of whole quarter pixels, in sixteenths
-abbrev numbers : (L A : ℕ) (a : OofAxis) → Bounded L A a → AxisN
+abbrev pub numbers : (L A : ℕ) (a : OofAxis) → Bounded L A a → AxisN
 numbers L A a h =
     record {
       size = units (h .size);
@@ -30,7 +30,7 @@ numbers L A a h =
       area = units (h .areaStart) toN units (h .areaEnd);
     }
 
-axis-exact : (L A : ℕ) (a : OofAxis) (h : Bounded L A a) → ExactAxis (4 * L) (4 * L + 4 * A) a (numbers L A a h)
+pub axis-exact : (L A : ℕ) (a : OofAxis) (h : Bounded L A a) → ExactAxis (4 * L) (4 * L + 4 * A) a (numbers L A a h)
 axis-exact L A a h =
     record {
       size = quarters-exact (h .size);
