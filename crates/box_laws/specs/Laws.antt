@@ -1,25 +1,35 @@
--- What CSS says of one box (css-position-3 #abspos-auto-size, css-sizing-3, css-tables-3 #abspos) and of its contribution to the scrollable
--- overflow (css-overflow-3 #scrollable), as statements over `placed` and `contribution`. `proofs/Laws.antt` proves each, under its name in
--- small letters. Assumes nothing.
+-- What CSS says of one box (css-position-3 #abspos-auto-size, css-sizing-3 #min-size-properties, css-tables-3 #abspos, css-box-4 #margins) and
+-- of what it adds to the scrollable overflow (css-overflow-3 #scrollable), as laws of `placed`: each holds of the whole dialogue, whatever
+-- the host replies. Where a box stands in an axis is said by the laws of one axis (oof_axis/specs/Laws.antt, axis_laws/specs/Laws.antt), to
+-- which `StandsByItsAxes` leads. `proofs/Laws.antt`, `proofs/Clamp.antt` and `proofs/Contribution.antt` prove each, under its name in small
+-- letters. Assumes nothing.
 use mathlib.Core.Path.{_≡_}
 use mathlib.Core.Logic.{_⊎_}
-use mathlib.Core.Bool.{Bool, true, false, not, _&&_}
+use mathlib.Core.List.{List, [], _∷_}
+use mathlib.Core.Bool.{Bool, true, false, cond, not, _&&_, _||_}
+use Prim.Native.Nat.{ℕ, _≤_}
 use lib.Ieee.{Float, lt, le, isNan}
-use Rattle.util.specs.Number.{_⊕_, 0f}
-use Rattle.util.specs.Order.{before, larger}
-use Rattle.util.specs.Maybe.{present, unwrapOr, orZero, clamped}
-use Rattle.util.specs.Laws.{AtOrAbove, AtOrBelow, notAbove}
+use lib.Ieee.Exact.{HasValue}
+use Rattle.util.specs.Number.{_⊕_, _⊖_, _⊗_, 0f}
+use Rattle.util.specs.Order.{larger}
+use Rattle.util.specs.Maybe.{clamped}
+use Rattle.util.specs.Laws.{AtOrAbove, AtOrBelow}
 use Rattle.util.specs.declared.math.MaybeF32.{MaybeF32}
 use Rattle.util.specs.declared.math.MaybeF32.the-variants.{None, Some}
-use Rattle.geometry.specs.Geometry.{zeroRect, rectOf, bothPresent, withRatio}
+use Rattle.geometry.specs.Geometry.{_to_, zeroRect, rectOf, countedFrom, lineX, lineY}
 use Rattle.geometry.specs.declared.Line.{Line}
 use Rattle.geometry.specs.declared.Point.{Point}
 use Rattle.geometry.specs.declared.Rect.{Rect}
 use Rattle.geometry.specs.declared.Size.{Size}
-use Rattle.geometry.specs.declared.MaybeSize.{MaybeSize}
+use Rattle.style.specs.Values.{anyScrollContainer, containsOverflow, isVisible}
 use Rattle.style.specs.declared.Contain.{Contain}
+use Rattle.style.specs.declared.Direction.the-variants.{Ltr, Rtl}
+use Rattle.style.specs.declared.Overflow.the-variants.{Visible}
 use Rattle.style.specs.declared.OverflowPoint.{OverflowPoint}
 use Rattle.style.specs.declared.Style.{Style}
+use Rattle.style.specs.declared.compact_length.CompactLength.{CompactLength}
+use Rattle.tree.specs.declared.layout.AxisStaticPosition.{AxisStaticPosition}
+use Rattle.tree.specs.declared.layout.Layout.{Layout}
 use Rattle.tree.specs.declared.layout.OofCandidate.{OofCandidate}
 use Rattle.oof_axis.specs.Axis.{stretchFit, stretches, placement}
 use Rattle.oof_resolve.specs.Resolved.{resolvedBox}
@@ -28,10 +38,11 @@ use Rattle.oof_resolve.specs.declared.ResolvedBox.{ResolvedBox}
 use Rattle.common.specs.ScrollableOverflow.{contribution}
 use Rattle.common.specs.declared.sizing_keyword.SizingKeywordResolution.the-variants.{NoKeyword}
 use Rattle.oof_box.specs.Talk.{Talk, done, ask, ReplyTo}
-use Rattle.oof_box.specs.Box.{Placed, placed, sizeKeywords, stretched}
+use Rattle.oof_box.specs.Box.{Placed, placed, sizeKeywords}
 use Rattle.oof_box.specs.declared.question.MeasureInput.{MeasureInput}
 use Rattle.oof_box.specs.declared.question.Question.{Question}
 use Rattle.oof_box.specs.declared.question.Question.the-variants.{MeasureBoth}
+use Rattle.axis_laws.specs.Laws.{_=Σ_, _≤Σ_}
 
 -- ---- whatever the host replies
 
@@ -44,9 +55,13 @@ pub data Always {A : Type 0} (P : A → Type 0) : Talk A → Type 0 where
 abbrev pub SizeAlways : (Size → Type 0) → ContainingBlock → Style → OofCandidate → Type 0
 SizeAlways P block style candidate = Always (λ (p : Placed). P (p .outcome .layout .size)) (placed block style candidate)
 
--- ---- sizes
+-- the dialogue opens with the question for both sizes, and P holds of the question, of its reply and of the outcome
+pub data Measures (P : MeasureInput → Size → Placed → Type 0) : Talk Placed → Type 0 where
+  measures : {m : MeasureInput} {next : Size → Talk Placed} → ((r : Size) → Always (P m r) (next r)) → Measures P (ask (MeasureBoth m) next)
 
--- min ≤ size, whatever is measured: of min as step 2 has it
+-- ---- sizes. Min, max and size are those of step 2: percentages resolved, padding plus border added where content-box, min at least these.
+
+-- min ≤ size
 abbrev pub MinHolds : Type 0
 MinHolds =
     (block : ContainingBlock) (style : Style) (candidate : OofCandidate) (low : Float)
@@ -54,49 +69,118 @@ MinHolds =
     (box .min .width ≡ Some low → SizeAlways (λ s. AtOrAbove low (s .width)) block style candidate)
     × (box .min .height ≡ Some low → SizeAlways (λ s. AtOrAbove low (s .height)) block style candidate)
 
--- size ≤ max unless min is above. (A table's min is raised to its stretch-fit size, so its max may give way to that: it is left out.)
+-- size ≤ max, unless min is above max, or, of a table, its stretch-fit size, to which its min is raised
 abbrev pub MaxHolds : Type 0
 MaxHolds =
-    (block : ContainingBlock) (style : Style) (candidate : OofCandidate) (high : Float) → style .table ≡ false
+    (block : ContainingBlock) (style : Style) (candidate : OofCandidate) (low high : Float)
     → let box = resolvedBox block style candidate in
-    (box .max .width ≡ Some high → notAbove (box .min .width) high ≡ true → SizeAlways (λ s. AtOrBelow high (s .width)) block style candidate)
-    × (box .max .height ≡ Some high → notAbove (box .min .height) high ≡ true → SizeAlways (λ s. AtOrBelow high (s .height)) block style candidate)
+    (box .min .width ≡ Some low → box .max .width ≡ Some high → lt high low ≡ false → (style .table ≡ true → lt high (stretchFit (box .horizontal)) ≡ false)
+    → SizeAlways (λ s. AtOrBelow high (s .width)) block style candidate)
+    × (box .min .height ≡ Some low → box .max .height ≡ Some high → lt high low ≡ false → (style .table ≡ true → lt high (stretchFit (box .vertical)) ≡ false)
+    → SizeAlways (λ s. AtOrBelow high (s .height)) block style candidate)
 
--- a table is never stretched: what is known of its size stays, and its min is raised only
-abbrev pub TableIsNotStretched : Type 0
-TableIsNotStretched = (style : Style) (box : ResolvedBox) (known : MaybeSize) → style .table ≡ true → stretched style box known .known ≡ known
-
--- no side of the size has a keyword that is to be resolved
-abbrev pub NoKeywords : Style → ResolvedBox → Type 0
-NoKeywords style box = (sizeKeywords style box .width ≡ NoKeyword) × (sizeKeywords style box .height ≡ NoKeyword)
-
--- neither replaced nor a table
-abbrev pub plain : Style → Bool
-plain style = not (style .replaced) && not (style .table)
-
--- the dialogue opens with a question for both sizes, and P holds of its reply and of the outcome
-pub data Measures (P : Size → Placed → Type 0) : Talk Placed → Type 0 where
-  measures : {m : MeasureInput} {next : Size → Talk Placed} → ((r : Size) → Always (P r) (next r)) → Measures P (ask (MeasureBoth m) next)
-
--- an auto width that isn't stretched, of a box without a ratio, is measured, and is the reply, clamped
-abbrev pub MeasuredIsTheReply : Type 0
-MeasuredIsTheReply =
-    (block : ContainingBlock) (style : Style) (candidate : OofCandidate) → style .ratio ≡ None
+-- a size that is given is the size: no reply, no alignment, no ratio and no keyword of the other side changes it
+abbrev pub GivenSizeStays : Type 0
+GivenSizeStays =
+    (block : ContainingBlock) (style : Style) (candidate : OofCandidate) (x : Float)
     → let box = resolvedBox block style candidate in
-    NoKeywords style box → box .size .width ≡ None → stretches (box .horizontal) (plain style) ≡ false
-    → Measures (λ r p. p .outcome .layout .size .width ≡ clamped (r .width) (stretched style box (box .size) .min .width) (box .max .width)) (placed block style candidate)
+    (box .size .width ≡ Some x → SizeAlways (λ s. s .width ≡ x) block style candidate)
+    × (box .size .height ≡ Some x → SizeAlways (λ s. s .height ≡ x) block style candidate)
 
--- an auto width that is stretched, of a box without a ratio that is no table, is the stretch-fit size, whatever is measured, where min and max
--- leave it (min is padding plus border at least). By axis_laws/specs/Laws.antt `StretchFits` the margin box is then the block.
+-- neither a ratio nor a size keyword has a say: a side that isn't given is auto
+pub record Plain (style : Style) (box : ResolvedBox) : Type 0 where
+  pub ratio : style .ratio ≡ None
+  pub width : sizeKeywords style box .width ≡ NoKeyword
+  pub height : sizeKeywords style box .height ≡ NoKeyword
+
+-- a box that normal alignment stretches: neither replaced nor a table
+abbrev pub stretchable : Style → Bool
+stretchable style = not (style .replaced) && not (style .table)
+
+-- stretch fills: an auto size that stretches is the stretch-fit size, clamped, whatever is measured. By `StretchedBoxIsTheBlock` of axis_laws
+-- the margin box is then the block, where min and max leave it.
 abbrev pub StretchFills : Type 0
 StretchFills =
-    (block : ContainingBlock) (style : Style) (candidate : OofCandidate) (low : Float) → style .ratio ≡ None → style .table ≡ false
+    (block : ContainingBlock) (style : Style) (candidate : OofCandidate)
     → let box = resolvedBox block style candidate in
-    NoKeywords style box → box .size .width ≡ None → stretches (box .horizontal) (plain style) ≡ true
-    → box .min .width ≡ Some low → before (stretchFit (box .horizontal)) low ≡ false → box .max .width ≡ None
-    → SizeAlways (λ s. s .width ≡ stretchFit (box .horizontal)) block style candidate
+    Plain style box → style .table ≡ false
+    → (box .size .width ≡ None → stretches (box .horizontal) (stretchable style) ≡ true
+    → SizeAlways (λ s. s .width ≡ clamped (stretchFit (box .horizontal)) (box .min .width) (box .max .width)) block style candidate)
+    × (box .size .height ≡ None → stretches (box .vertical) (stretchable style) ≡ true
+    → SizeAlways (λ s. s .height ≡ clamped (stretchFit (box .vertical)) (box .min .height) (box .max .height)) block style candidate)
 
--- a box stands where its axes place it, moved by the area's offset, and its margins are those of its axes
+-- any other auto size is asked for, and is the reply, clamped
+abbrev pub MeasuredIsTheReply : Type 0
+MeasuredIsTheReply =
+    (block : ContainingBlock) (style : Style) (candidate : OofCandidate)
+    → let box = resolvedBox block style candidate in
+    Plain style box → style .table ≡ false
+    → (box .size .width ≡ None → stretches (box .horizontal) (stretchable style) ≡ false
+    → Measures (λ m r p. (m .known .width ≡ None) × (p .outcome .layout .size .width ≡ clamped (r .width) (box .min .width) (box .max .width))) (placed block style candidate))
+    × (box .size .height ≡ None → stretches (box .vertical) (stretchable style) ≡ false
+    → Measures (λ m r p. (m .known .height ≡ None) × (p .outcome .layout .size .height ≡ clamped (r .height) (box .min .height) (box .max .height))) (placed block style candidate))
+
+-- a table is never stretched: an auto size of it is asked for, and is the reply, clamped with its min raised to the stretch-fit size where
+-- the alignment is stretch
+abbrev pub tableMin : Bool → Float → Float → Float
+tableMin stretches low fit = cond stretches (larger low fit) low
+
+abbrev pub TableIsMeasured : Type 0
+TableIsMeasured =
+    (block : ContainingBlock) (style : Style) (candidate : OofCandidate) (low : Float)
+    → let box = resolvedBox block style candidate in
+    Plain style box → style .table ≡ true
+    → (box .size .width ≡ None → box .min .width ≡ Some low
+    → Measures
+    (λ m r p. (m .known .width ≡ None)
+    × (p .outcome .layout .size .width ≡ clamped (r .width) (Some (tableMin (stretches (box .horizontal) false) low (stretchFit (box .horizontal)))) (box .max .width))) (placed block style candidate))
+    × (box .size .height ≡ None → box .min .height ≡ Some low
+    → Measures
+    (λ m r p. (m .known .height ≡ None)
+    × (p .outcome .layout .size .height ≡ clamped (r .height) (Some (tableMin (stretches (box .vertical) false) low (stretchFit (box .vertical)))) (box .max .height))) (placed block style candidate))
+
+-- a clamp that is done changes nothing when done again
+abbrev pub ClampIsSettled : Type 0
+ClampIsSettled = (x : Float) (min max : MaybeF32) → clamped (clamped x min max) min max ≡ clamped x min max
+
+-- ---- percentages
+
+abbrev pub percent : Float → CompactLength
+percent x = record { tag = 5; value = x }
+
+-- margins, padding and border, top and bottom too, take percentages of the area's width
+pub record OfTheWidth (w x : Float) (style : Style) (box : ResolvedBox) : Type 0 where
+  pub marginLeft : style .margin .left ≡ percent x → box .horizontal .margin .start ≡ Some (w ⊗ x)
+  pub marginRight : style .margin .right ≡ percent x → box .horizontal .margin .end ≡ Some (w ⊗ x)
+  pub marginTop : style .margin .top ≡ percent x → box .vertical .margin .start ≡ Some (w ⊗ x)
+  pub marginBottom : style .margin .bottom ≡ percent x → box .vertical .margin .end ≡ Some (w ⊗ x)
+  pub paddingLeft : style .padding .left ≡ percent x → box .padding .left ≡ w ⊗ x
+  pub paddingRight : style .padding .right ≡ percent x → box .padding .right ≡ w ⊗ x
+  pub paddingTop : style .padding .top ≡ percent x → box .padding .top ≡ w ⊗ x
+  pub paddingBottom : style .padding .bottom ≡ percent x → box .padding .bottom ≡ w ⊗ x
+  pub borderLeft : style .border .left ≡ percent x → box .border .left ≡ w ⊗ x
+  pub borderRight : style .border .right ≡ percent x → box .border .right ≡ w ⊗ x
+  pub borderTop : style .border .top ≡ percent x → box .border .top ≡ w ⊗ x
+  pub borderBottom : style .border .bottom ≡ percent x → box .border .bottom ≡ w ⊗ x
+
+abbrev pub PercentagesOfTheWidth : Type 0
+PercentagesOfTheWidth =
+    (block : ContainingBlock) (style : Style) (candidate : OofCandidate) (x : Float) → OfTheWidth (block .area .size .width) x style (resolvedBox block style candidate)
+
+-- insets take them of their own axis
+pub record OfTheirAxis (area : Size) (x : Float) (style : Style) (box : ResolvedBox) : Type 0 where
+  pub left : style .inset .left ≡ percent x → box .horizontal .inset .start ≡ Some (area .width ⊗ x)
+  pub right : style .inset .right ≡ percent x → box .horizontal .inset .end ≡ Some (area .width ⊗ x)
+  pub top : style .inset .top ≡ percent x → box .vertical .inset .start ≡ Some (area .height ⊗ x)
+  pub bottom : style .inset .bottom ≡ percent x → box .vertical .inset .end ≡ Some (area .height ⊗ x)
+
+abbrev pub InsetsOfTheirAxis : Type 0
+InsetsOfTheirAxis =
+    (block : ContainingBlock) (style : Style) (candidate : OofCandidate) (x : Float) → OfTheirAxis (block .area .size) x style (resolvedBox block style candidate)
+
+-- ---- where a box stands
+
+-- where its axes place it, moved by the area's offset, with the margins of its axes
 abbrev pub StandsByItsAxes : Type 0
 StandsByItsAxes =
     (block : ContainingBlock) (style : Style) (candidate : OofCandidate)
@@ -108,50 +192,132 @@ StandsByItsAxes =
     × (l .margin ≡ rectOf (placement (box .horizontal) (l .size .width) .margin) (placement (box .vertical) (l .size .height) .margin)))
     (placed block style candidate)
 
--- ratio and clamp, once done, change nothing when done again (Box.antt: `keywordSizes`)
-abbrev pub ClampIsSettled : Type 0
-ClampIsSettled = (x : Float) (min max : MaybeF32) → clamped (clamped x min max) min max ≡ clamped x min max
+-- the same block at another offset
+abbrev pub withOffset : Point → ContainingBlock → ContainingBlock
+withOffset offset block = record { area = record { size = block .area .size; offset = offset }; direction = block .direction; overflow = block .overflow }
 
-abbrev pub RatioOfAFullSize : Type 0
-RatioOfAFullSize = (ratio : MaybeF32) (a : MaybeSize) → bothPresent a ≡ true → withRatio ratio a ≡ a
+-- two static positions that, counted from their areas' edges, are one
+pub record SamePlace (p : AxisStaticPosition) (offset : Float) (p' : AxisStaticPosition) (offset' : Float) : Type 0 where
+  pub area : countedFrom (p' .area) offset' ≡ countedFrom (p .area) offset
+  pub align : p' .align ≡ p .align
 
--- ---- percentages
+pub record StandAlike (c : OofCandidate) (offset : Point) (c' : OofCandidate) (offset' : Point) : Type 0 where
+  pub node : c' .node ≡ c .node
+  pub order : c' .order ≡ c .order
+  pub x : SamePlace (c .place .x) (offset .x) (c' .place .x) (offset' .x)
+  pub y : SamePlace (c .place .y) (offset .y) (c' .place .y) (offset' .y)
 
--- the same block with another height
-abbrev pub withHeight : Float → ContainingBlock → ContainingBlock
-withHeight h block =
+-- two dialogues that ask the same questions, whatever the replies, and R holds of their outcomes
+pub data Alike (R : Placed → Placed → Type 0) : Talk Placed → Talk Placed → Type 0 where
+  ended : {p p' : Placed} → R p p' → Alike R (done p) (done p')
+  asking : {q : Question} {next next' : ReplyTo q → Talk Placed} → ((r : ReplyTo q) → Alike R (next r) (next' r)) → Alike R (ask q next) (ask q next')
+
+abbrev pub plus : Point → Point → Point
+plus p q = record { x = p .x ⊕ q .x; y = p .y ⊕ q .y }
+
+abbrev pub less : Point → Point → Point
+less p q = record { x = p .x ⊖ q .x; y = p .y ⊖ q .y }
+
+abbrev pub locatedAt : Point → Layout → Layout
+locatedAt location l =
     record {
-      area = record { size = record { width = block .area .size .width; height = h }; offset = block .area .offset };
-      direction = block .direction;
-      overflow = block .overflow;
+      order = l .order;
+      size = l .size;
+      overflow = l .overflow;
+      scrollbar = l .scrollbar;
+      location = location;
+      padding = l .padding;
+      border = l .border;
+      margin = l .margin;
     }
 
--- padding, border and margins, top and bottom too, don't know the height of the containing block: their percentages are of its width
-abbrev pub EdgesOfTheWidth : Type 0
-EdgesOfTheWidth =
-    (block : ContainingBlock) (style : Style) (candidate : OofCandidate) (h : Float)
-    → let box = resolvedBox block style candidate in let box' = resolvedBox (withHeight h block) style candidate in
-    (box' .padding ≡ box .padding) × (box' .border ≡ box .border) × (box' .vertical .margin ≡ box .vertical .margin) × (box' .horizontal ≡ box .horizontal)
+-- one place in the area: the layouts are the same but for the offset in their location, and they add the same to the overflow where an offset
+-- that is added and taken off again rounds nothing
+pub record MovedAlone (offset offset' : Point) (p p' : Placed) : Type 0 where
+  pub place : Point
+  pub location : p .outcome .layout .location ≡ plus place offset
+  pub layout : p' .outcome .layout ≡ locatedAt (plus place offset') (p .outcome .layout)
+  pub surfaced : p' .surfaced ≡ p .surfaced
+  pub contribution :
+      less (plus place offset) offset ≡ place → less (plus place offset') offset' ≡ place → p' .outcome .contribution ≡ p .outcome .contribution
+
+-- layouts move with the offset alone
+abbrev pub OffsetMovesAlone : Type 0
+OffsetMovesAlone =
+    (block : ContainingBlock) (offset' : Point) (style : Style) (candidate candidate' : OofCandidate) → StandAlike candidate (block .area .offset) candidate' offset'
+    → Alike (MovedAlone (block .area .offset) offset') (placed block style candidate) (placed (withOffset offset' block) style candidate')
 
 -- ---- the contribution to the scrollable overflow
 
--- in a scrolling parent it is zeros, or can be scrolled to: right and bottom are above 0. The location counts from the scroll origin, so
--- this is one law for both directions.
+-- in a scrolling parent it is zeros, or can be scrolled to: right and bottom are above 0. It counts from the start edge by direction, so
+-- that this is one law for both.
 abbrev pub ScrollingContributionIsReachable : Type 0
 ScrollingContributionIsReachable =
-    (location : Point) (size : Size) (own : Rect) (overflow : OverflowPoint) (contain : Contain)
-    → let r = contribution location size own overflow contain true in
-    (r ≡ zeroRect) ⊎ ((le (r .right) 0f ≡ false) × (le (r .bottom) 0f ≡ false))
+    (block : ContainingBlock) (style : Style) (candidate : OofCandidate) → anyScrollContainer (block .overflow) ≡ true
+    → Always
+    (λ (p : Placed). let r = p .outcome .contribution in (r ≡ zeroRect) ⊎ ((le (r .right) 0f ≡ false) × (le (r .bottom) 0f ≡ false)))
+    (placed block style candidate)
 
--- zeros, or it is the box's reach, moved to its location: a reach that holds the border box
-pub record Reaches (size : Float) (l : Line) : Type 0 where
-  pub start : le (l .start) 0f ≡ true
-  pub end : isNan size ≡ false → le size (l .end) ≡ true
+-- whole sixteenths of a pixel (to which boxes of quarter pixels are aligned), of size 131,072 at most
+pub record Sixteenth (x : Float) : Type 0 where
+  pub sign : Bool
+  pub k : ℕ
+  pub value : HasValue x sign k 16
+  pub small : k ≤ 2097152
 
-abbrev pub ZerosOrHoldsTheBox : Type 0
-ZerosOrHoldsTheBox =
-    (location : Point) (size : Size) (own : Rect) (overflow : OverflowPoint) (contain : Contain) (scrolls : Bool)
-    → let r = contribution location size own overflow contain scrolls in
-    (r ≡ zeroRect)
-    ⊎ ((x : Line) × (y : Line) × Reaches (size .width) x × Reaches (size .height) y
-    × (r ≡ record { left = location .x ⊕ x .start; right = location .x ⊕ x .end; top = location .y ⊕ y .start; bottom = location .y ⊕ y .end }))
+-- the numbers of a laid-out box, its area, its place and its own overflow
+pub record Fine (block : ContainingBlock) (l : Layout) : Type 0 where
+  pub width : Sixteenth (block .area .size .width)
+  pub offsetX : Sixteenth (block .area .offset .x)
+  pub offsetY : Sixteenth (block .area .offset .y)
+  pub x : Sixteenth (l .location .x)
+  pub y : Sixteenth (l .location .y)
+  pub sizeX : Sixteenth (l .size .width)
+  pub sizeY : Sixteenth (l .size .height)
+  pub left : Sixteenth (l .overflow .left)
+  pub right : Sixteenth (l .overflow .right)
+  pub top : Sixteenth (l .overflow .top)
+  pub bottom : Sixteenth (l .overflow .bottom)
+
+-- r holds what reaches from x .start to x .end and from y .start to y .end of the box's start edges: in y, and in x left-to-right, from the
+-- area's top or left edge on; right-to-left, from its right edge leftwards
+abbrev pub HoldsForwards : Line → Float → Float → Line → Type 0
+HoldsForwards r offset at l = (r .start ∷ offset ∷ [] ≤Σ at ∷ l .start ∷ []) × (at ∷ l .end ∷ [] ≤Σ r .end ∷ offset ∷ [])
+
+abbrev pub HoldsBackwards : Line → Float → Float → Float → Float → Line → Type 0
+HoldsBackwards r offset width at size l =
+    (r .start ∷ at ∷ size ∷ [] ≤Σ offset ∷ width ∷ l .start ∷ []) × (offset ∷ width ∷ l .end ∷ [] ≤Σ r .end ∷ at ∷ size ∷ [])
+
+abbrev pub Holds : ContainingBlock → Layout → Rect → Line → Line → Type 0
+Holds block l r x y =
+    (block .direction ≡ Ltr → HoldsForwards (lineX r) (block .area .offset .x) (l .location .x) x)
+    × (block .direction ≡ Rtl → HoldsBackwards (lineX r) (block .area .offset .x) (block .area .size .width) (l .location .x) (l .size .width) x)
+    × HoldsForwards (lineY r) (block .area .offset .y) (l .location .y) y
+
+-- zeros, or it holds the border box, in both directions
+abbrev pub ContributionHoldsTheBox : Type 0
+ContributionHoldsTheBox =
+    (block : ContainingBlock) (style : Style) (candidate : OofCandidate)
+    → Always
+    (λ (p : Placed). let l = p .outcome .layout in let r = p .outcome .contribution in
+    Fine block l → (r ≡ zeroRect) ⊎ Holds block l r (0f to l .size .width) (0f to l .size .height))
+    (placed block style candidate)
+
+-- and the box's own overflow, where that is visible in both axes and nothing contains it
+abbrev pub ContributionHoldsItsOverflow : Type 0
+ContributionHoldsItsOverflow =
+    (block : ContainingBlock) (style : Style) (candidate : OofCandidate)
+    → style .overflow .x ≡ Visible → style .overflow .y ≡ Visible → containsOverflow (style .contain) ≡ false
+    → Always
+    (λ (p : Placed). let l = p .outcome .layout in let r = p .outcome .contribution in
+    Fine block l → (r ≡ zeroRect) ⊎ Holds block l r (lineX (l .overflow)) (lineY (l .overflow)))
+    (placed block style candidate)
+
+-- what the box clips isn't counted: own overflow that a scroll container or containment holds, in both axes; along an axis that isn't
+-- visible, in that one
+abbrev pub ClippedOverflowIsNotCounted : Type 0
+ClippedOverflowIsNotCounted =
+    (location : Point) (size : Size) (own own' : Rect) (overflow : OverflowPoint) (contain : Contain) (scrolls : Bool)
+    → (anyScrollContainer overflow || containsOverflow contain ≡ true → contribution location size own overflow contain scrolls ≡ contribution location size own' overflow contain scrolls)
+    × (isVisible (overflow .x) ≡ false → lineY own ≡ lineY own' → contribution location size own overflow contain scrolls ≡ contribution location size own' overflow contain scrolls)
+    × (isVisible (overflow .y) ≡ false → lineX own ≡ lineX own' → contribution location size own overflow contain scrolls ≡ contribution location size own' overflow contain scrolls)
