@@ -1,8 +1,7 @@
 -- What CSS says of one box (css-position-3 #abspos-auto-size, css-sizing-3 #min-size-properties, css-tables-3 #abspos, css-box-4 #margins) and
 -- of what it adds to the scrollable overflow (css-overflow-3 #scrollable), as laws of `placed`: each holds of the whole dialogue, whatever
 -- the host replies. Where a box stands in an axis is said by the laws of one axis (oof_axis/specs/Laws.antt, axis_laws/specs/Laws.antt), to
--- which `StandsByItsAxes` leads. `proofs/Laws.antt`, `proofs/Clamp.antt` and `proofs/Contribution.antt` prove each, under its name in small
--- letters. Assumes nothing.
+-- which `StandsByItsAxes` leads. `proofs/` proves each, under its name in small letters. Assumes nothing.
 use mathlib.Core.Path.{_≡_}
 use mathlib.Core.Logic.{_⊎_}
 use mathlib.Core.List.{List, [], _∷_}

@@ -1,0 +1,157 @@
+-- Percentages, and where a box stands. Assumes nothing.
+use mathlib.Core.Path.{_≡_, refl, sym, ap, ap₂, _∙_}
+use mathlib.Core.Bool.{true, false, cond}
+use lib.Ieee.{Float}
+use Rattle.util.specs.Number.{_⊕_, _⊖_, _⊗_}
+use Rattle.util.specs.Maybe.{unwrapOr, orZero}
+use Rattle.util.specs.declared.math.MaybeF32.{MaybeF32}
+use Rattle.util.specs.declared.math.MaybeF32.the-variants.{Some}
+use Rattle.geometry.specs.Geometry.{rectOrZero, countedFrom, maybeLineX, maybeLineY}
+use Rattle.geometry.specs.declared.Line.{Line}
+use Rattle.geometry.specs.declared.Point.{Point}
+use Rattle.geometry.specs.declared.Rect.{Rect}
+use Rattle.geometry.specs.declared.Size.{Size}
+use Rattle.geometry.specs.declared.MaybeSize.{MaybeSize}
+use Rattle.style.specs.Resolve.{byTag, resolved, maybeResolved, resolvedRect}
+use Rattle.style.specs.Values.{isRtl, isScrollContainer, selfRelative, anyScrollContainer}
+use Rattle.style.specs.declared.Style.{Style}
+use Rattle.style.specs.declared.compact_length.CompactLength.{CompactLength}
+use Rattle.style.specs.declared.resolve.Field.{Field}
+use Rattle.style.specs.declared.resolve.Field.the-variants as field
+use Rattle.tree.specs.declared.layout.AxisStaticAlign.{AxisStaticAlign}
+use Rattle.tree.specs.declared.layout.AxisStaticPosition.{AxisStaticPosition}
+use Rattle.tree.specs.declared.layout.OofCandidate.{OofCandidate}
+use Rattle.oof_axis.specs.Axis.{fromResolved, placement}
+use Rattle.oof_axis.specs.declared.OofAxis.{OofAxis}
+use Rattle.oof_resolve.specs.Resolved.{ofWidth, ofEachAxis, lessOffset, horizontal, vertical, paddingOrBorder, resolvedBox}
+use Rattle.oof_resolve.specs.declared.ContainingBlock.{ContainingBlock}
+use Rattle.oof_resolve.specs.declared.ResolvedBox.{ResolvedBox}
+use Rattle.common.specs.ScrollableOverflow.{contribution}
+use Rattle.oof_place.specs.Placing.{layoutOf, fromOrigin, boxLayout}
+use Rattle.oof_box.specs.Talk.{_>>=_, Laid}
+use Rattle.oof_box.specs.Box.{Placed, placed, stretched, measured, keywordSizes, sizeKeywords}
+use Rattle.box_laws.specs.Laws.{percent, PercentagesOfTheWidth, InsetsOfTheirAxis, StandsByItsAxes, withOffset, SamePlace, StandAlike, Alike, ended, asking, plus, less, MovedAlone, OffsetMovesAlone}
+use Rattle.box_laws.proofs.Always.{alike-bind, placed-always}
+
+-- ---- percentages
+
+percent-is : (f : Field) (l : CompactLength) (basis x : Float) → l ≡ percent x → maybeResolved f l basis ≡ Some (basis ⊗ x)
+unfolding maybeResolved resolved byTag
+percent-is f l basis x e = rw e refl
+
+percent-or-zero : (f : Field) (l : CompactLength) (basis x : Float) → l ≡ percent x → orZero (maybeResolved f l basis) ≡ basis ⊗ x
+unfolding unwrapOr
+percent-or-zero f l basis x e = rw (percent-is f l basis x e) refl
+
+pub percentages-of-the-width : PercentagesOfTheWidth
+unfolding resolvedBox horizontal vertical ofWidth paddingOrBorder resolvedRect rectOrZero
+percentages-of-the-width block style candidate x =
+    let w = block .area .size .width in
+    record {
+      marginLeft = percent-is field.InsetOrMargin (style .margin .left) w x;
+      marginRight = percent-is field.InsetOrMargin (style .margin .right) w x;
+      marginTop = percent-is field.InsetOrMargin (style .margin .top) w x;
+      marginBottom = percent-is field.InsetOrMargin (style .margin .bottom) w x;
+      paddingLeft = percent-or-zero field.PaddingOrBorder (style .padding .left) w x;
+      paddingRight = percent-or-zero field.PaddingOrBorder (style .padding .right) w x;
+      paddingTop = percent-or-zero field.PaddingOrBorder (style .padding .top) w x;
+      paddingBottom = percent-or-zero field.PaddingOrBorder (style .padding .bottom) w x;
+      borderLeft = percent-or-zero field.PaddingOrBorder (style .border .left) w x;
+      borderRight = percent-or-zero field.PaddingOrBorder (style .border .right) w x;
+      borderTop = percent-or-zero field.PaddingOrBorder (style .border .top) w x;
+      borderBottom = percent-or-zero field.PaddingOrBorder (style .border .bottom) w x;
+    }
+
+pub insets-of-their-axis : InsetsOfTheirAxis
+unfolding resolvedBox horizontal vertical ofEachAxis resolvedRect
+insets-of-their-axis block style candidate x =
+    record {
+      left = percent-is field.InsetOrMargin (style .inset .left) (block .area .size .width) x;
+      right = percent-is field.InsetOrMargin (style .inset .right) (block .area .size .width) x;
+      top = percent-is field.InsetOrMargin (style .inset .top) (block .area .size .height) x;
+      bottom = percent-is field.InsetOrMargin (style .inset .bottom) (block .area .size .height) x;
+    }
+
+-- ---- where a box stands
+
+pub stands-by-its-axes : StandsByItsAxes
+unfolding boxLayout layoutOf
+stands-by-its-axes block style candidate = placed-always _ block style candidate (λ size laid. (refl, refl, refl))
+
+-- ---- at another offset
+
+same-place : (p p' : AxisStaticPosition) (offset offset' : Float) → SamePlace p offset p' offset' → lessOffset p' offset' ≡ lessOffset p offset
+unfolding lessOffset
+same-place p p' offset offset' h = ap₂ (λ (l : Line) (s : AxisStaticAlign). record { area = l; align = s }) (h .area) (h .align)
+
+module _ (block : ContainingBlock) (offset' : Point) (style : Style) (candidate candidate' : OofCandidate) (h : StandAlike candidate (block .area .offset) candidate' offset') where
+  same-across : horizontal (withOffset offset' block) style candidate' ≡ horizontal block style candidate
+  unfolding horizontal
+  same-across =
+      let justify = selfRelative (style .justify) (style .direction) (block .direction) true in
+      ap
+      (λ (p : AxisStaticPosition).
+      record {
+        size = block .area .size .width;
+        inset = maybeLineX (ofEachAxis (style .inset) (block .area .size));
+        margin = maybeLineX (ofWidth field.InsetOrMargin (style .margin) (block .area .size));
+        place = p;
+        alignment = fromResolved (justify .keyword);
+        safety = justify .safety;
+        inline = true;
+        reversed = isRtl (block .direction);
+        scrolls = isScrollContainer (block .overflow .x);
+      })
+      (same-place (candidate .place .x) (candidate' .place .x) (block .area .offset .x) (offset' .x) (h .x))
+
+  same-down : vertical (withOffset offset' block) style candidate' ≡ vertical block style candidate
+  unfolding vertical
+  same-down =
+      let align = selfRelative (style .align) (style .direction) (block .direction) false in
+      ap
+      (λ (p : AxisStaticPosition).
+      record {
+        size = block .area .size .height;
+        inset = maybeLineY (ofEachAxis (style .inset) (block .area .size));
+        margin = maybeLineY (ofWidth field.InsetOrMargin (style .margin) (block .area .size));
+        place = p;
+        alignment = fromResolved (align .keyword);
+        safety = align .safety;
+        inline = false;
+        reversed = false;
+        scrolls = isScrollContainer (block .overflow .y);
+      })
+      (same-place (candidate .place .y) (candidate' .place .y) (block .area .offset .y) (offset' .y) (h .y))
+
+  same-box : resolvedBox (withOffset offset' block) style candidate' ≡ resolvedBox block style candidate
+  unfolding resolvedBox
+  same-box = rw (same-across, same-down) refl
+
+  abbrev box : ResolvedBox
+  box = resolvedBox block style candidate
+
+  -- from the scroll origin, the offset taken off
+  abbrev counted : Point → Size → Point
+  counted p size = record { x = cond (isRtl (block .direction)) (block .area .size .width ⊖ p .x ⊖ size .width) (p .x); y = p .y }
+
+  moved : (size : Size) (laid : Laid)
+      → MovedAlone (block .area .offset) offset' (record { outcome = boxLayout block style candidate box size (laid .overflow); surfaced = laid .surfaced })
+      (record { outcome = boxLayout (withOffset offset' block) style candidate' box size (laid .overflow); surfaced = laid .surfaced })
+  unfolding boxLayout layoutOf fromOrigin
+  moved size laid =
+      record {
+        place = record { x = placement (box .horizontal) (size .width) .position; y = placement (box .vertical) (size .height) .position };
+        location = refl;
+        layout = rw (h .order) refl;
+        surfaced = refl;
+        contribution =
+            λ e e'. ap (λ (p : Point). contribution (counted p size) size (laid .overflow) (style .overflow) (style .contain) (anyScrollContainer (block .overflow))) (e' ∙ sym e);
+      }
+
+pub offset-moves-alone : OffsetMovesAlone
+unfolding placed boxLayout layoutOf _>>=_
+offset-moves-alone block offset' style candidate candidate' h =
+    rw (same-box block offset' style candidate candidate' h, h .node)
+    (alike-bind (MovedAlone (block .area .offset) offset') (keywordSizes (candidate .node) style (resolvedBox block style candidate) (sizeKeywords style (resolvedBox block style candidate))) _ _
+    (λ known. alike-bind (MovedAlone (block .area .offset) offset') (measured (candidate .node) (resolvedBox block style candidate) (stretched style (resolvedBox block style candidate) known)) _ _
+    (λ size. asking (λ laid. ended (moved block offset' style candidate candidate' h size laid)))))
