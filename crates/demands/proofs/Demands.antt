@@ -16,7 +16,7 @@ use Rattle.run.specs.declared.Opening.{Opening}
 use Rattle.run.specs.declared.State.{State}
 use Rattle.run.specs.Call.{Lent, Outcome, outcome}
 use Rattle.run.specs.Theorems.{WroteSize, isRefused, askedFor, Heard, Loan, own, other, Turn, next, nextWith, turned, Lends, AllLend, called, Stands, heededIn, courseOf}
-use Rattle.run.specs.Run.{boxAtHand, opened, replied, takenBy, laidOut}
+use Rattle.run.specs.Run.{extentsOf, boxAtHand, opened, replied, takenBy, laidOut}
 use Rattle.run.proofs.Refusals.{refused-reply-keeps, refused-opening-keeps}
 use Rattle.run.proofs.Conditions.{opening-refused-exactly, opening-accepted-exactly, reply-refused-exactly, reply-accepted-exactly}
 use Rattle.run.proofs.Ways.{ReplyWay, measures, laysOut, reply-way, never-kept}
@@ -25,7 +25,8 @@ use Rattle.run.proofs.Questions.{Hoisted, opening-hoisted, reply-hoisted}
 use Rattle.run.proofs.ByBox.{ForBox, opening-for, reply-for}
 use Rattle.run.proofs.Straight.{straight-run}
 use Rattle.mirror.proofs.Mirror.{mirror}
-use Rattle.mirror.specs.Image.{imageOpening, imageCandidates}
+use Rattle.mirror.specs.Image.{imageOpening, imageStyles, imageCandidates}
+use Rattle.mirror.specs.Quarter.{QuarterArea, QuarterTable, QuarterCandidates}
 use Rattle.mirror.specs.Runs.{Message, runNext, imageNext, Fair, AllFair, MirroredRuns, unclaimedAtOpening}
 use Rattle.demands.specs.Entries.{Opens, AnyCalls, Takes, Run, BothRuns}
 use Rattle.demands.specs.Entries as entry
@@ -171,10 +172,23 @@ module _ (o : Opening) (candidates : List ℕ) (lent lent' : Lent) where
       (subst (λ (x : Outcome). Fair (x .step .state) (runNext (lent .styles) x m .step .answer) m) e
       (subst (λ (x : Outcome). Fair (before .step .state) (x .step .answer) m) (takes (lent .styles) before (m .turn .heard) (m .turn .loan) has c) f))
 
-pub mirror-image : MirrorImage
+-- at the end of a list, and so of each beginning of it
+at-the-end : (o : Opening) (candidates : List ℕ) (lent lent' : Lent) {messages : List Message} {has has' : Outcome}
+    → QuarterArea (o .area) → QuarterTable (lent .styles) → QuarterCandidates candidates
+    → lent' .styles ≡ imageStyles (lent .styles) → extentsOf lent ≡ extentsOf lent'
+    → BothRuns o candidates lent lent' messages has has'
+    → MirroredRuns (o .area) (unclaimedAtOpening o candidates lent) has has'
 unfolding image
-mirror-image o candidates lent lent' messages has has' area table quarter styles same calls =
-    subst (λ (x : Outcome). MirroredRuns (o .area) (unclaimedAtOpening o candidates lent) x has') (sym (run-of o candidates lent lent' calls))
-    (subst (λ (x : Outcome). MirroredRuns (o .area) (unclaimedAtOpening o candidates lent) (foldl (runNext (lent .styles)) (opened o candidates lent) messages) x) (sym (image-of o candidates lent lent' calls))
+at-the-end o candidates lent lent' {messages} {has} {has'} area table quarter styles same both =
+    subst (λ (x : Outcome). MirroredRuns (o .area) (unclaimedAtOpening o candidates lent) x has') (sym (run-of o candidates lent lent' both))
+    (subst (λ (x : Outcome). MirroredRuns (o .area) (unclaimedAtOpening o candidates lent) (foldl (runNext (lent .styles)) (opened o candidates lent) messages) x) (sym (image-of o candidates lent lent' both))
     (mirror o candidates lent lent' messages [] area table quarter styles same
-    (subst (AllFair (lent .styles) (opened o candidates lent)) (sym (append-nil messages)) (both-fair o candidates lent lent' calls))))
+    (subst (AllFair (lent .styles) (opened o candidates lent)) (sym (append-nil messages)) (both-fair o candidates lent lent' both))))
+
+pub mirror-image : MirrorImage
+mirror-image o candidates lent lent' messages has has' area table quarter styles same (BothRuns.opening c c') =
+    at-the-end o candidates lent lent' area table quarter styles same (BothRuns.opening c c')
+mirror-image o candidates lent lent' messages has has' area table quarter styles same (BothRuns.reply m earlier c c' fair) = (
+  mirror-image o candidates lent lent' _ _ _ area table quarter styles same earlier,
+  at-the-end o candidates lent lent' area table quarter styles same (BothRuns.reply m earlier c c' fair),
+)

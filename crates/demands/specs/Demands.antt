@@ -30,7 +30,7 @@ use Rattle.run.specs.Theorems.{isRefused, own, openIn, WroteSize, Turn, Stands,
 use Rattle.mirror.specs.Image.{imageStyles}
 use Rattle.mirror.specs.Quarter.{QuarterArea, QuarterTable, QuarterCandidates}
 use Rattle.mirror.specs.Runs.{Message, MirroredRuns, unclaimedAtOpening}
-use Rattle.demands.specs.Entries.{Opens, AnyCalls, Takes, Run, BothRuns}
+use Rattle.demands.specs.Entries.{Opens, AnyCalls, Takes, Run, BothRuns, AfterEach}
 use Rattle.demands.specs.Entries as entry
 
 -- ---- Demand 1. "Whoever calls an entry, with any bits in any number and slices of any length, gets its answer (in a run, a question or
@@ -89,16 +89,19 @@ LaidOutAsAsked =
     → isRefused (has .step .answer) ≡ false
     → WroteSize input (before .layouts) (has .layouts)
 
--- ---- Demand 3. A run and its mirror image, given any one list of replies, refused ones included (mirror/specs/Mirror.antt has the
--- hypotheses in words, mirror/specs/Runs.antt what the two then have in common).
+-- ---- Demand 3. "Take a left-to-right run and its mirror image .. Let the host give both any one list of replies, refused ones included, each
+-- with the state that the last call returned, while nobody else writes the lent words. After opening and after each reply both have given
+-- the same question, finish or refusal .." (mirror/specs/Quarter.antt has what is asked of area, styles and candidates,
+-- mirror/specs/Runs.antt what is asked of a reply and what the two then have in common)
 
 abbrev pub MirrorImage : Type 0
 MirrorImage =
     (o : Opening) (candidates : List ℕ) (lent lent' : Lent) (messages : List Message) (has has' : Outcome)
     → QuarterArea (o .area) → QuarterTable (lent .styles) → QuarterCandidates candidates
+    -- the image's slices are as long; but for its styles they may hold any words
     → lent' .styles ≡ imageStyles (lent .styles) → extentsOf lent ≡ extentsOf lent'
-    → BothRuns o candidates lent lent' messages has has'
-    → MirroredRuns (o .area) (unclaimedAtOpening o candidates lent) has has'
+    → (both : BothRuns o candidates lent lent' messages has has')
+    → AfterEach (MirroredRuns (o .area) (unclaimedAtOpening o candidates lent)) both
 
 -- ---- What is demanded of runs: the function `demanded` of src/lib.rt ensures these, so that a crate without a proof of each is not proved.
 

@@ -76,3 +76,11 @@ pub data BothRuns (o : Opening) (candidates : List ℕ) (lent lent' : Lent) : Li
       → Takes (lent' .styles) before' (m .image .heard) (m .image .loan) has'
       → Fair (before .step .state) (has .step .answer) m
       → BothRuns o candidates lent lent' (messages ++ (m ∷ [])) has has'
+
+-- P holds of what the host has of both after the opening and after each reply
+abbrev pub AfterEach : {o : Opening} {candidates : List ℕ} {lent lent' : Lent} {messages : List Message} {has has' : Outcome}
+    → (Outcome → Outcome → Type 0)
+    → BothRuns o candidates lent lent' messages has has'
+    → Type 0
+AfterEach P (BothRuns.opening {has = has} {has' = has'} c c') = P has has'
+AfterEach P (BothRuns.reply {has = has} {has' = has'} m earlier c c' fair) = AfterEach P earlier × P has has'
