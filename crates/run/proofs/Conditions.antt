@@ -20,12 +20,21 @@ use Rattle.style_record.specs.Check.{safetyBreaks, breaksAs, breaksRule, breaks
 use Rattle.style_record.specs.declared.check.TableCheck.{TableCheck}
 use Rattle.style_record.specs.declared.check.TableCheck.the-variants.{Good, Bad}
 use Rattle.style_record.proofs.Laws.{good-is-none, bad-is-first}
+use Rattle.style.specs.Values.{isSelfRelative}
+use Rattle.style.specs.declared.alignment.AlignItemsKeyword.{AlignItemsKeyword}
+use Rattle.style.specs.declared.alignment.AlignItemsKeyword.the-variants as keyword
+use Rattle.style.specs.declared.alignment.AlignItems.{AlignItems}
+use Rattle.tree.specs.Static.{fromAlignment}
+use Rattle.tree.specs.declared.layout.AxisStaticPosition.{AxisStaticPosition}
+use Rattle.tree.specs.declared.layout.Aligned.{Aligned}
+use Rattle.tree.specs.declared.layout.Aligned.the-variants as aligned
+use Rattle.tree.specs.declared.layout.Aligned.the-variants.{At}
 use Rattle.style.specs.declared.ContainingBlockClaims.{ContainingBlockClaims}
 use Rattle.sweep.specs.Laws.{Exceeds}
 use Rattle.sweep.specs.Sweep.{candidatesIn, claimed, others}
 use Rattle.sweep.specs.declared.Filled.{Filled}
 use Rattle.refusal.specs.declared.Refusal.{Refusal}
-use Rattle.refusal.specs.declared.Refusal.the-variants.{BadArea, BadExtent, BadStyle, BadCandidate, ListFull, WrongReply}
+use Rattle.refusal.specs.declared.Refusal.the-variants.{BadArea, BadExtent, BadStyle, BadCandidate, ListFull, WrongReply, UnresolvedSide}
 use Rattle.oof_box.specs.Cut.{taken}
 use Rattle.oof_box.specs.declared.question.Replies.{Replies}
 use Rattle.oof_box.specs.declared.question.Reply.{Reply}
@@ -43,10 +52,10 @@ use Rattle.run.specs.declared.Extents.{Extents}
 use Rattle.run.specs.declared.Answer.{Answer}
 use Rattle.run.specs.declared.Answer.the-variants.{Ask, Finish, Refused}
 use Rattle.run.specs.Call.{Lent}
-use Rattle.run.specs.Refusals.{Verdict, accepted, refused, badArea, ragged, badTable, badList, badSlices, otherLengths, isBad, badStyle, badCandidate, listFull, wrongCounts, lentBy}
+use Rattle.run.specs.Refusals.{Verdict, accepted, refused, _when_else_, badArea, ragged, badTable, badList, badSlices, otherLengths, isBad, badStyle, badCandidate, listFull, wrongCounts, lentBy}
 use Rattle.run.specs.Run.{extentsOf, claimsOf, noneFilled, opened, openedBy, openingVerdict, takenIn, takenBy, isWrong, replied, repliedBy, replyVerdict}
-use Rattle.run.specs.Conditions.{AreaIsBad, GoodTable, Whole, GoodList, SlicesAreBad, Among, Allowed, StyleIsBad, places, word, AxisIsBad, RecordIsBad, CandidateIsBad, QuestionKind, both, width, height, layOut, kindOfQuestion, kindOfReply, kindAt, NotAsked, CountsAreWrong, openingTests, replyTests}
-use Rattle.run.specs.Theorems.{isRefused, OpeningRefusedExactly, OpeningAcceptedExactly, ReplyRefusedExactly, ReplyAcceptedExactly, OtherLengthsRefused, StageTellsKind}
+use Rattle.run.specs.Conditions.{AreaIsBad, GoodTable, Whole, GoodList, SlicesAreBad, Among, Allowed, StyleIsBad, places, word, AxisIsBad, RecordIsBad, CandidateIsBad, QuestionKind, both, width, height, layOut, kindOfQuestion, kindOfReply, kindAt, NotAsked, CountsAreWrong, openingTests, replyTests, SideIsUnresolved}
+use Rattle.run.specs.Theorems.{isRefused, OpeningRefusedExactly, OpeningAcceptedExactly, ReplyRefusedExactly, ReplyAcceptedExactly, OtherLengthsRefused, StageTellsKind, UnresolvedExactly}
 use Rattle.run.proofs.Ways.{passed, neither}
 use Rattle.run.proofs.Refusals.{begun-accepts, measured-accepts, laid-accepts}
 use Rattle.run.proofs.Decides.{Decides, by-iff, either, regroup, opposite, refutes, both-fail, guard, last, below, at-most, equal, not-every, Says, no-more, then, refused-first, accepted-none}
@@ -55,7 +64,7 @@ use Rattle.run.proofs.EachQuestion.{of-asked}
 
 -- ---- 1
 
-area-decided : (o : Opening) → Decides (badArea o) (AreaIsBad o)
+pub area-decided : (o : Opening) → Decides (badArea o) (AreaIsBad o)
 unfolding badArea
 area-decided o = regroup (regroup (either (either (either (below 1 (o .direction)) (below 3 (o .claims))) (below 3 (o .overflowx))) (below 3 (o .overflowy))))
 
@@ -65,7 +74,7 @@ area-decided o = regroup (regroup (either (either (either (below 1 (o .direction
 same : (m n : ℕ) → m ≡ n → not (eqb m n) ≡ false
 same m n e = ap not (eq-eqb m n e)
 
-whole-decided : (list : List ℕ) → Decides (ragged 13 list) (¬ Whole list)
+pub whole-decided : (list : List ℕ) → Decides (ragged 13 list) (¬ Whole list)
 whole-decided list =
     refutes (λ f. (length list / 13, let e = eqb-true (length list % 13) 0 (not-false _ f) in omega arith))
     (λ h. let e = h .1 in same (length list % 13) 0 (omega arith))
@@ -171,7 +180,7 @@ word-decided keyword before w = above 10 w
 word-decided safety before w = safety-decided before w
 word-decided contain before w = above 255 w
 
-style-decided : (styles : List ℕ) → Decides (badStyle styles) (StyleIsBad styles)
+pub style-decided : (styles : List ℕ) → Decides (badStyle styles) (StyleIsBad styles)
 unfolding badStyle breaks breaksRule
 style-decided styles = record { holds = λ t. there (checked styles) refl t; fails = λ f. back (checked styles) refl f }
   where
@@ -198,7 +207,7 @@ record-decided n list i =
     rw (good-record n list (13 * i), add-zero)
     (guard _ (at-most n (getD list (13 * i) 0)) (guard _ (at-most 5 (word list i 2)) (decides.both (good axisKinds list (13 * i + 3)) (good axisKinds list (13 * i + 8)) (axis-decided list i 3) (axis-decided list i 8))))
 
-candidate-decided : (styles list : List ℕ) (count : ℕ) → count ≤ places list → Decides (badCandidate styles list count) (CandidateIsBad styles list count)
+pub candidate-decided : (styles list : List ℕ) (count : ℕ) → count ≤ places list → Decides (badCandidate styles list count) (CandidateIsBad styles list count)
 unfolding badCandidate goodRecords
 candidate-decided styles list count h =
     rw (le-leb count (length list / 13) h)
@@ -410,3 +419,40 @@ pub stage-tells-kind : StageTellsKind
 stage-tells-kind block style candidate replies =
     of-asked (λ a. kindOfQuestion (a .question) ≡ kindAt (a .stage)) (record { both = λ m. refl; width = λ m. refl; height = λ m. refl; fill = λ m. refl }) block style candidate replies
     (λ space. refl)
+
+-- ---- 7
+
+self-relative : (k : AlignItemsKeyword) → isSelfRelative k ≡ true → (k ≡ keyword.SelfStart) ⊎ (k ≡ keyword.SelfEnd)
+self-relative keyword.Normal e = no {b = false} e refl
+self-relative keyword.Start e = no {b = false} e refl
+self-relative keyword.End e = no {b = false} e refl
+self-relative keyword.FlexStart e = no {b = false} e refl
+self-relative keyword.FlexEnd e = no {b = false} e refl
+self-relative keyword.SelfStart e = inl refl
+self-relative keyword.SelfEnd e = inr refl
+self-relative keyword.Center e = no {b = false} e refl
+self-relative keyword.Baseline e = no {b = false} e refl
+self-relative keyword.Stretch e = no {b = false} e refl
+
+side-decided : (a : AlignItems) → Decides (isSelfRelative (a .keyword)) (SideIsUnresolved a)
+side-decided a = record { holds = self-relative (a .keyword); fails = λ f s. fails f s }
+  where
+    fails : isSelfRelative (a .keyword) ≡ false → ¬ SideIsUnresolved a
+    fails f (inl e) = no (ap isSelfRelative e) f
+    fails f (inr e) = no (ap isSelfRelative e) f
+
+abbrev isAt : Aligned → Bool
+isAt (At p) = true
+isAt (aligned.Refused r) = false
+
+abbrev refusalOf : Aligned → Refusal
+refusalOf (At p) = UnresolvedSide
+refusalOf (aligned.Refused r) = r
+
+pub unresolved-exactly : UnresolvedExactly
+unfolding fromAlignment _when_else_
+unresolved-exactly a area rtl r = Iff·trans (go (isSelfRelative (a .keyword)) _) (refused-first r (then UnresolvedSide (side-decided a) (λ _. no-more)))
+  where
+    go : (b : Bool) (p : AxisStaticPosition) → (cond b (aligned.Refused UnresolvedSide) (At p) ≡ aligned.Refused r) ↔ (UnresolvedSide when b else accepted ≡ refused r)
+    go true p = (λ e. ap refused (ap refusalOf e), λ e. ap aligned.Refused (ap refusalBy e))
+    go false p = (λ e. no {b = true} refl (ap isAt e), λ e. no {b = true} refl (ap isAccepted e))

@@ -1,11 +1,14 @@
--- When a call is refused: each row of document 01's table that a run can meet, as a proposition, with document 01's numbers, and the
--- order in which they are tested. `Theorems.antt` states that a call is refused exactly so. Assumes nothing.
+-- When a call is refused: each row of document 01's table but 8, as a proposition, with document 01's numbers, and the order in which they
+-- are tested. `Theorems.antt` states that a call is refused exactly so. Row 8 is of the program: `IsScreen` of screen/specs/Laws.antt.
+-- Assumes nothing.
 use Prim.Native.Nat.{ℕ, _+_, _*_, _-_, _/_, _<_, _≤_}
 use mathlib.Core.Logic.{_⊎_, _≢_}
 use mathlib.Core.Path.{_≡_}
 use mathlib.Core.List.{List, [], _∷_}
 use lib.ListN.{length, getD}
 use Rattle.style.specs.Laws.{tagsOf}
+use Rattle.style.specs.declared.alignment.AlignItems.{AlignItems}
+use Rattle.style.specs.declared.alignment.AlignItemsKeyword.the-variants as side
 use Rattle.style_record.specs.Record.{Kind, tag, number, code, ratio, keyword, safety, contain, kindOf, item, items}
 use Rattle.sweep.specs.Laws.{Exceeds}
 use Rattle.sweep.specs.Sweep.{candidatesIn}
@@ -135,6 +138,11 @@ CountsAreWrong lent c =
     (places (lent .working) < c .filled .working) ⊎ (places (lent .unclaimed) < c .filled .unclaimed)
     ⊎ (c .begun < 1) ⊎ (c .filled .working < c .begun)
     ⊎ (3 * c .begun < c .answered)
+
+-- ---- 7, unresolved side: "self-start or self-end given to `from_alignment`", of crate `tree`
+
+abbrev pub SideIsUnresolved : AlignItems → Type 0
+SideIsUnresolved a = (a .keyword ≡ side.SelfStart) ⊎ (a .keyword ≡ side.SelfEnd)
 
 -- ---- The order of the tests.
 

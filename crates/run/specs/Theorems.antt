@@ -10,7 +10,11 @@ use lib.ListN.{length}
 use Rattle.refusal.specs.Refusal.{numberOf}
 use Rattle.refusal.specs.declared.Refusal.{Refusal}
 use Rattle.refusal.specs.declared.Refusal.the-variants.{BadExtent}
+use Rattle.geometry.specs.declared.Line.{Line}
 use Rattle.geometry.specs.declared.Rect.{Rect}
+use Rattle.style.specs.declared.alignment.AlignItems.{AlignItems}
+use Rattle.tree.specs.Static.{fromAlignment}
+use Rattle.tree.specs.declared.layout.Aligned.the-variants as aligned
 use Rattle.style.specs.declared.Style.{Style}
 use Rattle.tree.specs.declared.layout.Layout.{Layout}
 use Rattle.tree.specs.declared.layout.OofCandidate.{OofCandidate}
@@ -35,7 +39,7 @@ use Rattle.run.specs.declared.Answer.the-variants.{Ask, Finish, Refused}
 use Rattle.run.specs.declared.Step.{Step}
 use Rattle.run.specs.Call.{Lent, Outcome, unwritten}
 use Rattle.run.specs.Run.{boxAtHand, opened, replied, closed, claimsOf, blockOf}
-use Rattle.run.specs.Conditions.{LengthsDiffer, FirstIs, NoneHolds, openingTests, replyTests, QuestionKind, kindOfQuestion, kindAt}
+use Rattle.run.specs.Conditions.{LengthsDiffer, SideIsUnresolved, FirstIs, NoneHolds, openingTests, replyTests, QuestionKind, kindOfQuestion, kindAt}
 use Rattle.run.specs.Straight.{World, Box, Course, ended, asks, straight}
 
 abbrev pub isRefused : Answer → Bool
@@ -65,6 +69,12 @@ abbrev pub ReplyAcceptedExactly : Type 0
 ReplyAcceptedExactly =
     (s : State) (reply : Reply) (surfaced : List ℕ) (lent : Lent)
     → (isRefused (replied s reply surfaced lent .step .answer) ≡ false) ↔ NoneHolds (replyTests s reply surfaced lent)
+
+-- and `from_alignment` with 7
+abbrev pub UnresolvedExactly : Type 0
+UnresolvedExactly =
+    (a : AlignItems) (area : Line) (rtl : Bool) (r : Refusal)
+    → (fromAlignment a area rtl ≡ aligned.Refused r) ↔ FirstIs ((7, SideIsUnresolved a) ∷ []) (numberOf r)
 
 -- the stage that a state keeps is of its question's kind
 abbrev pub StageTellsKind : Type 0
