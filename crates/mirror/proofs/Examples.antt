@@ -5,9 +5,11 @@ use mathlib.Core.Path.{_≡_, refl, subst}
 use mathlib.Core.Bool.{true, false}
 use mathlib.Core.List.{List, [], _∷_}
 use lib.Ieee.{eq, ofBits}
+use Rattle.util.specs.Number.{0f}
 use Rattle.util.proofs.Floats.{no}
 use Rattle.style.specs.declared.available_space.AvailableSpace.{AvailableSpace}
 use Rattle.records.specs.Records.{every, recordAt, records}
+use Rattle.tree.specs.declared.layout.OofPositioningArea.{OofPositioningArea}
 use Rattle.style_record.specs.Record.{items}
 use Rattle.style_record.specs.Decode.{lengthAt, floatAt}
 use Rattle.tree_record.specs.Candidate.{candidateOf, axisOf}
@@ -136,22 +138,36 @@ unfolding ofBits eq
 quarter-small = record { width = quarter-decided (word 1048576000) refl; height = quarter-decided (word 1048576000) refl; x = nought; y = nought; notZero = λ e. no e refl }
 
 -- an area whose width isn't 0: in one of 0 the run offers 0.5 and its image 0
-width-needed : (Quarter (narrow .area .size .width) × QuarterTable still × QuarterCandidates centered) × Fails narrow still centered []
+width-needed :
+    (Quarter (narrow .area .size .width) × Quarter (narrow .area .size .height) × Quarter (narrow .area .offset .x) × Quarter (narrow .area .offset .y) × QuarterTable still × QuarterCandidates centered)
+    × Fails narrow still centered []
 unfolding ofBits every recordAt candidateOf axisOf
-width-needed = ((nought, quarter-still, candidates-decided centered refl), fails (computed .widthZero))
+width-needed = ((nought, nought, nought, nought, quarter-still, candidates-decided centered refl), fails (computed .widthZero))
+
+-- all that is asked of an area but for its offset across
+pub record ButOffset (area : OofPositioningArea) : Type 0 where
+  pub width : Quarter (area .size .width)
+  pub height : Quarter (area .size .height)
+  pub y : Quarter (area .offset .y)
+  pub notZero : area .size .width ≐ 0f → ⊥
 
 -- an area of whole quarter pixels: at 0.1 they differ
-quarter-areas-needed : (Quarter (aside .area .size .width) × QuarterTable still × QuarterCandidates atStart) × Fails aside still atStart []
-unfolding ofBits
-quarter-areas-needed = ((quarter-decided (word 1056964608) refl, quarter-still, quarter-at-start), fails (computed .area))
+quarter-areas-needed : (ButOffset (aside .area) × QuarterTable still × QuarterCandidates atStart) × Fails aside still atStart []
+unfolding ofBits eq
+quarter-areas-needed = ((rest, quarter-still, quarter-at-start), fails (computed .area))
+  where
+    rest : ButOffset (aside .area)
+    rest = record { width = quarter-decided (word 1056964608) refl; height = quarter-decided (word 1048576000) refl; y = nought; notZero = λ e. no e refl }
 
 -- of size 4,096 at most: at 2,097,152, which is whole quarter pixels, they differ
-bound-needed :
-    (Quarter (far .area .size .width) × Quarters 8388608 (far .area .offset .x) × QuarterTable still × QuarterCandidates atStart) × Fails far still atStart []
-unfolding ofBits
-bound-needed = ((quarter-decided (word 1048576000) refl, far-away, quarter-still, quarter-at-start), fails (computed .bound))
+bound-needed : (ButOffset (far .area) × Quarters 8388608 (far .area .offset .x) × QuarterTable still × QuarterCandidates atStart) × Fails far still atStart []
+unfolding ofBits eq
+bound-needed = ((rest, far-away, quarter-still, quarter-at-start), fails (computed .bound))
   where
-    far-away : Quarters 8388608 (word 1241513984)
+    rest : ButOffset (far .area)
+    rest = record { width = quarter-small .width; height = quarter-small .height; y = nought; notZero = λ e. no e refl }
+
+    far-away : Quarters 8388608 (far .area .offset .x)
     far-away = record { sign = false; k = 8388608; value = (refl, refl); small = omega arith }
 
 -- lengths of whole quarter pixels
@@ -159,9 +175,13 @@ quarter-lengths-needed : (QuarterArea (small .area) × QuarterCandidates atStart
 quarter-lengths-needed = ((quarter-small, quarter-at-start), fails (computed .length))
 
 -- candidates' areas of whole quarter pixels
-quarter-candidates-needed : (Quarter (wide .area .size .width) × QuarterTable still) × Fails wide still upTo []
-unfolding ofBits
-quarter-candidates-needed = ((quarter-decided (word 1083179008) refl, quarter-still), fails (computed .place))
+quarter-candidates-needed : (QuarterArea (wide .area) × QuarterTable still) × Fails wide still upTo []
+unfolding ofBits eq
+quarter-candidates-needed = ((quarter-wide, quarter-still), fails (computed .place))
+  where
+    quarter-wide : QuarterArea (wide .area)
+    quarter-wide =
+        record { width = quarter-decided (word 1083179008) refl; height = quarter-decided (word 1048576000) refl; x = nought; y = nought; notZero = λ e. no e refl }
 
 -- replies of whole quarter pixels: both are given 0.1, with their own slices
 quarter-replies-needed : (QuarterArea (small .area) × QuarterTable content × QuarterCandidates atStart) × Fails small content atStart tenth
