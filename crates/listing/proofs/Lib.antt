@@ -4,3 +4,4 @@ pub mod Lists
 pub mod Whole
 pub mod Laws
 pub mod Verdicts
+pub mod Exactly

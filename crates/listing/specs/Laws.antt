@@ -1,8 +1,9 @@
--- What `printed` means, as statements. `proofs/Verdicts.antt` and `proofs/Laws.antt` prove each, under its name in small letters. Assumes nothing.
+-- What `printed` means, as statements. `proofs/` proves each, under its name in small letters. Assumes nothing.
 use Prim.Native.Nat.{ℕ, _<_, _≤_}
+use mathlib.Core.Logic.{_↔_}
 use mathlib.Core.Path.{_≡_}
 use mathlib.Core.Bool.{not}
-use mathlib.Core.List.{List}
+use mathlib.Core.List.{List, [], _∷_}
 use lib.ListN.{length, take}
 use Rattle.geometry.specs.declared.Rect.{Rect}
 use Rattle.refusal.specs.declared.Refusal.{Refusal}
@@ -12,6 +13,8 @@ use Rattle.column.specs.declared.list.Row.{Row}
 use Rattle.column.specs.Listing.{listText, refusalText}
 use Rattle.screen.specs.Format.{MAX-CANDIDATES}
 use Rattle.screen.specs.Screen.{isScreen, headerOf, stylesOf, candidatesOf}
+use Rattle.screen.specs.Laws.{IsScreen}
+use Rattle.run.specs.Conditions.{AreaIsBad, StyleIsBad, places, CandidateIsBad, FirstIs, NoneHolds}
 use Rattle.run.specs.Refusals.{Verdict, accepted, refused, _when_else_, badArea, badStyle, badCandidates}
 use Rattle.listing.specs.Listing.{LIST-BYTES, openingOf, printed}
 
@@ -31,6 +34,29 @@ pub data Shows : Verdict → List ℕ → Type 0 where
 
 abbrev pub ListOrRefusal : Type 0
 ListOrRefusal = (text : List ℕ) → Shows (verdictOf text) (printed text)
+
+-- ---- refused exactly under document 01's conditions, by their numbers: 8 is tested first, then 1, 3 and 4
+
+abbrev pub programTests : List ℕ → List (ℕ × Type 0)
+programTests text =
+    (8, ¬ IsScreen text)
+    ∷ (1, AreaIsBad (openingOf (headerOf text)))
+    ∷ (3, StyleIsBad (stylesOf text))
+    ∷ (4, CandidateIsBad (stylesOf text) (candidatesOf text) (places (candidatesOf text)))
+    ∷ []
+
+abbrev pub RefusedExactly : Type 0
+RefusedExactly =
+    (text : List ℕ) (r : Refusal) → (printed text ≡ refusalText (numberOf r)) ↔ FirstIs (programTests text) (numberOf r)
+
+-- and a list exactly where none holds
+pub record IsList (text : List ℕ) : Type 0 where
+  pub rows : List Row
+  pub overflow : Rect
+  pub whole : text ≡ listText rows overflow
+
+abbrev pub ListedExactly : Type 0
+ListedExactly = (text : List ℕ) → IsList (printed text) ↔ NoneHolds (programTests text)
 
 -- so it fits the program's buffer
 abbrev pub PrintedFits : Type 0
