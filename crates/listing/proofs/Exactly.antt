@@ -20,7 +20,7 @@ use Rattle.screen.specs.Laws.{IsScreen}
 use Rattle.screen.proofs.Exactly.{screen-exactly}
 use Rattle.run.specs.Refusals.{Verdict, accepted, refused}
 use Rattle.run.specs.Conditions.{places}
-use Rattle.run.proofs.Decides.{Decides, opposite, Says, then, no-more, refused-first, accepted-none}
+use Rattle.run.proofs.Decides.{Decides, opposite, Says, then, no-more, isAccepted, refusalBy, refused-first, accepted-none}
 use Rattle.run.proofs.Conditions.{area-decided, style-decided, candidate-decided}
 use Rattle.listing.specs.Listing.{openingOf, printed}
 use Rattle.listing.specs.Laws.{verdictOf, Shows, list, line, programTests, RefusedExactly, IsList, ListedExactly}
@@ -73,14 +73,6 @@ same-line : (q r : Refusal) → refusalText (numberOf q) ≡ refusalText (number
 same-line q r e = numbers-differ q r (sym (number-back q) ∙ ap numberIn e ∙ number-back r)
 
 -- ---- what is shown is the verdict
-
-abbrev isAccepted : Verdict → Bool
-isAccepted accepted = true
-isAccepted (refused r) = false
-
-abbrev refusalBy : Verdict → Refusal
-refusalBy accepted = BadScreenLine
-refusalBy (refused r) = r
 
 line-shown : {v : Verdict} {text : List ℕ} (r : Refusal) → Shows v text → (text ≡ refusalText (numberOf r)) ↔ (v ≡ refused r)
 line-shown r (list rows overflow h) = (λ e. apart rows overflow (numberOf r) e, λ e. no {b = true} refl (ap isAccepted e))

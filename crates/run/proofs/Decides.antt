@@ -141,11 +141,11 @@ not-both [] m a b = b
 not-both (t ∷ tests) m a (inl b) = a .0 (b .0)
 not-both (t ∷ tests) m a (inr b) = not-both tests m (a .1) (b .1)
 
-abbrev isAccepted : Verdict → Bool
+abbrev pub isAccepted : Verdict → Bool
 isAccepted accepted = true
 isAccepted (refused r) = false
 
-abbrev refusalBy : Verdict → Refusal
+abbrev pub refusalBy : Verdict → Refusal
 refusalBy accepted = WrongReply
 refusalBy (refused r) = r
 

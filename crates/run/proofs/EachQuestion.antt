@@ -1,4 +1,5 @@
 -- What holds of each of the five questions of a box holds of the one that is asked. Assumes nothing.
+use mathlib.Core.Path.{_≡_, refl}
 use mathlib.Core.Bool.{Bool, true, false, cond, _||_}
 use Prim.Native.Nat.{ℕ}
 use Rattle.geometry.specs.Geometry.{bothPresent}
@@ -17,6 +18,8 @@ use Rattle.oof_box.specs.declared.question.Asked.{Asked}
 use Rattle.oof_box.specs.declared.question.MeasureInput.{MeasureInput}
 use Rattle.oof_box.specs.declared.question.Question.the-variants.{MeasureBoth, MeasureWidth, MeasureHeight}
 use Rattle.oof_box.specs.declared.question.Replies.{Replies}
+use Rattle.run.specs.Conditions.{kindOfQuestion, kindAt}
+use Rattle.run.specs.Theorems.{StageTellsKind}
 use Rattle.oof_box.specs.declared.question.Stage.the-variants.{KeywordBoth, KeywordWidth, KeywordHeight, Fill}
 
 pub record OfMeasures (P : Asked → Type 0) : Type 0 where
@@ -57,3 +60,9 @@ module _ (P : Asked → Type 0) (each : OfMeasures P) where
       chosen (isFirst (replies .keyword) (replies .fill)) _ later
       (after-keywords (candidate .node) (keywords .width) (keywords .height) (box .size) (keywordStretch box) later h)
       h
+
+-- so the stage tells the kind
+pub stage-tells-kind : StageTellsKind
+stage-tells-kind block style candidate replies =
+    of-asked (λ a. kindOfQuestion (a .question) ≡ kindAt (a .stage)) (record { both = λ m. refl; width = λ m. refl; height = λ m. refl; fill = λ m. refl }) block style candidate replies
+    (λ space. refl)

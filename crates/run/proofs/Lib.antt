@@ -4,6 +4,7 @@ pub mod Ways
 pub mod Refusals
 pub mod EachQuestion
 pub mod Conditions
+pub mod Exactly
 pub mod Told
 pub mod Questions
 pub mod BoxTalk

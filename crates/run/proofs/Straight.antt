@@ -42,7 +42,7 @@ use Rattle.run.specs.Straight.{World, Box, atOpening, afterBox, Course, 
 use Rattle.run.specs.Theorems.{laidCount, laidSoFar, Heard, next, Loan, own, other, Turn, nextWith, turned, Lends, AllLend, heeded, hearing, soFar, saidAfter, laidInto, claimedIn, begunIn, openIn, awaited, awaitedIn, Stands, called, heededIn, courseOf, StraightRun, hoisted, HoistedOrder}
 use Rattle.run.proofs.Ways.{NextWay, asks, ends, next-way, OpeningWay, begins, opening-way, ReplyWay, measures, laysOut, reply-way, opening-room, reply-room, lent-all}
 use Rattle.run.proofs.Refusals.{refusedIn, saying, turn-refused, finished-refuses}
-use Rattle.run.proofs.Conditions.{stage-tells-kind}
+use Rattle.run.proofs.EachQuestion.{stage-tells-kind}
 use Rattle.run.proofs.BoxTalk.{Asks, heardBy, hearing-during, At, at-first, asks-at, kept-at, laid-at}
 use Rattle.run.proofs.Worlds.{list-back, rear, rear-count, laidIn, laid-last, claimed-count, claimed-after, unclaimed-after, laid-after, Sound, opening-sound, First, first-back, after-sound}
 
