@@ -2,11 +2,15 @@
 use Prim.Native.Nat.{ℕ, _+_}
 use native.Mathlib.Omega.{arith}
 use mathlib.Core.Path.{_≡_, refl, sym, ap, subst, _∙_}
-use mathlib.Core.Bool.{false}
+use mathlib.Core.Bool.{Bool, false}
 use mathlib.Core.List.{List, [], _∷_, _++_, foldl, foldl-append, append-nil}
 use lib.ListN.{length}
 use Rattle.util.proofs.Floats.{no}
+use Rattle.geometry.specs.declared.Line.{Line}
 use Rattle.geometry.specs.declared.Rect.{Rect}
+use Rattle.style.specs.declared.alignment.AlignItems.{AlignItems}
+use Rattle.tree.specs.Static.{fromAlignment}
+use Rattle.tree.specs.declared.layout.Aligned.{Aligned}
 use Rattle.style_record.specs.Decode.{styleAt}
 use Rattle.oof_box.specs.declared.question.Reply.{Reply}
 use Rattle.oof_box.specs.declared.question.Reply.the-variants.{LaidOut}
@@ -18,7 +22,10 @@ use Rattle.run.specs.Call.{Lent, Outcome, outcome}
 use Rattle.run.specs.Theorems.{WroteSize, isRefused, askedFor, Heard, Loan, own, other, Turn, next, nextWith, turned, Lends, AllLend, called, Stands, heededIn, courseOf}
 use Rattle.run.specs.Run.{extentsOf, boxAtHand, opened, replied, takenBy, laidOut}
 use Rattle.run.proofs.Refusals.{refused-reply-keeps, refused-opening-keeps}
-use Rattle.run.proofs.Conditions.{opening-refused-exactly, opening-accepted-exactly, reply-refused-exactly, reply-accepted-exactly}
+use Rattle.run.proofs.Exactly.{opening-refused-exactly, opening-accepted-exactly, reply-refused-exactly, reply-accepted-exactly, unresolved-exactly}
+use Rattle.listing.proofs.Exactly.{refused-exactly, listed-exactly}
+use Rattle.listing.specs.Rows.{Prints}
+use Rattle.listing.specs.Listing.{printed}
 use Rattle.run.proofs.Ways.{ReplyWay, measures, laysOut, reply-way, never-kept}
 use Rattle.run.proofs.Told.{lays-out}
 use Rattle.run.proofs.Questions.{Hoisted, opening-hoisted, reply-hoisted}
@@ -30,7 +37,7 @@ use Rattle.mirror.specs.Quarter.{QuarterArea, QuarterTable, QuarterCandidates}
 use Rattle.mirror.specs.Runs.{Message, runNext, imageNext, Fair, AllFair, MirroredRuns, unclaimedAtOpening}
 use Rattle.demands.specs.Entries.{Opens, AnyCalls, Takes, Run, BothRuns}
 use Rattle.demands.specs.Entries as entry
-use Rattle.demands.specs.Demands.{OpeningDemands, ReplyDemands, ThreeQuestionsEach, EqualsStraightRun, SizedLayout, SizeLaw, LaidOutAsAsked, MirrorImage}
+use Rattle.demands.specs.Demands.{OpeningDemands, ReplyDemands, AlignmentDemands, ScreenDemands, ThreeQuestionsEach, EqualsStraightRun, SizedLayout, SizeLaw, LaidOutAsAsked, MirrorImage}
 
 -- ---- one call
 
@@ -43,6 +50,12 @@ opening-demands o candidates lent c =
       accepted = opening-accepted-exactly o candidates lent;
       wrote = refused-opening-keeps o candidates lent;
     })
+
+pub alignment-demands : (a : AlignItems) (area : Line) (rtl : Bool) {r : Aligned} → r ≡ fromAlignment a area rtl → AlignmentDemands a area rtl r
+alignment-demands a area rtl c = subst (AlignmentDemands a area rtl) (sym c) (record { call = refl; refused = unresolved-exactly a area rtl })
+
+pub screen-demands : (text : List ℕ) {r : ℕ} {before after : List ℕ} → Prints r before after (printed text) → ScreenDemands text r before after
+screen-demands text c = record { call = c; refused = refused-exactly text; listed = listed-exactly text }
 
 -- ---- at most three questions
 

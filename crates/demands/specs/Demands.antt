@@ -4,14 +4,19 @@
 use Prim.Native.Nat.{ℕ, _*_, _-_, _≤_}
 use mathlib.Core.Logic.{_↔_}
 use mathlib.Core.Path.{_≡_}
-use mathlib.Core.Bool.{false}
-use mathlib.Core.List.{List}
+use mathlib.Core.Bool.{Bool, false}
+use mathlib.Core.List.{List, [], _∷_}
 use lib.ListN.{length}
 use Rattle.util.specs.Laws.{AtOrAbove}
 use Rattle.geometry.specs.Geometry.{sums, rectSum}
+use Rattle.geometry.specs.declared.Line.{Line}
 use Rattle.geometry.specs.declared.Rect.{Rect}
 use Rattle.refusal.specs.declared.Refusal.{Refusal}
 use Rattle.refusal.specs.Refusal.{numberOf}
+use Rattle.style.specs.declared.alignment.AlignItems.{AlignItems}
+use Rattle.tree.specs.Static.{fromAlignment}
+use Rattle.tree.specs.declared.layout.Aligned.{Aligned}
+use Rattle.tree.specs.declared.layout.Aligned.the-variants as aligned
 use Rattle.tree.specs.declared.layout.Layout.{Layout}
 use Rattle.records.specs.Records.{written}
 use Rattle.tree_record.specs.Layout.{layoutWidth, layoutWords}
@@ -25,11 +30,15 @@ use Rattle.run.specs.declared.State.{State}
 use Rattle.run.specs.declared.Answer.the-variants.{Ask, Refused}
 use Rattle.run.specs.Call.{Lent, Outcome, unwritten}
 use Rattle.run.specs.Run.{closed, boxAtHand, extentsOf}
-use Rattle.run.specs.Conditions.{FirstIs, NoneHolds, openingTests, replyTests}
+use Rattle.run.specs.Conditions.{FirstIs, NoneHolds, SideIsUnresolved, openingTests, replyTests}
 use Rattle.run.specs.Theorems.{isRefused, own, openIn, WroteSize, Turn, Stands, heededIn, courseOf}
 use Rattle.mirror.specs.Image.{imageStyles}
 use Rattle.mirror.specs.Quarter.{QuarterArea, QuarterTable, QuarterCandidates}
 use Rattle.mirror.specs.Runs.{Message, MirroredRuns, unclaimedAtOpening}
+use Rattle.column.specs.Listing.{refusalText}
+use Rattle.listing.specs.Rows.{Prints}
+use Rattle.listing.specs.Listing.{printed}
+use Rattle.listing.specs.Laws.{programTests, IsList}
 use Rattle.demands.specs.Entries.{Opens, AnyCalls, Takes, Run, BothRuns, AfterEach}
 use Rattle.demands.specs.Entries as entry
 
@@ -63,6 +72,17 @@ pub record ReplyDemands (s : State) (reply : Reply) (surfaced : List ℕ) (lent 
   pub accepted : (isRefused (has .step .answer) ≡ false) ↔ NoneHolds (replyTests s reply surfaced lent)
   pub wrote : (r : Refusal) → has .step .answer ≡ Refused r → has ≡ unwritten lent (record { state = s; answer = Refused r })
   pub size : SizeLaw s reply lent has
+
+-- `from_alignment`: 7
+pub record AlignmentDemands (a : AlignItems) (area : Line) (rtl : Bool) (r : Aligned) : Type 0 where
+  pub call : r ≡ fromAlignment a area rtl
+  pub refused : (q : Refusal) → (r ≡ aligned.Refused q) ↔ FirstIs ((7, SideIsUnresolved a) ∷ []) (numberOf q)
+
+-- the program: 8, then 1, 3 and 4 of the run that the screen scripts. It prints the refusal's line, or a list
+pub record ScreenDemands (text : List ℕ) (r : ℕ) (before after : List ℕ) : Type 0 where
+  pub call : Prints r before after (printed text)
+  pub refused : (q : Refusal) → (printed text ≡ refusalText (numberOf q)) ↔ FirstIs (programTests text) (numberOf q)
+  pub listed : IsList (printed text) ↔ NoneHolds (programTests text)
 
 -- "A run asks at most three questions for each box hoisted", whatever words the host rewrites between calls: at most three for each box,
 -- and none for one that isn't hoisted

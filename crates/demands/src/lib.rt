@@ -1,11 +1,23 @@
-// The demands that speak of one call, stated of the entries themselves: each function here is a call, and ensures what is demanded of
-// it. Those that speak of runs are theorems (specs/Demands.antt), from what a caller learns of the entries.
+// The demands that speak of one call, stated of the entries themselves: each function here is a call of an entry and nothing
+// else, and ensures what is demanded of it. Those that speak of runs are theorems (specs/Demands.antt); they suppose of each
+// call what is ensured here.
+ghost use mathlib.Core.Path.{_≡_};
+ghost use Rattle.oof_axis.specs.StaticOffset.{staticOffset};
 ghost use Rattle.run.specs.Call.{atEntry, atExit};
-ghost use Rattle.demands.specs.Demands.{OpeningDemands, ReplyDemands, Demanded};
+ghost use Rattle.demands.specs.Demands.{OpeningDemands, ReplyDemands, AlignmentDemands, ScreenDemands, Demanded};
+use geometry::Line;
+use geometry::Point;
+use geometry::Rect;
+use geometry::Size;
+use listing::LIST_BYTES;
 use oof_box::question::Reply;
 use run::Opening;
 use run::State;
 use run::Step;
+use style::alignment::AlignItems;
+use tree::layout::Aligned;
+use tree::layout::AxisStaticPosition;
+use tree::layout::StaticPosition;
 
 pub fn open(
     o: Opening,
@@ -32,6 +44,26 @@ pub fn reply(
     ensures { λ r. ⌜ ReplyDemands s reply (now (surfaced .entry)) (atEntry styles layouts working unclaimed) (atExit r layouts working unclaimed) ⌝ }
 {
     placer::reply(s, reply, surfaced, styles, layouts, working, unclaimed)
+}
+
+pub fn from_alignment(alignment: AlignItems, area: Line, rtl: bool) -> Aligned
+    ensures { λ r. ⌜ AlignmentDemands alignment area rtl r ⌝ }
+{
+    AxisStaticPosition::from_alignment(alignment, area, rtl)
+}
+
+// It refuses nothing.
+pub fn resolve_static_offset(place: StaticPosition, size: Size, margin: Rect) -> Point
+    ensures { λ r. ⌜ r ≡ staticOffset place size margin ⌝ }
+{
+    oof_axis::resolve_static_offset(place, size, margin)
+}
+
+// What `boxlist` prints.
+pub fn list_screen(text: &[u8], out: &mut [u8; LIST_BYTES]) -> usize
+    ensures { λ r. ⌜ ScreenDemands (now (text .entry)) r (now (out .entry)) (now (out .exit)) ⌝ }
+{
+    listing::list_screen(text, out)
 }
 
 // No code: what is ensured are the theorems over runs.
