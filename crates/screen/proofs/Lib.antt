@@ -4,3 +4,4 @@ pub mod Lines
 pub mod Whole
 pub mod Back
 pub mod Laws
+pub mod Spelled
