@@ -210,11 +210,11 @@ def files(lists):
 def readme():
     return """# Telling screens
 
-Each `NAME.screen` is a screen file as document 01 defines it; `NAME.list` is what the published Rust makes of it, and what `boxlist` prints, byte for byte:
+Each `NAME.screen` is a [screen file](../docs/SCREEN-FORMAT.md); `NAME.list` is what the published Rust makes of it, and what `boxlist` prints, byte for byte:
 
     target/bin/boxlist < screens/incident.screen
 
-Numbers are eighths of a pixel. `tools/samples/boxlists.py` writes them; the gate runs each (`crates/boxlist_test`), with the limits of the format.
+Numbers are eighths of a pixel. `tools/samples/boxlists.py` writes them; the gate runs each (`crates/boxlist_test`, `tools/run-boxlist`), with the limits of the format.
 
 """ + ''.join('- `%s`: %s.\n' % (n, t) for n, t in ABOUT.items())
 

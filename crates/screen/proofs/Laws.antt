@@ -14,7 +14,7 @@ use borrow.Author.Tests.{eqb-true, le-leb, le-ltb}
 use Rattle.util.specs.Eighths.{eighths, floatOfCount}
 use Rattle.util.proofs.Unique.{counts, count-float}
 use Rattle.column.specs.declared.Ink.the-variants.{Digits}
-use Rattle.column.specs.Column.{cells, countInk}
+use Rattle.column.specs.Column.{COLUMN, cells, countInk, codeInk, eighthsText, codeText}
 use Rattle.screen.specs.declared.format.Kind.{Kind}
 use Rattle.screen.specs.declared.format.Kind.the-variants.{Code, Eighths}
 use Rattle.screen.specs.declared.format.Line.{Line}
@@ -24,7 +24,7 @@ use Rattle.screen.specs.declared.field.Word.the-variants.{Of}
 use Rattle.screen.specs.Format.{styleFields, replyFields, candidateFields, COLUMNS, bytesOf}
 use Rattle.screen.specs.Field.{unblank, isDigit, spelled, unsigned, signed, numeralOf, codeOf, present, floatOf, wordOf}
 use Rattle.screen.specs.Screen.{wordsOf, rowsOf, itemCount, candidateCount, answerOf, stylesOf, repliesOf, candidatesOf, written}
-use Rattle.screen.specs.Laws.{allDigits, decimal, minus, plus, none, Spelling, FieldShape, NoTrailingBlank, SignedZero, ScreenSize, ScreenWords, RefusalWritesNothing, CodeBack, CountBack, FloatBack, ZeroBack}
+use Rattle.screen.specs.Laws.{allDigits, decimal, minus, plus, none, Spelling, FieldShape, NoTrailingBlank, SignedZero, ScreenSize, ScreenWords, RefusalWritesNothing, CodeBack, CountBack, FloatBack, ZeroBack, ListedCount, ListedCode}
 use Rattle.screen.proofs.Lines.{words-length}
 use Rattle.screen.proofs.Whole.{screen-told}
 use Rattle.screen.proofs.Back.{no-number, plain-back, minus-back}
@@ -190,3 +190,17 @@ unfolding countInk
 zero-back w s e =
     let p = counts (ofBits binary32 w) s 0 e .plain refl in
     rw (e, p, count-back false 0 (lit≤ tt)) (ap Of zero-word)
+
+-- ---- the columns of the list
+
+listed : (s : Bool) (n : ℕ) → n ≤ 9999999 → numeralOf (cells COLUMN (Digits s n)) ≡ Number s n
+listed true n h = minus-back 6 n (lt-of-le-of-lt h (lit< tt))
+listed false n h = plain-back 7 n (lt-of-le-of-lt h (lit< tt))
+
+pub listed-count : ListedCount
+unfolding eighthsText countInk
+listed-count x s n e = rw e (listed s n (counts x s n e .small))
+
+pub listed-code : ListedCode
+unfolding codeText codeInk
+listed-code n h = rw (le-leb n 9999999 h) (listed false n h)

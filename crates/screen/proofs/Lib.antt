@@ -5,3 +5,4 @@ pub mod Whole
 pub mod Back
 pub mod Laws
 pub mod Exactly
+pub mod Spelled

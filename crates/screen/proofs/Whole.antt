@@ -156,19 +156,20 @@ candidates-part : part (fieldsOf Candidate) 0 13 ≡ candidateFields
 unfolding part fieldsOf candidateFields
 candidates-part = refl
 
-module _ (text l : List ℕ) (n m : ℕ) (t : Told text n m) where
-  pub header-read : sets l 0 (wordsOf (part (fieldsOf First) 0 10) text) ≡ written (isScreen text) l (headerOf text)
+-- what is left of a list that was read into
+module _ (text l after : List ℕ) (n m : ℕ) (t : Told text n m) where
+  pub header-read : after ≡ sets l 0 (wordsOf (part (fieldsOf First) 0 10) text) → after ≡ written (isScreen text) l (headerOf text)
   unfolding written headerOf
-  header-read = rw (t .good, header-part) refl
+  header-read e = e ∙ rw (t .good, header-part) refl
 
-  pub styles-read : sets l 0 (rowsOf (part (fieldsOf Item) 0 57) Item n (drop FIRST text)) ≡ written (isScreen text) l (stylesOf text)
+  pub styles-read : after ≡ sets l 0 (rowsOf (part (fieldsOf Item) 0 57) Item n (drop FIRST text)) → after ≡ written (isScreen text) l (stylesOf text)
   unfolding written stylesOf
-  styles-read = rw (t .good, styles-part, ← t .items, first-bytes) refl
+  styles-read e = e ∙ rw (t .good, styles-part, ← t .items, first-bytes) refl
 
-  pub replies-read : sets l 0 (rowsOf (part (fieldsOf Item) 57 6) Item n (drop (FIRST + COLUMNS * 57) text)) ≡ written (isScreen text) l (repliesOf text)
+  pub replies-read : after ≡ sets l 0 (rowsOf (part (fieldsOf Item) 57 6) Item n (drop (FIRST + COLUMNS * 57) text)) → after ≡ written (isScreen text) l (repliesOf text)
   unfolding written repliesOf
-  replies-read = rw (t .good, replies-part, ← t .items, first-bytes, style-width) refl
+  replies-read e = e ∙ rw (t .good, replies-part, ← t .items, first-bytes, style-width) refl
 
-  pub candidates-read : sets l 0 (rowsOf (part (fieldsOf Candidate) 0 13) Candidate m (drop (FIRST + n * ITEM) text)) ≡ written (isScreen text) l (candidatesOf text)
+  pub candidates-read : after ≡ sets l 0 (rowsOf (part (fieldsOf Candidate) 0 13) Candidate m (drop (FIRST + n * ITEM) text)) → after ≡ written (isScreen text) l (candidatesOf text)
   unfolding written candidatesOf
-  candidates-read = rw (t .good, candidates-part, ← t .items, ← t .candidates, candidates-at n) refl
+  candidates-read e = e ∙ rw (t .good, candidates-part, ← t .items, ← t .candidates, candidates-at n) refl

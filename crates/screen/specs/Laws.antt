@@ -6,11 +6,11 @@ use mathlib.Core.Path.{_≡_}
 use mathlib.Core.Bool.{Bool, true, false, _&&_}
 use mathlib.Core.List.{List, [], _∷_, _++_}
 use lib.ListN.{length, replicate}
-use lib.Ieee.{ofBits, toBits, binary32}
+use lib.Ieee.{Float, ofBits, toBits, binary32}
 use Rattle.util.specs.declared.eighths.Count.the-variants.{Whole}
 use Rattle.util.specs.Eighths.{eighths, countOf}
 use Rattle.column.specs.declared.Ink.the-variants.{Digits}
-use Rattle.column.specs.Column.{cells, countInk}
+use Rattle.column.specs.Column.{cells, countInk, eighthsText, codeText}
 use Rattle.screen.specs.declared.format.Kind.{Kind}
 use Rattle.screen.specs.declared.format.Kind.the-variants.{Code, Eighths}
 use Rattle.screen.specs.declared.format.Line.{Line}
@@ -53,6 +53,17 @@ pub record Spelling (bs : List ℕ) (s : Bool) (n : ℕ) : Type 0 where
 -- a field that spells a number is blanks, at most one sign, one or more digits, and nothing else
 abbrev pub FieldShape : Type 0
 FieldShape = (bs : List ℕ) (s : Bool) (n : ℕ) → numeralOf bs ≡ Number s n → Spelling bs s n
+
+-- and every such field spells its number: `+5`, `0000005` and `-0` are read as any other
+abbrev pub FieldRead : Type 0
+FieldRead = (bs : List ℕ) (s : Bool) (n : ℕ) → Spelling bs s n → numeralOf bs ≡ Number s n
+
+-- as a code if it is one of 32 bits without a minus, as a float if it is at most 9,999,999 in size
+abbrev pub CodeRead : Type 0
+CodeRead = (bs : List ℕ) (n : ℕ) → Spelling bs false n → n ≤ 4294967295 → wordOf Code bs ≡ Of n
+
+abbrev pub CountRead : Type 0
+CountRead = (bs : List ℕ) (s : Bool) (n : ℕ) → Spelling bs s n → n ≤ 9999999 → wordOf Eighths bs ≡ Of (toBits binary32 (eighths s n))
 
 -- so numbers are right-justified: no blank stands after them
 abbrev pub NoTrailingBlank : Type 0
@@ -140,3 +151,11 @@ FloatBack =
 
 abbrev pub ZeroBack : Type 0
 ZeroBack = (w : ℕ) (s : Bool) → countOf (ofBits binary32 w) ≡ Whole s 0 → wordOf Eighths (cells COLUMNS (countInk (countOf (ofBits binary32 w)))) ≡ Of 0
+
+-- ---- no digit of the printed list is cut: a column of 8, read as a field is, spells the number that was printed, with its sign
+
+abbrev pub ListedCount : Type 0
+ListedCount = (x : Float) (s : Bool) (n : ℕ) → countOf x ≡ Whole s n → numeralOf (eighthsText x) ≡ Number s n
+
+abbrev pub ListedCode : Type 0
+ListedCode = (n : ℕ) → n ≤ 9999999 → numeralOf (codeText n) ≡ Number false n

@@ -162,16 +162,19 @@ module _ (by : ContainingBlockClaims) (list : Bool) where
       ∙ ap length (keep-first by list (candidateOf (recordAt candidateWidth ws i)) (from ws n (i + 1)))
       ∙ length-append (keep by list (candidateOf (recordAt candidateWidth ws i) ∷ [])) (keep by list (from ws n (i + 1)))
 
-  pub append-step : (s : Shift) (ws l : List ℕ) (k n i : ℕ) → i < n
-      → appended l k (keep by list (map (moved s) (from ws n i)))
-      ≡ appended (appended l k (keep by list (moved s (candidateOf (recordAt candidateWidth ws i)) ∷ []))) (k + length (keep by list (candidateOf (recordAt candidateWidth ws i) ∷ []))) (keep by list (map (moved s) (from ws n (i + 1))))
-  append-step s ws l k n i h =
+  -- a list that holds m records after one candidate
+  pub append-step : (s : Shift) (ws l after : List ℕ) (k m n i : ℕ) → i < n
+      → m ≡ k + length (keep by list (candidateOf (recordAt candidateWidth ws i) ∷ []))
+      → after ≡ appended l k (keep by list (moved s (candidateOf (recordAt candidateWidth ws i)) ∷ []))
+      → appended l k (keep by list (map (moved s) (from ws n i))) ≡ appended after m (keep by list (map (moved s) (from ws n (i + 1))))
+  append-step s ws l after k m n i h p q =
       let c = candidateOf (recordAt candidateWidth ws i) in
       let rest = map (moved s) (from ws n (i + 1)) in
       ap (λ (cs : List OofCandidate). appended l k (keep by list (map (moved s) cs))) (from-step ws n i h)
       ∙ ap (appended l k) (keep-first by list (moved s c) rest)
       ∙ appended-twice l k (keep by list (moved s c ∷ [])) (keep by list rest)
       ∙ ap (λ (m : ℕ). appended (appended l k (keep by list (moved s c ∷ []))) (k + m) (keep by list rest)) (kept-moved by list s (c ∷ []))
+      ∙ sym (rw (q, p) refl)
 
 pub appended-length : (ws : List ℕ) (k : ℕ) (cs : List OofCandidate) → length (appended ws k cs) ≡ length ws
 appended-length ws k cs = written-length ws (candidateWidth * k) (listWords cs)

@@ -1,68 +1,76 @@
 use mathlib.Core.Path.{sym}
-use lib.Dec.{lit≤}
 use lib.Seq.{length-take-le}
-use Rattle.listing.proofs.Laws.{printed-there}
 use borrow.Author.Needs.{needs}
 use Rattle.boxlist.proofs.main.Statement.{statement}
 use Rattle.boxlist.proofs.main.Tie as tie
 use Rattle.boxlist.proofs.main.Reads as reads
 use Rattle.boxlist.proofs.main.Lts as lts
+use Rattle.boxlist.proofs.print_list.Reads as print-list-reads
+use Rattle.boxlist.proofs.read_input.Reads as read-input-reads
 use Rattle.boxlist.proofs.room.Reads as room-reads
-use Rattle.io.proofs.read_full.Reads as read-full-reads
-use Rattle.io.proofs.write_all.Reads as write-all-reads
-use Rattle.listing.proofs.list_screen.Reads as list-screen-reads
+use Rattle.os.proofs.fail.Reads as fail-reads
 
--- src/main.rt:19:20
+-- src/main.rt:55:20
 room-requires : tie.Need-room-requires
 room-requires c κs = search needs
 
--- src/main.rt:21:41
-slice-aggregate-read-full : tie.Need-slice-aggregate-read-full
-slice-aggregate-read-full c = search needs
+-- src/main.rt:56:28
+slice-aggregate-read-input : tie.Need-slice-aggregate-read-input
+slice-aggregate-read-input c = search needs
 
--- src/main.rt:21:9
-read-full-requires : tie.Need-read-full-requires
-read-full-requires c κs = search needs
+-- src/main.rt:56:9
+read-input-requires : tie.Need-read-input-requires
+read-input-requires c κs = search needs
 
--- src/main.rt:22:37
+-- src/main.rt:58:35
+enum-told : tie.Need-enum-told
+enum-told c = search needs
+
+-- src/main.rt:58:35
+slice-aggregate-fail : tie.Need-slice-aggregate-fail
+slice-aggregate-fail c = search needs
+
+-- src/main.rt:58:26
+fail-requires : tie.Need-fail-requires
+fail-requires c κs = search needs
+
+-- src/main.rt:59:22
+enum-known-input : tie.Need-enum-known-input
+enum-known-input c = search needs
+
+-- src/main.rt:59:39
 array-share-prefix-text : tie.Need-array-share-prefix-text
-array-share-prefix-text c = search needs
+array-share-prefix-text c = rw (c .before .input .given .1) at (c .before .before .before .before .read-input .ensures)
 
--- src/main.rt:22:37
-slice-aggregate-list-screen : tie.Need-slice-aggregate-list-screen
-slice-aggregate-list-screen c = search needs
+-- src/main.rt:59:39
+slice-aggregate-print-list : tie.Need-slice-aggregate-print-list
+slice-aggregate-print-list c = sym (length-take-le _ _ (rw (c .before .before .input .given .1) at (c .before .before .before .before .before .read-input .ensures)))
 
--- src/main.rt:22:9
-list-screen-requires : tie.Need-list-screen-requires
-list-screen-requires c κs = search needs
+-- src/main.rt:59:28
+print-list-requires : tie.Need-print-list-requires
+print-list-requires c κs = search needs
 
--- src/main.rt:23:34
-array-share-prefix-out : tie.Need-array-share-prefix-out
-array-share-prefix-out c = printed-there _ _ _ _ (lit≤ tt) (c .list-screen .ensures)
-
--- src/main.rt:23:34
-slice-aggregate-write-all : tie.Need-slice-aggregate-write-all
-slice-aggregate-write-all c = sym (length-take-le _ _ (printed-there _ _ _ _ (lit≤ tt) (c .before .list-screen .ensures)))
-
--- src/main.rt:23:5
-write-all-requires : tie.Need-write-all-requires
-write-all-requires c κs = search needs
-
--- src/main.rt:18:1
+-- src/main.rt:54:1
 returns : tie.Need-returns
 returns c = search needs
+
+-- src/main.rt:54:1
+returns-2 : tie.Need-returns-2
+returns-2 c = search needs
 
 pub main-spec : {M : Type 1} → statement M
 main-spec =
     tie.close
     (tie.spec
     room-requires
-    slice-aggregate-read-full
-    read-full-requires
+    slice-aggregate-read-input
+    read-input-requires
+    enum-told
+    slice-aggregate-fail
+    fail-requires
+    enum-known-input
     array-share-prefix-text
-    slice-aggregate-list-screen
-    list-screen-requires
-    array-share-prefix-out
-    slice-aggregate-write-all
-    write-all-requires
-    returns)
+    slice-aggregate-print-list
+    print-list-requires
+    returns
+    returns-2)

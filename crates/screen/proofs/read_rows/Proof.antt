@@ -75,7 +75,7 @@ loop-again c =
       search needs,
       rw w (omega (arith, one-less (c .before .before .before .before .before .loop .i) (c .before .before .before .before .before .before .before .before .before .args .rows) (bytesOf (c .before .before .before .before .before .before .before .before .before .args .line)) (c .before .before .before .before .loop-test .taken))),
       omega (arith, one-less (c .before .before .before .before .before .loop .i) (c .before .before .before .before .before .before .before .before .before .args .rows) (c .before .before .before .before .before .before .before .before .before .args .n) (c .before .before .before .before .loop-test .taken)),
-      rw (e, length-sets) (inv .3),
+      search needs,
       inv .4 ∙ rw (w, e) (rows-stored _ _ _ _ _ _ _ h _ _ _ (part-length _ _ _ k)),
     )
 

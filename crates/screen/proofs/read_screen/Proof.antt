@@ -65,10 +65,10 @@ returns-2 c =
     let t = read-told text _ _ e in
     record {
       answer = e;
-      header = c .before .before .before .before .before .before .read-fields .ensures ∙ header-read text _ _ _ t;
-      styles = c .before .before .before .before .read-rows .ensures ∙ styles-read text _ _ _ t;
-      replies = c .before .before .read-rows2 .ensures ∙ replies-read text _ _ _ t;
-      candidates = rw add-zero at (c .read-rows3 .ensures) ∙ candidates-read text _ _ _ t;
+      header = header-read text _ _ _ _ t (c .before .before .before .before .before .before .read-fields .ensures);
+      styles = styles-read text _ _ _ _ t (c .before .before .before .before .read-rows .ensures);
+      replies = replies-read text _ _ _ _ t (c .before .before .read-rows2 .ensures);
+      candidates = candidates-read text _ _ _ _ t (rw add-zero at (c .read-rows3 .ensures));
     }
 
 pub read-screen-spec : {M : Type 1} → statement M

@@ -1,11 +1,10 @@
 use native.Mathlib.Omega.{arith}
-use Prim.Native.Nat.{_-_}
 use lib.ListN.{length}
-use mathlib.Core.Path.{_≡_, refl, sym, ap, _∙_}
+use mathlib.Core.Path.{_≡_, refl, _∙_}
 use borrow.Author.Needs.{needs}
 use Rattle.run.specs.Call.{outcome}
-use Rattle.script.specs.Script.{played, playedOut}
-use Rattle.script.proofs.Steps.{one-turn, no-turn}
+use Rattle.script.specs.Script.{played}
+use Rattle.script.proofs.Steps.{turned, ended}
 use Rattle.script.proofs.play_out.Statement.{statement}
 use Rattle.script.proofs.play_out.Tie as tie
 use Rattle.script.proofs.play_out.Reads as reads
@@ -51,7 +50,7 @@ loop-again : tie.Need-loop-again Inv-loop μ-loop
 loop-again c =
     let l = c .before .before .before .before .before .before .before .before .before .before .before .loop in
     let p = c .before .before .before .before .before .before .play-on .ensures in
-    (search needs, search needs, search needs, l .inv .3 ∙ one-turn _ _ _ (l .left) (omega (arith, c .before .before .before .before .before .before .before .before .before .before .loop-test .taken)) ∙ ap (played (l .left - 1) _ _) (sym p))
+    (search needs, search needs, search needs, l .inv .3 ∙ turned _ _ _ _ _ _ (l .left) (omega (arith, c .before .before .before .before .before .before .before .before .before .before .loop-test .taken)) p)
 
 -- src/lib.rt:101:1
 same-length : tie.Need-same-length Inv-loop μ-loop
@@ -67,10 +66,8 @@ same-length-3 c = search needs
 
 -- src/lib.rt:101:1
 returns : tie.Need-returns Inv-loop μ-loop
-unfolding playedOut
 returns c =
-    let l = c .before .loop .inv .3 in
-    sym (no-turn _ _ _ (c .before .loop .left) (omega (arith, c .loop-test .left))) ∙ sym l ∙ ap (played _ _ _) (c .before .before .before .before .before .before .before .before .«open» .ensures)
+    ended _ _ _ _ _ _ _ _ _ _ _ (c .before .loop .left) (omega (arith, c .loop-test .left)) (c .before .before .before .before .before .before .before .before .«open» .ensures) (c .before .loop .inv .3)
 
 pub play-out-spec : {M : Type 1} → statement M
 play-out-spec =

@@ -53,7 +53,7 @@ loop-again c =
     let a = d .before .before .before .before .args in
     let p = c .before .before .append-one .ensures in
     let s = count-step (a .claims) (a .claimed) (a .candidates .now) _ (l .i) (d .loop-test .taken) in
-    (search needs, ap length (p .1) ∙ appended-length _ _ _ ∙ l .inv .1, omega (arith, p .0), l .inv .3 ∙ append-step _ _ _ _ _ _ _ _ (d .loop-test .taken) ∙ sym (rw (p .1, p .0) refl))
+    (search needs, search needs, omega (arith, p .0), l .inv .3 ∙ append-step _ _ _ _ _ _ _ _ _ _ (d .loop-test .taken) (p .0) (p .1))
 
 -- src/lib.rt:95:1
 same-length : tie.Need-same-length Inv-loop μ-loop

@@ -67,8 +67,8 @@ returns c =
     let a = c .before .before .before .before .before .before .before .before .before .before .before .before .before .before .before .before .before .before .before .args in
     let i = c .before .before .before .before .before .before .before .before .before .before .before .before .before .before .before .count .ensures in
     let o = c .before .before .before .before .before .before .before .before .before .before .before .before .before .before .count2 .ensures in
-    let d = rw i at (sym (c .before .before .before .before .before .before .before .before .before .before .before .before .before .has-room .ensures) ∙ c .before .before .before .before .before .before .before .before .before .before .before .before .if1 .taken) in
-    let e = rw o at (sym (c .before .before .before .before .before .before .before .before .before .before .before .has-room2 .ensures) ∙ c .before .before .before .before .before .before .before .before .before .before .if2 .taken) in
+    let d = rw (c .before .before .before .before .before .before .before .before .before .before .before .before .before .has-room .ensures, i) at (c .before .before .before .before .before .before .before .before .before .before .before .before .if1 .taken) in
+    let e = rw (c .before .before .before .before .before .before .before .before .before .before .before .has-room2 .ensures, o) at (c .before .before .before .before .before .before .before .before .before .before .if2 .taken) in
     rw (room-both (a .claims) (a .shift) (candidatesIn (a .candidates .now)) (a .working .now) (a .unclaimed .now) (a .filled) d e)
     (record { answer = rw (i, o) refl; working = c .before .before .before .before .before .before .append .ensures; unclaimed = c .before .before .append2 .ensures })
 
