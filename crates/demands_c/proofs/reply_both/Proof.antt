@@ -1,0 +1,38 @@
+use mathlib.Core.List.{[]}
+use Rattle.oof_c.specs.Entry.{words}
+use Rattle.demands_c.proofs.Demands.{reply-demands}
+use Rattle.oof_box.specs.declared.question.Reply.the-variants.{Both}
+use borrow.Author.Needs.{needs}
+use Rattle.demands_c.proofs.reply_both.Statement.{statement}
+use Rattle.demands_c.proofs.reply_both.Tie as tie
+use Rattle.demands_c.proofs.reply_both.Reads as reads
+use Rattle.demands_c.proofs.reply_both.Lts as lts
+use Rattle.oof_c.proofs.oof_reply_both.Reads as oof-reply-both-reads
+
+-- src/lib.rt:58:5
+oof-reply-both-requires : tie.Need-oof-reply-both-requires
+oof-reply-both-requires c κs = search needs
+
+-- src/lib.rt:46:1
+same-length : tie.Need-same-length
+same-length c = search needs
+
+-- src/lib.rt:46:1
+same-length-2 : tie.Need-same-length-2
+same-length-2 c = search needs
+
+-- src/lib.rt:46:1
+same-length-3 : tie.Need-same-length-3
+same-length-3 c = search needs
+
+-- src/lib.rt:46:1
+returns : tie.Need-returns
+returns c =
+    let a = c .before .before .before .before .before .before .before .before .before .before .before .before .before .before .before .before .args in
+    reply-demands (Both (record { width = a .width; height = a .height })) [] (a .styles .now)
+    (words (a .layouts .now) (a .working .now) (a .unclaimed .now) (a .state .now) (a .answer .now))
+    (c .before .before .before .before .before .before .oof-reply-both .ensures)
+
+pub reply-both-spec : {M : Type 1} → statement M
+reply-both-spec =
+    tie.close (tie.spec oof-reply-both-requires same-length same-length-2 same-length-3 returns)

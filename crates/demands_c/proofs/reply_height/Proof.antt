@@ -1,0 +1,38 @@
+use mathlib.Core.List.{[]}
+use Rattle.oof_c.specs.Entry.{words}
+use Rattle.demands_c.proofs.Demands.{reply-demands}
+use Rattle.oof_box.specs.declared.question.Reply.the-variants.{Height}
+use borrow.Author.Needs.{needs}
+use Rattle.demands_c.proofs.reply_height.Statement.{statement}
+use Rattle.demands_c.proofs.reply_height.Tie as tie
+use Rattle.demands_c.proofs.reply_height.Reads as reads
+use Rattle.demands_c.proofs.reply_height.Lts as lts
+use Rattle.oof_c.proofs.oof_reply_height.Reads as oof-reply-height-reads
+
+-- src/lib.rt:95:5
+oof-reply-height-requires : tie.Need-oof-reply-height-requires
+oof-reply-height-requires c κs = search needs
+
+-- src/lib.rt:84:1
+same-length : tie.Need-same-length
+same-length c = search needs
+
+-- src/lib.rt:84:1
+same-length-2 : tie.Need-same-length-2
+same-length-2 c = search needs
+
+-- src/lib.rt:84:1
+same-length-3 : tie.Need-same-length-3
+same-length-3 c = search needs
+
+-- src/lib.rt:84:1
+returns : tie.Need-returns
+returns c =
+    let a = c .before .before .before .before .before .before .before .before .before .before .before .before .before .before .before .before .args in
+    reply-demands (Height (a .height)) [] (a .styles .now)
+    (words (a .layouts .now) (a .working .now) (a .unclaimed .now) (a .state .now) (a .answer .now))
+    (c .before .before .before .before .before .before .oof-reply-height .ensures)
+
+pub reply-height-spec : {M : Type 1} → statement M
+reply-height-spec =
+    tie.close (tie.spec oof-reply-height-requires same-length same-length-2 same-length-3 returns)

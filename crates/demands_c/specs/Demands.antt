@@ -1,0 +1,68 @@
+-- Demands 1 and 2, of the C entries. No entry asks anything of its caller, so each contract, and with it each of these, holds for any bits
+-- in any number and slices of any length. `proofs/Demands.antt` proves each, under its name in small letters. Assumes nothing.
+use Prim.Native.Nat.{ℕ, _≤_}
+use mathlib.Core.List.{List, []}
+use mathlib.Core.Logic.{_≢_, _↔_}
+use mathlib.Core.Path.{_≡_}
+use lib.ListN.{length}
+use Rattle.oof_box.specs.declared.question.Reply.{Reply}
+use Rattle.run.specs.Call.{Lent, Outcome, outcome}
+use Rattle.run.specs.Conditions.{FirstIs, NoneHolds, openingTests, replyTests}
+use Rattle.run.specs.Run.{closed}
+use Rattle.run.specs.Straight.{Course}
+use Rattle.run.specs.Theorems.{Turn, Stands, saidAfter, heededIn, courseOf}
+use Rattle.run.specs.declared.Answer.{Answer}
+use Rattle.run.specs.declared.Opening.{Opening}
+use Rattle.oof_c.specs.StateWords.{at, stateOf, stateWords}
+use Rattle.oof_c.specs.Entry.{Words, words, Returned, lentIn, answerLeft}
+use Rattle.demands_c.specs.Calls.{Opens, Replies, AnyCalls, Run}
+
+-- ---- Demand 1. "Whoever calls an entry, with any bits in any number and slices of any length, gets its answer .. or one of document 01's
+-- refusals .., each exactly under its stated condition. A refusal writes no lent word and returns the state as it came." The conditions, in
+-- document 01's words and order, stand in run/specs/Conditions.antt.
+
+-- an opening. It has no state that came: refused, it returns that of a finished run with all counts 0
+pub record OpeningDemands (o : Opening) (candidates styles : List ℕ) (before : Words) (has : Returned) : Type 0 where
+  -- what the theorems over runs suppose of a call
+  pub call : Opens o candidates styles before has
+  pub refused : (n : ℕ) → n ≢ 0 → (has .result ≡ n) ↔ FirstIs (openingTests o candidates (lentIn styles before)) n
+  pub accepted : (has .result ≡ 0) ↔ NoneHolds (openingTests o candidates (lentIn styles before))
+  pub wrote :
+      has .result ≢ 0
+      → has .words ≡ words (before .layouts) (before .working) (before .unclaimed) (stateWords (closed (lentIn styles before))) (before .answer)
+
+-- a reply, whatever words stand for its state
+pub record ReplyDemands (reply : Reply) (surfaced styles : List ℕ) (before : Words) (has : Returned) : Type 0 where
+  pub call : Replies reply surfaced styles before has
+  pub refused : (n : ℕ) → n ≢ 0 → (has .result ≡ n) ↔ FirstIs (replyTests (stateOf (before .state)) reply surfaced (lentIn styles before)) n
+  pub accepted : (has .result ≡ 0) ↔ NoneHolds (replyTests (stateOf (before .state)) reply surfaced (lentIn styles before))
+  pub wrote : has .result ≢ 0 → has .words ≡ before
+
+-- "A run asks at most three questions for each box hoisted", whatever words the host rewrites between calls: at most three for each box,
+-- and none for one that isn't hoisted, which the state's word 7 tells
+abbrev pub ThreeQuestionsEach : Type 0
+ThreeQuestionsEach = (i n : ℕ) (has : Returned) → AnyCalls i n has → (n ≤ 3) × (at (has .words .state) 7 ≤ i → n ≡ 0)
+
+-- ---- Demand 2. "Questions, layouts, lists and overflow equal the definition": a run by C calls is the straight run. This holds after each
+-- call, whatever replies were refused before it.
+
+-- what the host has is where the course stands: the words of the slices, the state that its words mean, and the answer's words, which say
+-- what comes next, also after a refused reply
+pub record StandsInWords (lent : Lent) (answered : ℕ) (has : Returned) (course : Course) : Type 0 where
+  pub run :
+      Stands lent answered
+      (outcome (record { state = stateOf (has .words .state); answer = saidAfter answered course }) (has .words .layouts) (has .words .working) (has .words .unclaimed))
+      course
+  pub answer : has .words .answer ≡ answerLeft (saidAfter answered course) []
+
+abbrev pub EqualsStraightRun : Type 0
+EqualsStraightRun =
+    (o : Opening) (candidates styles : List ℕ) (before : Words) (turns : List Turn) (has : Returned)
+    → Run o candidates styles before turns has
+    → StandsInWords (lentIn styles before) (length (heededIn o candidates (lentIn styles before) turns)) has (courseOf o candidates (lentIn styles before) turns)
+
+-- ---- What is demanded of runs: the function `demanded` of src/lib.rt ensures these, so that a crate without a proof of each is not proved.
+
+pub record Demanded : Type 0 where
+  pub three-questions-each : ThreeQuestionsEach
+  pub equals-straight-run : EqualsStraightRun
