@@ -1,5 +1,6 @@
 /* An English panel and its Arabic mirror image, placed by callbacks and printed side by side. A label stands 20 pixels from
- * the start edge and 12 from the top of an 800 by 480 panel; its size is what the font says. */
+ * the start edge and 12 from the top of an 800 by 480 panel, which stands at 100, 40 of its window; its size is what the
+ * font says. */
 #include <stdio.h>
 #include <stdlib.h>
 #include "oof.h"
@@ -38,7 +39,7 @@ typedef struct {
     (p)->styles, OOF_STYLE_WORDS, (p)->layouts, OOF_LAYOUT_WORDS, (p)->working, OOF_CANDIDATE_WORDS, (p)->unclaimed,   \
         OOF_CANDIDATE_WORDS, (p)->state, (p)->answer
 
-static const float panel_width = 800, panel_height = 480;
+static const float panel_x = 100, panel_y = 40, panel_width = 800, panel_height = 480;
 
 /* a label whose lengths are auto or 0, but for those of its panel */
 static panel panel_of(uint32_t direction)
@@ -46,40 +47,49 @@ static panel panel_of(uint32_t direction)
     panel p;
     memset(&p, 0, sizeof p); /* a state of zeros is a finished run */
     p.direction = direction;
-    for (size_t at = OOF_INSET_LEFT; at <= OOF_INSET_BOTTOM; at += 2)
-        oof_set_length(p.styles, at, OOF_AUTO, 0);
-    for (size_t at = OOF_MARGIN_LEFT; at <= OOF_BORDER_BOTTOM; at += 2)
-        oof_set_length(p.styles, at, OOF_PX, 0);
-    for (size_t at = OOF_WIDTH; at <= OOF_MAX_HEIGHT; at += 2)
-        oof_set_length(p.styles, at, OOF_AUTO, 0);
-    p.styles[OOF_DIRECTION] = direction;
-    p.styles[OOF_JUSTIFY] = OOF_ALIGN_ABSENT;
-    p.styles[OOF_ALIGN] = OOF_ALIGN_ABSENT;
-    oof_set_length(p.styles, OOF_INSET_TOP, OOF_PX, 12);
-    p.candidates[OOF_POSITION] = OOF_ABSOLUTE;
+    for (size_t at = OOF_STYLE_INSET_LEFT; at <= OOF_STYLE_INSET_BOTTOM; at += 2)
+        oof_set_length(p.styles, at, OOF_TAG_AUTO, 0);
+    for (size_t at = OOF_STYLE_MARGIN_LEFT; at <= OOF_STYLE_BORDER_BOTTOM; at += 2)
+        oof_set_length(p.styles, at, OOF_TAG_PX, 0);
+    for (size_t at = OOF_STYLE_WIDTH; at <= OOF_STYLE_MAX_HEIGHT; at += 2)
+        oof_set_length(p.styles, at, OOF_TAG_AUTO, 0);
+    p.styles[OOF_STYLE_DIRECTION] = direction;
+    p.styles[OOF_STYLE_JUSTIFY] = OOF_ALIGN_ABSENT;
+    p.styles[OOF_STYLE_ALIGN] = OOF_ALIGN_ABSENT;
+    oof_set_length(p.styles, OOF_STYLE_INSET_TOP, OOF_TAG_PX, 12);
+    p.candidates[OOF_CANDIDATE_POSITION] = OOF_POSITION_ABSOLUTE;
+    p.candidates[OOF_CANDIDATE_Y_START] = oof_word(panel_y);
+    p.candidates[OOF_CANDIDATE_Y_END] = oof_word(panel_y);
     return p;
+}
+
+/* where the label would stand in x without insets: at one point, in the window's coordinates */
+static void stand_at(panel *p, float x, uint32_t edge)
+{
+    p->candidates[OOF_CANDIDATE_X_START] = oof_word(x);
+    p->candidates[OOF_CANDIDATE_X_END] = oof_word(x);
+    p->candidates[OOF_CANDIDATE_X_EDGE] = edge;
+    p->candidates[OOF_CANDIDATE_X_FALLBACK] = edge;
 }
 
 static panel english(void)
 {
-    panel p = panel_of(OOF_LEFT_TO_RIGHT);
-    oof_set_length(p.styles, OOF_INSET_LEFT, OOF_PX, 20);
-    oof_set_length(p.styles, OOF_PADDING_LEFT, OOF_PX, 8);
-    oof_set_length(p.styles, OOF_PADDING_RIGHT, OOF_PX, 16);
+    panel p = panel_of(OOF_DIRECTION_LTR);
+    oof_set_length(p.styles, OOF_STYLE_INSET_LEFT, OOF_TAG_PX, 20);
+    oof_set_length(p.styles, OOF_STYLE_PADDING_LEFT, OOF_TAG_PX, 8);
+    oof_set_length(p.styles, OOF_STYLE_PADDING_RIGHT, OOF_TAG_PX, 16);
+    stand_at(&p, panel_x, OOF_EDGE_START);
     return p;
 }
 
-/* the mirror image: direction flipped, left and right exchanged, the static position reflected */
+/* the mirror image: direction flipped, left and right exchanged, the static position reflected in the panel */
 static panel arabic(void)
 {
-    panel p = panel_of(OOF_RIGHT_TO_LEFT);
-    oof_set_length(p.styles, OOF_INSET_RIGHT, OOF_PX, 20);
-    oof_set_length(p.styles, OOF_PADDING_LEFT, OOF_PX, 16);
-    oof_set_length(p.styles, OOF_PADDING_RIGHT, OOF_PX, 8);
-    p.candidates[OOF_X_START] = oof_word(panel_width);
-    p.candidates[OOF_X_END] = oof_word(panel_width);
-    p.candidates[OOF_X_EDGE] = OOF_END;
-    p.candidates[OOF_X_FALLBACK] = OOF_END;
+    panel p = panel_of(OOF_DIRECTION_RTL);
+    oof_set_length(p.styles, OOF_STYLE_INSET_RIGHT, OOF_TAG_PX, 20);
+    oof_set_length(p.styles, OOF_STYLE_PADDING_LEFT, OOF_TAG_PX, 16);
+    oof_set_length(p.styles, OOF_STYLE_PADDING_RIGHT, OOF_TAG_PX, 8);
+    stand_at(&p, panel_x + panel_width, OOF_EDGE_END);
     return p;
 }
 
@@ -112,10 +122,10 @@ static void note_question(panel *p, const uint32_t *question)
 {
     char text[4][16];
     snprintf(next_line(p), COLUMN, "%s by %s in %s by %s",
-             known(question, OOF_KNOWN_WIDTH, text[0], sizeof text[0]),
-             known(question, OOF_KNOWN_HEIGHT, text[1], sizeof text[1]),
-             space(question, OOF_AVAILABLE_WIDTH, text[2], sizeof text[2]),
-             space(question, OOF_AVAILABLE_HEIGHT, text[3], sizeof text[3]));
+             known(question, OOF_QUESTION_KNOWN_WIDTH, text[0], sizeof text[0]),
+             known(question, OOF_QUESTION_KNOWN_HEIGHT, text[1], sizeof text[1]),
+             space(question, OOF_QUESTION_AVAILABLE_WIDTH, text[2], sizeof text[2]),
+             space(question, OOF_QUESTION_AVAILABLE_HEIGHT, text[3], sizeof text[3]));
 }
 
 static size measure_label(void *context, const uint32_t *question)
@@ -160,10 +170,10 @@ static uint32_t answer_question(panel *p, const host *h)
 static uint32_t place(panel *p)
 {
     const host toolkit = {p, measure_label, lay_out_label};
-    uint32_t result = oof_open(panel_width, panel_height, 0, 0, p->direction, OOF_CLAIMS_ABSOLUTE, OOF_VISIBLE,
-                               OOF_VISIBLE, p->styles, OOF_STYLE_WORDS, p->candidates, OOF_CANDIDATE_WORDS,
-                               p->layouts, OOF_LAYOUT_WORDS, p->working, OOF_CANDIDATE_WORDS, p->unclaimed,
-                               OOF_CANDIDATE_WORDS, p->state, p->answer);
+    uint32_t result = oof_open(panel_width, panel_height, panel_x, panel_y, p->direction, OOF_CLAIMS_ABSOLUTE,
+                               OOF_OVERFLOW_VISIBLE, OOF_OVERFLOW_VISIBLE, p->styles, OOF_STYLE_WORDS, p->candidates,
+                               OOF_CANDIDATE_WORDS, p->layouts, OOF_LAYOUT_WORDS, p->working, OOF_CANDIDATE_WORDS,
+                               p->unclaimed, OOF_CANDIDATE_WORDS, p->state, p->answer);
     while (result == OOF_ACCEPTED && p->answer[OOF_ANSWER_KIND] != OOF_FINISH)
         result = answer_question(p, &toolkit);
     return result;
@@ -224,7 +234,7 @@ int main(void)
     }
     print_both(&e, &a);
     float x = layout(&e, OOF_LAYOUT_X), image = layout(&a, OOF_LAYOUT_X), width = layout(&e, OOF_LAYOUT_WIDTH);
-    int mirrored = x + image + width == panel_width;
+    int mirrored = x + image + width == 2 * panel_x + panel_width;
     printf("%g + %g + %g is %g: %s\n", x, image, width, x + image + width, mirrored ? "mirrored" : "NOT MIRRORED");
     return refused_by_name(&e) && mirrored ? EXIT_SUCCESS : EXIT_FAILURE;
 }

@@ -22,7 +22,8 @@
  *   - nobody else writes the words during a call.
  * The words themselves may be any: whatever bits they hold, the call does what is defined, or is refused as defined.
  * No pointer is kept after a call, nothing is allocated and there are no globals: runs over different words may go on
- * in any order, and in different threads.
+ * in any order, and in different threads. README.md beside this file says for which platform the library is, what it
+ * needs from its program, and how much stack a call takes.
  *
  * NUMBERS. Floats stand in words by their bits (oof_word, oof_float). Every NaN written is 7FC00000 hex. */
 #ifndef OOF_H
@@ -92,15 +93,22 @@ static inline float oof_float(uint32_t word)
 
 /* ---- codes */
 
-enum { OOF_LEFT_TO_RIGHT = 0, OOF_RIGHT_TO_LEFT = 1 };
+enum { OOF_DIRECTION_LTR = 0, OOF_DIRECTION_RTL = 1 };
 enum { OOF_CLAIMS_ABSOLUTE = 1, OOF_CLAIMS_FIXED = 2 }; /* bits: 3 is both */
-enum { OOF_VISIBLE = 0, OOF_CLIP = 1, OOF_HIDDEN = 2, OOF_SCROLL = 3 };
-enum { OOF_STATIC = 0, OOF_RELATIVE = 1, OOF_ABSOLUTE = 2, OOF_FIXED = 3, OOF_STICKY = 4 };
-enum { OOF_START = 0, OOF_CENTER = 1, OOF_END = 2 };           /* a static position's edge */
-enum { OOF_DEFAULT = 0, OOF_UNSAFE = 1, OOF_SAFE = 2 };        /* safety */
-enum { OOF_BORDER_BOX = 0, OOF_CONTENT_BOX = 1 };
-enum { OOF_REPLACED = 1, OOF_TABLE = 2 };                      /* bits of the flags */
-enum { OOF_CONTAIN_LAYOUT = 1, OOF_CONTAIN_PAINT = 2 };        /* bits of contain, 0 to 255 */
+enum { OOF_OVERFLOW_VISIBLE = 0, OOF_OVERFLOW_CLIP = 1, OOF_OVERFLOW_HIDDEN = 2, OOF_OVERFLOW_SCROLL = 3 };
+enum { OOF_EDGE_START = 0, OOF_EDGE_CENTER = 1, OOF_EDGE_END = 2 }; /* of a static position, and its fallback */
+enum { OOF_SAFETY_DEFAULT = 0, OOF_SAFETY_UNSAFE = 1, OOF_SAFETY_SAFE = 2 };
+enum { OOF_BOX_SIZING_BORDER = 0, OOF_BOX_SIZING_CONTENT = 1 };
+enum { OOF_FLAG_REPLACED = 1, OOF_FLAG_TABLE = 2 };     /* bits */
+enum { OOF_CONTAIN_LAYOUT = 1, OOF_CONTAIN_PAINT = 2 }; /* bits of 0 to 255 */
+
+enum {
+    OOF_POSITION_STATIC = 0,
+    OOF_POSITION_RELATIVE = 1,
+    OOF_POSITION_ABSOLUTE = 2,
+    OOF_POSITION_FIXED = 3,
+    OOF_POSITION_STICKY = 4
+};
 
 /* justify and align */
 enum {
@@ -119,57 +127,57 @@ enum {
 
 /* tags of lengths. Insets and margins take px, auto and percent; padding and border px and percent; the sizes all. */
 enum {
-    OOF_PX = 1,
-    OOF_AUTO = 3,
-    OOF_PERCENT = 5, /* the value is a fraction: 0.5 is 50 % */
-    OOF_MIN_CONTENT = 11,
-    OOF_FIT_CONTENT_PERCENT = 15,
-    OOF_MAX_CONTENT = 27,
-    OOF_CONTENT = 35,
-    OOF_FIT_CONTENT_PX = 43,
-    OOF_FIT_CONTENT = 59,
-    OOF_STRETCH = 75
+    OOF_TAG_PX = 1,
+    OOF_TAG_AUTO = 3,
+    OOF_TAG_PERCENT = 5, /* the value is a fraction: 0.5 is 50 % */
+    OOF_TAG_MIN_CONTENT = 11,
+    OOF_TAG_FIT_CONTENT_PERCENT = 15,
+    OOF_TAG_MAX_CONTENT = 27,
+    OOF_TAG_CONTENT = 35,
+    OOF_TAG_FIT_CONTENT_PX = 43,
+    OOF_TAG_FIT_CONTENT = 59,
+    OOF_TAG_STRETCH = 75
 };
 
 /* ---- a style, 57 words: 22 lengths of two words each (tag, value), then 13 words. The name is the tag's word number;
  * the value's is one more. Item i of a table begins at word OOF_STYLE_WORDS * i. */
 
 enum {
-    OOF_INSET_LEFT = 0,
-    OOF_INSET_RIGHT = 2,
-    OOF_INSET_TOP = 4,
-    OOF_INSET_BOTTOM = 6,
-    OOF_MARGIN_LEFT = 8,
-    OOF_MARGIN_RIGHT = 10,
-    OOF_MARGIN_TOP = 12,
-    OOF_MARGIN_BOTTOM = 14,
-    OOF_PADDING_LEFT = 16,
-    OOF_PADDING_RIGHT = 18,
-    OOF_PADDING_TOP = 20,
-    OOF_PADDING_BOTTOM = 22,
-    OOF_BORDER_LEFT = 24,
-    OOF_BORDER_RIGHT = 26,
-    OOF_BORDER_TOP = 28,
-    OOF_BORDER_BOTTOM = 30,
-    OOF_WIDTH = 32,
-    OOF_HEIGHT = 34,
-    OOF_MIN_WIDTH = 36,
-    OOF_MIN_HEIGHT = 38,
-    OOF_MAX_WIDTH = 40,
-    OOF_MAX_HEIGHT = 42,
-    OOF_RATIO_PRESENT = 44, /* 0 or 1 */
-    OOF_RATIO = 45,         /* float: width by height */
-    OOF_BOX_SIZING = 46,
-    OOF_FLAGS = 47,
-    OOF_DIRECTION = 48,
-    OOF_JUSTIFY = 49,
-    OOF_JUSTIFY_SAFETY = 50,
-    OOF_ALIGN = 51,
-    OOF_ALIGN_SAFETY = 52,
-    OOF_OVERFLOW_X = 53,
-    OOF_OVERFLOW_Y = 54,
-    OOF_SCROLLBAR_WIDTH = 55, /* float */
-    OOF_CONTAIN = 56
+    OOF_STYLE_INSET_LEFT = 0,
+    OOF_STYLE_INSET_RIGHT = 2,
+    OOF_STYLE_INSET_TOP = 4,
+    OOF_STYLE_INSET_BOTTOM = 6,
+    OOF_STYLE_MARGIN_LEFT = 8,
+    OOF_STYLE_MARGIN_RIGHT = 10,
+    OOF_STYLE_MARGIN_TOP = 12,
+    OOF_STYLE_MARGIN_BOTTOM = 14,
+    OOF_STYLE_PADDING_LEFT = 16,
+    OOF_STYLE_PADDING_RIGHT = 18,
+    OOF_STYLE_PADDING_TOP = 20,
+    OOF_STYLE_PADDING_BOTTOM = 22,
+    OOF_STYLE_BORDER_LEFT = 24,
+    OOF_STYLE_BORDER_RIGHT = 26,
+    OOF_STYLE_BORDER_TOP = 28,
+    OOF_STYLE_BORDER_BOTTOM = 30,
+    OOF_STYLE_WIDTH = 32,
+    OOF_STYLE_HEIGHT = 34,
+    OOF_STYLE_MIN_WIDTH = 36,
+    OOF_STYLE_MIN_HEIGHT = 38,
+    OOF_STYLE_MAX_WIDTH = 40,
+    OOF_STYLE_MAX_HEIGHT = 42,
+    OOF_STYLE_RATIO_PRESENT = 44, /* 0 or 1 */
+    OOF_STYLE_RATIO = 45,         /* float: width by height */
+    OOF_STYLE_BOX_SIZING = 46,
+    OOF_STYLE_FLAGS = 47,
+    OOF_STYLE_DIRECTION = 48,
+    OOF_STYLE_JUSTIFY = 49,
+    OOF_STYLE_JUSTIFY_SAFETY = 50,
+    OOF_STYLE_ALIGN = 51,
+    OOF_STYLE_ALIGN_SAFETY = 52,
+    OOF_STYLE_OVERFLOW_X = 53,
+    OOF_STYLE_OVERFLOW_Y = 54,
+    OOF_STYLE_SCROLLBAR_WIDTH = 55, /* float */
+    OOF_STYLE_CONTAIN = 56
 };
 
 /* Writes a length of a style: `at` is the tag's word number. */
@@ -179,22 +187,24 @@ static inline void oof_set_length(uint32_t *style, size_t at, uint32_t tag, floa
     style[at + 1] = oof_word(value);
 }
 
-/* ---- a candidate, 13 words */
+/* ---- a candidate, 13 words. Its static area is where the box would stand without insets, in THE CALLER'S COORDINATES:
+ * the area's offset is included, as it is in the layout that comes out. A label that would start at the first pixel of an
+ * area whose x is 100 has OOF_CANDIDATE_X_START 100, not 0. */
 
 enum {
-    OOF_NODE = 0,  /* which item of the table of styles */
-    OOF_ORDER = 1, /* copied to the layout */
-    OOF_POSITION = 2,
-    OOF_X_START = 3, /* float: the static area in x, in the area's coordinates */
-    OOF_X_END = 4,
-    OOF_X_EDGE = 5,
-    OOF_X_SAFETY = 6,
-    OOF_X_FALLBACK = 7, /* an edge */
-    OOF_Y_START = 8,
-    OOF_Y_END = 9,
-    OOF_Y_EDGE = 10,
-    OOF_Y_SAFETY = 11,
-    OOF_Y_FALLBACK = 12
+    OOF_CANDIDATE_NODE = 0,  /* which item of the table of styles */
+    OOF_CANDIDATE_ORDER = 1, /* copied to the layout */
+    OOF_CANDIDATE_POSITION = 2,
+    OOF_CANDIDATE_X_START = 3, /* float, as the three other ends */
+    OOF_CANDIDATE_X_END = 4,
+    OOF_CANDIDATE_X_EDGE = 5,
+    OOF_CANDIDATE_X_SAFETY = 6,
+    OOF_CANDIDATE_X_FALLBACK = 7, /* an edge */
+    OOF_CANDIDATE_Y_START = 8,
+    OOF_CANDIDATE_Y_END = 9,
+    OOF_CANDIDATE_Y_EDGE = 10,
+    OOF_CANDIDATE_Y_SAFETY = 11,
+    OOF_CANDIDATE_Y_FALLBACK = 12
 };
 
 /* ---- a layout, 23 words, all floats but the order. Node i's begins at word OOF_LAYOUT_WORDS * i. */
@@ -206,7 +216,7 @@ enum {
     OOF_LAYOUT_OVERFLOW = 3, /* four words, as the three below: left, right, top, bottom */
     OOF_LAYOUT_SCROLLBAR_WIDTH = 7,
     OOF_LAYOUT_SCROLLBAR_HEIGHT = 8,
-    OOF_LAYOUT_X = 9, /* the offset of the area included */
+    OOF_LAYOUT_X = 9, /* in the caller's coordinates: the area's offset is included */
     OOF_LAYOUT_Y = 10,
     OOF_LAYOUT_PADDING = 11,
     OOF_LAYOUT_BORDER = 15,
@@ -229,14 +239,15 @@ enum {
 /* a question */
 enum {
     OOF_QUESTION_NODE = 1,
-    OOF_KNOWN_WIDTH = 2,       /* OOF_NOT_KNOWN or OOF_KNOWN; the float is the next word, 0 if not known. Of lay out: */
-    OOF_KNOWN_HEIGHT = 4,      /* the final size, which is always known */
-    OOF_AVAILABLE_WIDTH = 6,   /* OOF_DEFINITE or a keyword; the float is the next word, 0 if not definite */
-    OOF_AVAILABLE_HEIGHT = 8
+    OOF_QUESTION_KNOWN_WIDTH = 2, /* OOF_NOT_KNOWN or OOF_KNOWN; the float is the next word, 0 if not known. In a lay
+                                     out question both are known: the final size */
+    OOF_QUESTION_KNOWN_HEIGHT = 4,
+    OOF_QUESTION_AVAILABLE_WIDTH = 6, /* OOF_SPACE_DEFINITE or a keyword; the float is the next word, 0 if not definite */
+    OOF_QUESTION_AVAILABLE_HEIGHT = 8
 };
 
 enum { OOF_NOT_KNOWN = 0, OOF_KNOWN = 1 };
-enum { OOF_DEFINITE = 0, OOF_SPACE_MIN_CONTENT = 1, OOF_SPACE_MAX_CONTENT = 2 };
+enum { OOF_SPACE_DEFINITE = 0, OOF_SPACE_MIN_CONTENT = 1, OOF_SPACE_MAX_CONTENT = 2 };
 
 /* the finish; words 6 to 9 are 0 */
 enum {
@@ -252,22 +263,27 @@ enum {
 
 enum {
     OOF_STATE_PROGRESS = 0, /* 0 finished, 1 to 3 the question for size keywords (both, width, height), 4 the question that
-                               fills absent sides, 5 lay out; any other is finished */
+                               fills absent sides, 5 lay out */
     OOF_STATE_KEYWORD = 1,  /* the reply to the first: 0 none, 1 both, 2 width, 3 height; then width, height */
     OOF_STATE_FILL = 4,     /* the reply to the second: 0 none, 1 both; then width, height */
     OOF_STATE_WORKING = 7,  /* filled records of the working list: after the finish, the first so many nodes of that list
                                are the hoisted order */
-    OOF_STATE_UNCLAIMED = 8, /* filled records of the unclaimed list */
-    OOF_STATE_BEGUN = 9,    /* boxes begun */
-    OOF_STATE_ANSWERED = 10, /* questions answered */
-    OOF_STATE_OVERFLOW = 11, /* left, right, top, bottom so far */
-    OOF_STATE_AREA = 15,    /* width, height, x, y */
+    OOF_STATE_UNCLAIMED = 8,  /* filled records of the unclaimed list */
+    OOF_STATE_BEGUN = 9,      /* boxes begun */
+    OOF_STATE_ANSWERED = 10,  /* questions answered */
+    OOF_STATE_OVERFLOW = 11,  /* left, right, top, bottom so far */
+    OOF_STATE_AREA = 15,      /* width, height, x, y */
     OOF_STATE_DIRECTION = 19,
     OOF_STATE_CLAIMS = 20,
     OOF_STATE_OVERFLOW_X = 21,
     OOF_STATE_OVERFLOW_Y = 22,
-    OOF_STATE_LENGTHS = 23  /* lent at the opening, in words: styles, layouts, working, unclaimed */
+    OOF_STATE_LENGTHS = 23 /* lent at the opening, in words modulo 2^32: styles, layouts, working, unclaimed */
 };
+
+/* The entries write no other codes there. Words that a host makes up are read all the same, so that any 27 words are some
+ * state: a progress above 5 is finished, a keyword reply above 3 or a fill reply above 1 is none, a direction above 0 is
+ * right-to-left, an overflow above 3 is scroll, and of the claims the two low bits count. What doesn't fit the lent slices
+ * is refused, with 2 or 6. */
 
 /* ---- the entries
  *
@@ -281,9 +297,9 @@ enum {
  * A run is lent slices of the same lengths throughout. Their words are read afresh at each call. */
 
 /* Opens a run over an area: its size, and its offset x and y in the caller's coordinates (any floats).
- *   direction   OOF_LEFT_TO_RIGHT or OOF_RIGHT_TO_LEFT
+ *   direction   OOF_DIRECTION_LTR or OOF_DIRECTION_RTL
  *   claims      which candidates are placed here: OOF_CLAIMS_ABSOLUTE, OOF_CLAIMS_FIXED, both (3) or none
- *   overflow_x, overflow_y   of the container: OOF_VISIBLE to OOF_SCROLL
+ *   overflow_x, overflow_y   of the container: OOF_OVERFLOW_VISIBLE to OOF_OVERFLOW_SCROLL
  *   candidates  any number of whole records; only read. The claimed ones go to `working`, the others to `unclaimed`.
  * Without a claimed candidate the answer is a finish at once. Refuses with 1, 2, 3, 4, 5, tested in this order. */
 uint32_t oof_open(float width, float height, float x, float y,

@@ -1,17 +1,37 @@
 #!/bin/sh
-# Builds the C example against the proved library, runs it, and holds its output to example.stdout.
+# Builds the C programs against an installed copy of the proved library, outside the repository, and runs them: the tests, the
+# example, whose output is held to example.stdout, and the measurement of the stack. Before that, the header's numbers are held
+# to the definitions, and the library to what README.md says that it needs.
 #
 #     rt staticlib oof_c && hosts/c/run.sh
 #
-# Needs a C compiler on x86-64 Linux; CC names another than cc.
+# Needs a C compiler on x86-64 Linux (CC names another than cc), Python 3 and binutils' nm; pkg-config if it is there.
 set -eu
 here=$(cd "$(dirname "$0")" && pwd)
-library=$here/../../target/staticlib/liboof_c.a
-[ -f "$library" ] || { echo "hosts/c: no library: run 'rt staticlib oof_c' first" >&2; exit 2; }
 work=$(mktemp -d)
 trap 'rm -rf "$work"' EXIT
 
-"${CC:-cc}" -std=c11 -Wall -Wextra -Werror -O2 -I"$here" -o "$work/example" "$here/example.c" "$library"
-"$work/example" > "$work/stdout"
-diff "$here/example.stdout" "$work/stdout"
+"$here/../words.py"
+"$here/install.sh" "$work/prefix" > "$work/log" || { cat "$work/log" >&2; exit 2; }
+undefined=$(nm -u "$work/prefix/lib/liboof_c.a" | awk '$1 == "U" { print $2 }' | sort -u | tr '\n' ' ')
+[ "$undefined" = "memcpy " ] || { echo "hosts/c: the library needs: $undefined" >&2; exit 1; }
+
+if command -v pkg-config > /dev/null; then
+    export PKG_CONFIG_PATH="$work/prefix/lib/pkgconfig"
+    flags=$(pkg-config --cflags oof) libs=$(pkg-config --libs oof)
+else
+    flags=-I$work/prefix/include libs="-L$work/prefix/lib -loof_c"
+fi
+build() { # NAME, then options
+    name=$1
+    shift
+    # shellcheck disable=SC2086
+    "${CC:-cc}" -std=c11 -Wall -Wextra -Werror -O2 $flags "$@" -o "$work/$name" "$work/$name.c" $libs
+}
+cp "$here/test.c" "$here/example.c" "$here/stack.c" "$work"
+cd "$work"
+build test && ./test
+build stack -D_POSIX_C_SOURCE=200809L -pthread && ./stack
+build example && ./example > stdout
+diff "$here/example.stdout" stdout
 echo "hosts/c: the example's output is as it must be"

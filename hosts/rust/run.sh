@@ -1,5 +1,6 @@
 #!/bin/sh
-# Builds the Rust host, tests it and holds its example to examples/panel.stdout. Prints one line; exits with 1 at a failure.
+# Builds the Rust host, tests it and holds its example to examples/panel.stdout; then checks and documents it without the library,
+# and builds the example in another workspace, outside the repository. Prints one line; exits with 1 at a failure.
 #
 #     hosts/rust/run.sh
 #
@@ -15,14 +16,26 @@ if [ ! -f "$archive" ]; then
     echo "hosts/rust: $archive is not there (rt staticlib oof_c puts it into target/staticlib)"
     exit 1
 fi
-log=$(mktemp)
-trap 'rm -f "$log"' EXIT
+work=$(mktemp -d)
+log=$work/log
+trap 'rm -rf "$work"' EXIT
 fail() { cat "$log"; echo "hosts/rust: $1"; exit 1; }
 
 cd "$here"
 cargo test --offline --locked --release > "$log" 2>&1 || fail "it does not build, or a test failed"
 tests=$(sed -n 's/^test result: ok\. \([0-9]*\) passed.*/\1/p' "$log" | awk '{ n += $1 } END { print n }')
-cargo run --offline --locked --release --quiet --example panel 2> "$log" > "$log.out" || fail "the example failed"
-diff "$here/examples/panel.stdout" "$log.out" > "$log" || { rm -f "$log.out"; fail "the example prints something else"; }
-rm -f "$log.out"
-echo "hosts/rust: $tests tests passed, the example prints what it should"
+cargo run --offline --locked --release --quiet --example panel 2> "$log" > "$work/out" || fail "the example failed"
+diff "$here/examples/panel.stdout" "$work/out" > "$log" || fail "the example prints something else"
+
+OOF_LIB=$work/none cargo check --offline --locked > "$log" 2>&1 || fail "it can't be checked without the library"
+OOF_LIB=$work/none RUSTDOCFLAGS=-Dwarnings cargo doc --offline --locked --no-deps > "$log" 2>&1 || fail "it can't be documented"
+
+mkdir -p "$work/ws/panel/src"
+cp -r "$here" "$work/ws/oof"
+cp "$here/examples/panel.rs" "$work/ws/panel/src/main.rs"
+printf '[workspace]\nresolver = "2"\nmembers = ["panel"]\n' > "$work/ws/Cargo.toml"
+printf '[package]\nname = "panel"\nversion = "0.1.0"\nedition = "2021"\n\n[dependencies]\noof = { path = "../oof" }\n' > "$work/ws/panel/Cargo.toml"
+cd "$work/ws"
+CARGO_TARGET_DIR=$work/target cargo run --offline --quiet 2> "$log" > "$work/out" || fail "it does not build in another workspace"
+diff "$here/examples/panel.stdout" "$work/out" > "$log" || fail "in another workspace the example prints something else"
+echo "hosts/rust: $tests tests passed, the example prints what it should, also in another workspace"

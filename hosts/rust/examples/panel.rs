@@ -1,5 +1,5 @@
 //! An English panel and its Arabic mirror image, side by side. A label stands 20 pixels from the start edge and 12 from the top
-//! of an 800 by 480 panel; its size is what the font says.
+//! of an 800 by 480 panel, which stands at 100, 40 of its window; its size is what the font says.
 use oof::*;
 
 /// The font says 120 by 18. Writes down what it was asked.
@@ -26,6 +26,22 @@ impl Host for Font {
     }
 }
 
+const OFFSET: Point<f32> = Point { x: 100.0, y: 40.0 };
+const SIZE: Size<f32> = Size { width: 800.0, height: 480.0 };
+
+/// Where the label would stand without insets: at the panel's start edge, in the window's coordinates. The mirror image of a
+/// candidate is reflected in the panel, and its start and end are exchanged.
+fn candidate(direction: Direction) -> Candidate {
+    let (x, edge) = match direction {
+        Direction::Ltr => (OFFSET.x, AxisStaticEdge::Start),
+        Direction::Rtl => (OFFSET.x + SIZE.width, AxisStaticEdge::End),
+    };
+    let align = AxisStaticAlign { keyword: edge, fallback: edge, ..AxisStaticAlign::default() };
+    let x = AxisStaticPosition { area: Line { start: x, end: x }, align };
+    let y = AxisStaticPosition { area: Line { start: OFFSET.y, end: OFFSET.y }, ..AxisStaticPosition::default() };
+    Candidate { static_position: Point { x, y }, ..Candidate::default() }
+}
+
 /// A label at the start edge of a panel of that direction
 fn place(direction: Direction) -> (Font, Placed) {
     let (start, top) = (LengthPercentageAuto::Length(20.0), LengthPercentageAuto::Length(12.0));
@@ -41,9 +57,9 @@ fn place(direction: Direction) -> (Font, Placed) {
         ),
     };
     let label = Style { inset, padding, direction, ..Style::default() };
-    let panel = Area { size: Size { width: 800.0, height: 480.0 }, direction, ..Area::default() };
+    let panel = Area { size: SIZE, offset: OFFSET, direction, ..Area::default() };
     let mut font = Font::default();
-    let placed = compute_oof_layout_for_area(&mut font, &panel, &[label], &[Candidate::default()]);
+    let placed = compute_oof_layout_for_area(&mut font, &panel, &[label], &[candidate(direction)]);
     (font, placed.expect("nothing here is refused"))
 }
 
@@ -68,5 +84,5 @@ fn main() {
     let (there, here) = (label(&english.1), label(&arabic.1));
     let sum = there.location.x + here.location.x + there.size.width;
     println!("{} + {} + {} = {sum}", there.location.x, here.location.x, there.size.width);
-    assert_eq!(sum, 800.0);
+    assert_eq!(sum, 2.0 * OFFSET.x + SIZE.width);
 }

@@ -18,9 +18,10 @@
 //!     inset: Rect { left: LengthPercentageAuto::Length(20.0), top: LengthPercentageAuto::Length(12.0), ..Rect::AUTO },
 //!     ..Style::default()
 //! };
-//! let panel = Area { size: Size { width: 800.0, height: 480.0 }, ..Area::default() };
+//! let offset = Point { x: 100.0, y: 40.0 };
+//! let panel = Area { size: Size { width: 800.0, height: 480.0 }, offset, ..Area::default() };
 //! let placed = compute_oof_layout_for_area(&mut Font, &panel, &[label], &[Candidate::default()]).unwrap();
-//! assert_eq!(placed.layouts[0].unwrap().location, Point { x: 20.0, y: 12.0 });
+//! assert_eq!(placed.layouts[0].unwrap().location, Point { x: 120.0, y: 52.0 });
 //! ```
 #![deny(unsafe_code, missing_docs)]
 

@@ -6,6 +6,7 @@ use std::fmt;
 /// From [`compute_oof_layout_for_area`](crate::compute_oof_layout_for_area) come only `BadExtent`, `BadCandidate` and
 /// `ListFull`: its types have no bad codes, and it replies what it was asked.
 #[derive(Copy, Clone, Debug, PartialEq, Eq, Hash)]
+#[non_exhaustive]
 pub enum Refusal {
     /// A code of direction, claims or overflow is outside its list
     BadArea = 1,
@@ -23,7 +24,7 @@ pub enum Refusal {
 
 impl Refusal {
     /// All of them, by number
-    pub const ALL: [Refusal; 6] = [
+    pub const ALL: &'static [Refusal] = &[
         Refusal::BadArea,
         Refusal::BadExtent,
         Refusal::BadStyle,
@@ -38,7 +39,7 @@ impl Refusal {
     }
     /// The refusal of this number, if there is one
     pub fn from_number(number: u32) -> Option<Refusal> {
-        Refusal::ALL.into_iter().find(|r| r.number() == number)
+        Refusal::ALL.iter().copied().find(|r| r.number() == number)
     }
 }
 

@@ -8,11 +8,24 @@ use crate::{Area, AvailableSpace, Candidate, Layout, NodeId, Rect, Refusal, Size
 pub struct LaidOut {
     /// How far the box's content reaches, from its start edge
     pub overflow: Rect<f32>,
-    /// Candidates from within the box that look for their containing block, relative to the box
+    /// Candidates from within the box that look for their containing block, in the box's coordinates: its location is added
     pub surfaced: Vec<Candidate>,
 }
 
 /// Measures boxes and lays them out. At most three calls a box, the last being `lay_out`.
+///
+/// Each method stands for a call of taffy's `compute_child_layout`. Of its `LayoutInput` it gives what differs from box to box:
+/// the known sides and the available space. The rest is the same in every call of this pass, so that it isn't given:
+///
+/// | of `LayoutInput` | in every call |
+/// |---|---|
+/// | `parent_size` | the size of the [`Area`], both sides |
+/// | `sizing_mode` | `ContentSize`: the item's own size, min, max and ratio are not to be applied again |
+/// | `run_mode`, `axis` | `ComputeSize` on both axes or on the one asked for; `PerformLayout` on both in `lay_out` |
+/// | `known_dimensions_are_definite` | both true |
+/// | `vertical_margins_are_collapsible` | both false |
+///
+/// A host that needs the size of the area has it from its own call.
 pub trait Host {
     /// The size of a box of which some side isn't known
     fn measure_both(&mut self, node: NodeId, known: Size<Option<f32>>, space: Size<AvailableSpace>) -> Size<f32>;
@@ -24,7 +37,7 @@ pub trait Host {
     fn measure_height(&mut self, node: NodeId, known: Size<Option<f32>>, space: Size<AvailableSpace>) -> f32 {
         self.measure_both(node, known, space).height
     }
-    /// Lays out what is in the box; `size` is final
+    /// Lays out what is in the box; `size` is final, padding and border included
     fn lay_out(&mut self, node: NodeId, size: Size<f32>, space: Size<AvailableSpace>) -> LaidOut {
         let _ = (node, size, space);
         LaidOut::default()
@@ -46,7 +59,8 @@ pub struct Placed {
     pub questions: usize,
 }
 
-/// Records lent to each list. They can't grow while a run goes on, since its slices keep their lengths.
+/// Records lent to each list. They can't grow while a run goes on, since its slices keep their lengths. More than 4,096 are
+/// refused as [`Refusal::BadExtent`].
 #[derive(Copy, Clone, Debug, PartialEq, Eq)]
 pub struct Room {
     /// Candidates that the area claims, surfaced ones included; at most 4,096
@@ -129,11 +143,13 @@ struct Run {
 
 impl Run {
     fn new(styles: &[Style], room: Room) -> Run {
+        // one record above the most is refused just as more are
+        let list = |records: usize, most: usize| vec![0; CANDIDATE * records.min(most + 1)];
         Run {
             styles: styles.iter().flat_map(Style::to_words).collect(),
             layouts: vec![0; LAYOUT * styles.len()],
-            working: vec![0; CANDIDATE * room.working],
-            unclaimed: vec![0; CANDIDATE * room.unclaimed],
+            working: list(room.working, Room::MOST.working),
+            unclaimed: list(room.unclaimed, Room::MOST.unclaimed),
             state: [0; ffi::STATE],
             answer: [0; ffi::ANSWER],
         }

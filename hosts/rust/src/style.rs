@@ -3,6 +3,7 @@ use crate::{Point, Rect, Size};
 
 /// An inset or a margin.
 #[derive(Copy, Clone, Debug, PartialEq)]
+#[non_exhaustive] // taffy has calc lengths too
 pub enum LengthPercentageAuto {
     /// Pixels
     Length(f32),
@@ -14,6 +15,7 @@ pub enum LengthPercentageAuto {
 
 /// A padding or a border.
 #[derive(Copy, Clone, Debug, PartialEq)]
+#[non_exhaustive] // taffy has calc lengths too
 pub enum LengthPercentage {
     /// Pixels
     Length(f32),
@@ -23,6 +25,7 @@ pub enum LengthPercentage {
 
 /// A size, a min or a max. In min and max anything but a length or a percentage is the same as `Auto`.
 #[derive(Copy, Clone, Debug, PartialEq)]
+#[non_exhaustive] // taffy has calc lengths too
 pub enum Dimension {
     /// Pixels
     Length(f32),

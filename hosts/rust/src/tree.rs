@@ -34,7 +34,7 @@ impl Default for Claims {
 pub struct Area {
     /// Its size
     pub size: Size<f32>,
-    /// Where it begins, in the coordinates of candidates and layouts
+    /// Where it begins, in the caller's coordinates: those of candidates and layouts
     pub offset: Point<f32>,
     /// Which way its text runs
     pub direction: Direction,
@@ -80,13 +80,14 @@ pub struct AxisStaticAlign {
 /// Where a box would stand in normal flow, along one axis.
 #[derive(Copy, Clone, Debug, Default, PartialEq)]
 pub struct AxisStaticPosition {
-    /// From where to where
+    /// From where to where, in the caller's coordinates: the offset of the [`Area`] is included
     pub area: Line<f32>,
     /// How it is aligned in that
     pub align: AxisStaticAlign,
 }
 
-/// A box that looks for its containing block. `Default`: item 0, absolute, static position 0.
+/// A box that looks for its containing block. `Default`: item 0, absolute, static position 0, which is the area's corner only
+/// where its offset is 0.
 #[derive(Copy, Clone, Debug, Default, PartialEq)]
 pub struct Candidate {
     /// The item
@@ -110,7 +111,7 @@ pub struct Layout {
     pub scrollable_overflow_rect: Rect<f32>,
     /// What scrollbars take
     pub scrollbar_size: Size<f32>,
-    /// Left top corner, in the coordinates of the area's offset
+    /// Left top corner, in the caller's coordinates: the offset of the [`Area`] is included
     pub location: Point<f32>,
     /// Paddings in pixels
     pub padding: Rect<f32>,

@@ -286,6 +286,7 @@ impl Layout {
 /// What an accepted call asks next, or the end of the run.
 #[derive(Copy, Clone, Debug, PartialEq)]
 #[allow(missing_docs)]
+#[non_exhaustive]
 pub enum Answer {
     /// The overflow of the boxes placed, and the count of questions answered
     Finish {

@@ -63,19 +63,65 @@ fn worked_example() {
     assert_eq!(placed.overflow, Rect { left: 0.0, right: 140.0, top: 0.0, bottom: 30.0 });
 
     // and its mirror image
-    let arabic = Style {
-        inset: Rect { right: px(20.0), top: px(12.0), ..Rect::AUTO },
-        padding: Rect { left: pad(16.0), right: pad(8.0), ..Rect::<LengthPercentage>::ZERO },
-        direction: Direction::Rtl,
-        ..Style::default()
-    };
-    let area = Area { direction: Direction::Rtl, ..panel() };
     let mut there = Notes::default();
-    let mirrored = compute_oof_layout_for_area(&mut there, &area, &[arabic], &[Candidate::default()]).unwrap();
+    let mirrored = place_image(&mut there, &panel(), label(), Candidate::default());
     assert_eq!(there.asked, host.asked);
     let image = mirrored.layouts[0].unwrap();
     assert_eq!(layout.location.x + image.location.x + layout.size.width, PANEL.width);
     assert_eq!((image.padding.left, image.padding.right, mirrored.overflow), (16.0, 8.0, placed.overflow));
+}
+
+/// The mirror image of a candidate in an area: its x area reflected, start and end exchanged
+fn image_of(area: &Area, c: Candidate) -> Candidate {
+    let flip = |edge| match edge {
+        AxisStaticEdge::Start => AxisStaticEdge::End,
+        AxisStaticEdge::Center => AxisStaticEdge::Center,
+        AxisStaticEdge::End => AxisStaticEdge::Start,
+    };
+    let AxisStaticPosition { area: x, align } = c.static_position.x;
+    let both = 2.0 * area.offset.x + area.size.width;
+    let align = AxisStaticAlign { keyword: flip(align.keyword), fallback: flip(align.fallback), ..align };
+    let x = AxisStaticPosition { area: Line { start: both - x.end, end: both - x.start }, align };
+    Candidate { static_position: Point { x, ..c.static_position }, ..c }
+}
+
+fn place_image(host: &mut Notes, area: &Area, style: Style, candidate: Candidate) -> Placed {
+    fn sides<T: Copy>(r: Rect<T>) -> Rect<T> {
+        Rect { left: r.right, right: r.left, ..r }
+    }
+    let image = Style {
+        inset: sides(style.inset),
+        margin: sides(style.margin),
+        padding: sides(style.padding),
+        border: sides(style.border),
+        direction: Direction::Rtl,
+        ..style
+    };
+    let there = Area { direction: Direction::Rtl, ..*area };
+    compute_oof_layout_for_area(host, &there, &[image], &[image_of(area, candidate)]).unwrap()
+}
+
+/// A label without insets, in an area whose offset isn't 0: its static area is in the caller's coordinates, and so is its
+/// layout; its mirror image stands as far from the other edge
+#[test]
+fn static_positions_include_the_offset() {
+    let area = Area { offset: Point { x: 100.0, y: 40.0 }, ..panel() };
+    for (keyword, x) in [(AxisStaticEdge::Start, 130.0), (AxisStaticEdge::Center, 120.0), (AxisStaticEdge::End, 110.0)]
+    {
+        let align = AxisStaticAlign { keyword, fallback: keyword, ..AxisStaticAlign::default() };
+        let place = |start, end| AxisStaticPosition { area: Line { start, end }, align };
+        let static_position = Point {
+            x: place(130.0, 230.0),
+            y: AxisStaticPosition { align: AxisStaticAlign::default(), ..place(40.0, 40.0) },
+        };
+        let candidate = Candidate { static_position, ..Candidate::default() };
+        let placed =
+            compute_oof_layout_for_area(&mut Notes::default(), &area, &[Style::default()], &[candidate]).unwrap();
+        let layout = placed.layouts[0].unwrap();
+        assert_eq!((layout.location, layout.size), (Point { x, y: 40.0 }, FONT), "{keyword:?}");
+        let image = place_image(&mut Notes::default(), &area, Style::default(), candidate).layouts[0].unwrap();
+        assert_eq!(layout.location.x + image.location.x + FONT.width, 2.0 * 100.0 + PANEL.width, "{keyword:?}");
+    }
 }
 
 #[test]
@@ -130,7 +176,11 @@ fn typed_refusals() {
     let (styles, one) = ([label()], [Candidate::default()]);
     let many = vec![Style::default(); 1025];
     assert_eq!(place(&mut host, &many, &one, Room::MOST), Err(Refusal::BadExtent));
-    assert_eq!(place(&mut host, &styles, &one, Room { working: 4097, unclaimed: 0 }), Err(Refusal::BadExtent));
+    for records in [4097, usize::MAX / 52, usize::MAX / 13 + 1, usize::MAX] {
+        for room in [Room { working: records, unclaimed: 0 }, Room { working: 1, unclaimed: records }] {
+            assert_eq!(place(&mut host, &styles, &one, room), Err(Refusal::BadExtent), "{room:?}");
+        }
+    }
     let nowhere = Candidate { node: 1, ..Candidate::default() };
     assert_eq!(place(&mut host, &styles, &[nowhere], Room::MOST), Err(Refusal::BadCandidate));
     assert_eq!(place(&mut host, &styles, &one, Room { working: 0, unclaimed: 0 }), Err(Refusal::ListFull));
@@ -145,7 +195,7 @@ fn typed_refusals() {
 #[test]
 fn names_and_numbers() {
     let names = ["bad area", "bad extent", "bad style", "bad candidate", "list full", "wrong reply"];
-    for (at, refusal) in Refusal::ALL.into_iter().enumerate() {
+    for (at, refusal) in Refusal::ALL.iter().copied().enumerate() {
         assert_eq!((refusal.number(), refusal.to_string()), (at as u32 + 1, names[at].to_string()));
         assert_eq!(Refusal::from_number(at as u32 + 1), Some(refusal));
     }

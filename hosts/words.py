@@ -1,0 +1,188 @@
+#!/usr/bin/env python3
+"""Holds every number of hosts/c/oof.h, and the state's words of hosts/rust/src/ffi.rs, to the definitions in crates/*/specs.
+
+    hosts/words.py [HEADER]
+
+Each constant of the header must be one that the definitions give, with their number, and none may be missing. It reads text
+only; exits with 1 at the first differences.
+"""
+import pathlib
+import re
+import sys
+
+root = pathlib.Path(__file__).resolve().parent.parent
+header = pathlib.Path(sys.argv[1]) if len(sys.argv) > 1 else root / "hosts/c/oof.h"
+
+
+def text(path):
+    return (root / "crates" / path).read_text()
+
+
+def body(path, name):
+    """The equations of a definition, one string a clause: what stands behind `name .. =` up to the next blank line."""
+    lines = re.findall(rf"^{name}\b([^=\n]*) =((?:.|\n(?!\n|{name}\b))*)", text(path), re.M)
+    assert lines, f"{path} has no {name}"
+    return [(arguments.strip(), " ".join(right.split())) for arguments, right in lines]
+
+
+def number(path, name):
+    return int(body(path, name)[0][1])
+
+
+def codes(path, name, prefix, names=None):
+    """`name Variant = N` for each variant, as PREFIX_VARIANT."""
+    snake = lambda v: re.sub(r"(?<=[a-z])(?=[A-Z])", "_", v.split(".")[-1]).upper()
+    return {prefix + (names or {}).get(v, snake(v)): int(n) for v, n in body(path, name)}
+
+
+RECORD, DECODE = "style_record/specs/Record.antt", "style_record/specs/Decode.antt"
+CANDIDATE, LAYOUT = "tree_record/specs/Candidate.antt", "tree_record/specs/Layout.antt"
+STATE, ANSWER = "oof_c/specs/StateWords.antt", "oof_c/specs/AnswerWords.antt"
+SIDES = ["LEFT", "RIGHT", "TOP", "BOTTOM"]
+known = {}
+for name in ("lengthWords", "lengths", "codeWords", "afterLengths", "styleWords"):
+    known[name] = eval(body(RECORD, name)[0][1], {}, known)
+
+
+def place(record, field, at):
+    """The number behind `field = at r NUMBER` in a definition's text."""
+    found = re.search(rf"\b{field} = [^;]*?\b{at} (?:r|w) (\([^()]*\)|\w+)", record)
+    assert found, f"no {field} in {record}"
+    return eval(found[1], {}, known)
+
+
+def style():
+    out, record = {}, body(DECODE, "styleOf")[0][1]
+    for field in ("inset", "margin", "padding", "border"):
+        first = place(record, field, "rectAt")
+        out |= {f"{field.upper()}_{side}": first + known["lengthWords"] * k for k, side in enumerate(SIDES)}
+    for field, prefix in (("size", ""), ("min", "MIN_"), ("max", "MAX_")):
+        first = place(record, field, "sizeAt")
+        out |= {prefix + "WIDTH": first, prefix + "HEIGHT": first + known["lengthWords"]}
+    ratio = re.findall(r"\br (\w+)\)|floatAt r (\([^()]*\))", body(DECODE, "ratioAt")[0][1])
+    out |= {"RATIO_PRESENT": eval(ratio[0][0], {}, known), "RATIO": eval(ratio[1][1], {}, known)}
+    word = lambda of: eval(re.search(rf"{of} \(r (\([^()]*\))\)", record)[1], {}, known)
+    out |= {"BOX_SIZING": word("sizingOf"), "FLAGS": word("bit0"), "DIRECTION": word("directionOf"), "CONTAIN": word("containOf")}
+    assert word("bit0") == word("bit1")
+    for field in ("justify", "align"):
+        first = place(record, field, "alignAt")
+        out |= {field.upper(): first, field.upper() + "_SAFETY": first + 1}
+    for axis, at in re.findall(r"(x|y) = overflowOf \(r (\([^()]*\))\)", body(DECODE, "overflowAt")[0][1]):
+        out["OVERFLOW_" + axis.upper()] = eval(at, {}, known)
+    out["SCROLLBAR_WIDTH"] = place(record, "scrollbar", "floatAt")
+    return {"STYLE_" + name: at for name, at in out.items()}
+
+
+def candidate():
+    record, axis = body(CANDIDATE, "candidateOf")[0][1], body(CANDIDATE, "axisOf")[0][1]
+    out = {"NODE": place(record, "node", "getD"), "ORDER": place(record, "order", "getD"), "POSITION": place(record, "position", "getD")}
+    ends = re.search(r"area = floatAt r (k|\([^()]*\)) to floatAt r (k|\([^()]*\))", axis)
+    inner = {"START": ends[1], "END": ends[2]}
+    for field, name in (("keyword", "EDGE"), ("safety", "SAFETY"), ("fallback", "FALLBACK")):
+        inner[name] = re.search(rf"{field} = \w+ \(getD r (\([^()]*\)) 0\)", axis)[1]
+    for name in "xy":
+        first = place(record, name, "axisOf")
+        out |= {f"{name.upper()}_{part}": eval(at, {}, {"k": first}) for part, at in inner.items()}
+    return {"CANDIDATE_" + name: at for name, at in out.items()}
+
+
+def layout():
+    record = body(LAYOUT, "layoutOf")[0][1]
+    inner = lambda field, part: int(re.search(rf"\b{field} = record {{[^}}]*\b{part} = floatAt r (\d+)", record)[1])
+    out = {"ORDER": place(record, "order", "getD"), "WIDTH": inner("size", "width"), "HEIGHT": inner("size", "height")}
+    out |= {"SCROLLBAR_WIDTH": inner("scrollbar", "width"), "SCROLLBAR_HEIGHT": inner("scrollbar", "height")}
+    out |= {"X": inner("location", "x"), "Y": inner("location", "y")}
+    out |= {field.upper(): place(record, field, "rectOf") for field in ("overflow", "padding", "border", "margin")}
+    return {"LAYOUT_" + name: at for name, at in out.items()}
+
+
+def state():
+    replies, block, extents = (body(STATE, name)[0][1] for name in ("repliesOf", "blockOf", "extentsOf"))
+    first = lambda record, of: int(re.search(rf"\b{of} \(at w (\d+)\)", record)[1])
+    def named(record, *fields):
+        """The words of these fields, which stand one after another."""
+        found = {name: int(n) for name, n in re.findall(r"\b(\w+) = (?:at|floatAt) w (\d+)", record)}
+        numbers = [found[field] for field in fields]
+        assert numbers == list(range(numbers[0], numbers[0] + len(fields))), record
+        return numbers
+
+    counts = named(body(STATE, "countsOf")[0][1], "working", "unclaimed", "begun", "answered")
+    out = {"PROGRESS": first(body(STATE, "stateOf")[0][1], "progressOf")}
+    out |= {"KEYWORD": first(replies, "keywordOf"), "FILL": first(replies, "fillOf")}
+    out |= dict(zip(("WORKING", "UNCLAIMED", "BEGUN", "ANSWERED"), counts))
+    out["OVERFLOW"] = named(body(STATE, "overflowIn")[0][1], "left", "right", "top", "bottom")[0]
+    out |= {"AREA": named(block, "width", "height", "x", "y")[0], "DIRECTION": first(block, "directionOf")}
+    out["CLAIMS"] = first(body(STATE, "openedOf")[0][1], "claimsOf")
+    out |= {f"OVERFLOW_{axis.upper()}": int(re.search(rf"\b{axis} = overflowOf \(at w (\d+)\)", block)[1]) for axis in "xy"}
+    out["LENGTHS"] = named(extents, "styles", "layouts", "working", "unclaimed")[0]
+    return {"STATE_" + name: at for name, at in out.items()}
+
+
+def answer():
+    """Words of an answer by their turn in the lists that `measureWords` and `finishWords` put together."""
+    parts = {name: re.findall(r"(?:^|∷ |\()((?:given|spaceKind)?[^∷()]*(?:\([^∷]*\))?) (?=∷)", body(ANSWER, name)[0][1]) for name in ("knownWords", "spaceWords")}
+    assert [len(p) for p in parts.values()] == [4, 4], parts
+    assert "kind ∷ ask .node ∷ []) ++ knownWords (ask .known) ++ spaceWords (ask .space)" in body(ANSWER, "measureWords")[0][1]
+    assert "4 ∷ ask .node ∷ []) ++ knownWords (definite (ask .size)) ++ spaceWords (ask .space)" in body(ANSWER, "layOutWords")[0][1]
+    out = {"ANSWER_KIND": 0, "QUESTION_NODE": 1}
+    for first, name, words in ((2, "KNOWN", parts["knownWords"]), (6, "AVAILABLE", parts["spaceWords"])):
+        out |= {f"QUESTION_{name}_{side}": first + k for side in ("WIDTH", "HEIGHT") for k, w in enumerate(words)
+                if re.match(rf"(given|spaceKind) .*\.{side.lower()}\)", w)}
+    finish = body(ANSWER, "finishWords")[0][1]
+    assert "0 ∷ countWord (f .count) ∷ []) ++ rectWords (f .overflow) ++" in finish
+    sides = re.findall(r"r \.(\w+)", body(STATE, "rectWords")[0][1])
+    out |= {"FINISH_COUNT": 1} | {f"FINISH_{side.upper()}": 2 + k for k, side in enumerate(sides)}
+    kinds = {"MEASURE_" + re.search(r"Measure(\w+)", v)[1].upper() if "Measure" in v else "LAY_OUT":
+             int(r.split()[1]) if "Measure" in v else int(re.search(r"\((\d+) ∷ ask", body(ANSWER, "layOutWords")[0][1])[1])
+             for v, r in body(ANSWER, "questionWords")}
+    return out | kinds | {"FINISH": int(re.search(r"\((\d+) ∷ countWord", finish)[1])}
+
+
+def tags():
+    """By what each comes to in a size."""
+    names = {"Length value": "PX", "autoIn f": "AUTO", "Length (basis ⊗ value)": "PERCENT", "contentIn f": "CONTENT",
+             "keywordIn f keyword.MinContent": "MIN_CONTENT", "keywordIn f keyword.MaxContent": "MAX_CONTENT",
+             "keywordIn f keyword.FitContent": "FIT_CONTENT", "keywordIn f keyword.Stretch": "STRETCH",
+             "keywordIn f (keyword.FitContentLimit value)": "FIT_CONTENT_PX",
+             "keywordIn f (keyword.FitContentLimit (basis ⊗ value))": "FIT_CONTENT_PERCENT"}
+    clauses = re.findall(r"eqb tag (\d+)\) \((.*?)\)(?= \(cond| NotAllowed)", body("style/specs/Resolve.antt", "byTag")[0][1])
+    return {"TAG_" + names[to]: int(n) for n, to in clauses}
+
+
+def wanted():
+    out = style() | candidate() | layout() | state() | answer() | tags()
+    out |= {"STYLE_WORDS": known["styleWords"], "CANDIDATE_WORDS": number(CANDIDATE, "candidateWidth"), "LAYOUT_WORDS": number(LAYOUT, "layoutWidth")}
+    for name, path in (("STATE_WORDS", "oof_c/src/state.rt"), ("ANSWER_WORDS", "oof_c/src/answer.rt")):
+        out[name] = int(re.search(rf"const {name}: usize = (\d+);", text(path))[1])
+    refusals = text("run/specs/Refusals.antt")
+    out |= {"MOST_ITEMS": int(re.search(r"ltb (\d+) \(items", refusals)[1]), "MOST_RECORDS": int(re.search(r"ltb (\d+) \(length list", refusals)[1])}
+    out |= {k: v for k, v in codes("refusal/specs/Refusal.antt", "numberOf", "").items() if v <= 6} | {"ACCEPTED": 0}
+    style_codes, record_codes = "style/specs/Codes.antt", "tree_record/specs/Codes.antt"
+    out |= codes(style_codes, "directionCode", "DIRECTION_") | codes(style_codes, "overflowCode", "OVERFLOW_")
+    out |= codes(style_codes, "safetyCode", "SAFETY_") | codes(style_codes, "keywordCode", "ALIGN_")
+    out |= codes(style_codes, "sizingCode", "BOX_SIZING_", {"BorderBox": "BORDER", "ContentBox": "CONTENT"})
+    out["ALIGN_ABSENT"] = int(re.search(r"cond \(eqb k (\d+)\)", body(style_codes, "alignmentOf")[0][1])[1])
+    out |= codes(record_codes, "positionCode", "POSITION_") | codes(record_codes, "edgeCode", "EDGE_")
+    low, high = map(int, re.findall(r"cond \w+ (\d) 0", body(style_codes, "bitsCode")[0][1]))
+    for prefix, first, second in (("CLAIMS_", "ABSOLUTE", "FIXED"), ("FLAG_", "REPLACED", "TABLE"), ("CONTAIN_", "LAYOUT", "PAINT")):
+        out |= {prefix + first: low, prefix + second: high}
+    out |= codes(ANSWER, "given", "", {"None": "NOT_KNOWN", "(Some size)": "KNOWN"})
+    out |= codes(ANSWER, "spaceKind", "SPACE_", {"(Definite size)": "DEFINITE"})
+    return {"OOF_" + name: n for name, n in out.items()}
+
+
+def main():
+    found = {n: int(v) for n, v in re.findall(r"\b(OOF_[A-Z0-9_]+) = (\d+)", header.read_text())}
+    want = wanted()
+    wrong = [f"{n} is {found.get(n, 'missing')}, by the definitions {want.get(n, 'unknown')}" for n in sorted(found | want) if found.get(n) != want.get(n)]
+    names = {"PROGRESS": "PROGRESS", "KEYWORD_REPLY": "KEYWORD", "FILL_REPLY": "FILL", "FILLED_WORKING": "WORKING", "FILLED_UNCLAIMED": "UNCLAIMED",
+             "BEGUN": "BEGUN", "ANSWERED": "ANSWERED", "OVERFLOW": "OVERFLOW", "AREA": "AREA", "CODES": "DIRECTION", "LENGTHS": "LENGTHS"}
+    rust = dict(re.findall(r"^    pub const (\w+): usize = (\d+);", (root / "hosts/rust/src/ffi.rs").read_text(), re.M))
+    wrong += [f"ffi.rs: {n} is {rust.get(n)}" for n in sorted(rust | names) if int(rust.get(n, -1)) != want.get("OOF_STATE_" + names.get(n, ""))]
+    for line in wrong:
+        print("hosts/words.py:", line)
+    print(f"hosts/words.py: {len(found)} numbers of the header and {len(rust)} of the Rust host, {len(wrong)} wrong")
+    return 1 if wrong else 0
+
+
+sys.exit(main())
