@@ -1,8 +1,9 @@
 -- The three demands of the entries, from their contracts and the theorems of `run`, `oof_box` and `mirror`. Assumes nothing.
 use Prim.Native.Nat.{ℕ, _+_}
 use native.Mathlib.Omega.{arith}
+use native.Mathlib.Nat.{zero-add}
 use mathlib.Core.Path.{_≡_, refl, sym, ap, subst, _∙_}
-use mathlib.Core.Bool.{Bool, false}
+use mathlib.Core.Bool.{Bool, true, false}
 use mathlib.Core.List.{List, [], _∷_, _++_, foldl, foldl-append, append-nil}
 use lib.ListN.{length}
 use Rattle.util.proofs.Floats.{no}
@@ -19,23 +20,23 @@ use Rattle.oof_box.proofs.Floor.{size-law as box-size-law}
 use Rattle.run.specs.declared.Opening.{Opening}
 use Rattle.run.specs.declared.State.{State}
 use Rattle.run.specs.Call.{Lent, Outcome, outcome}
-use Rattle.run.specs.Theorems.{WroteSize, isRefused, askedFor, Heard, Loan, own, other, Turn, next, nextWith, turned, Lends, AllLend, called, Stands, heededIn, courseOf}
+use Rattle.run.specs.Theorems.{WroteSize, openIn, oneIfAsked, isRefused, askedFor, Heard, Loan, own, other, Turn, next, nextWith, turned, Lends, AllLend, called, Stands, heededIn, courseOf}
 use Rattle.run.specs.Run.{extentsOf, boxAtHand, opened, replied, takenBy, laidOut}
-use Rattle.run.proofs.Refusals.{refused-reply-keeps, refused-opening-keeps}
+use Rattle.run.proofs.Refusals.{refused-reply-keeps, refused-opening-keeps, saying, turn-refused}
 use Rattle.run.proofs.Exactly.{opening-refused-exactly, opening-accepted-exactly, reply-refused-exactly, reply-accepted-exactly, unresolved-exactly}
 use Rattle.listing.proofs.Exactly.{refused-exactly, listed-exactly}
 use Rattle.listing.specs.Rows.{Prints}
 use Rattle.listing.specs.Listing.{printed}
 use Rattle.run.proofs.Ways.{ReplyWay, measures, laysOut, reply-way, never-kept}
 use Rattle.run.proofs.Told.{lays-out}
-use Rattle.run.proofs.Questions.{Hoisted, opening-hoisted, reply-hoisted}
+use Rattle.run.proofs.Questions.{Hoisted, opening-hoisted, reply-hoisted, Bounded, three-at-most, opening-bounded, reply-bounded}
 use Rattle.run.proofs.ByBox.{ForBox, opening-for, reply-for}
 use Rattle.run.proofs.Straight.{straight-run}
 use Rattle.mirror.proofs.Mirror.{mirror}
 use Rattle.mirror.specs.Image.{imageOpening, imageStyles, imageCandidates}
 use Rattle.mirror.specs.Quarter.{QuarterArea, QuarterTable, QuarterCandidates}
 use Rattle.mirror.specs.Runs.{Message, runNext, imageNext, Fair, AllFair, MirroredRuns, unclaimedAtOpening}
-use Rattle.demands.specs.Entries.{Opens, AnyCalls, Takes, Run, BothRuns}
+use Rattle.demands.specs.Entries.{Opens, AnyCalls, Takes, Run, RefusedSince, BothRuns}
 use Rattle.demands.specs.Entries as entry
 use Rattle.demands.specs.Demands.{OpeningDemands, ReplyDemands, AlignmentDemands, ScreenDemands, ThreeQuestionsEach, EqualsStraightRun, SizedLayout, SizeLaw, LaidOutAsAsked, MirrorImage}
 
@@ -59,18 +60,25 @@ screen-demands text c = record { call = c; refused = refused-exactly text; liste
 
 -- ---- at most three questions
 
-for-box : (i : ℕ) {n : ℕ} {has : Outcome} → AnyCalls i n has → ForBox i n (has .step .state) × Hoisted (has .step .state)
-for-box i (AnyCalls.opening {has = has} o candidates lent c) =
-    subst (λ (x : Outcome). ForBox i (askedFor i (x .step)) (x .step .state) × Hoisted (x .step .state)) (sym c)
-    (opening-for i o candidates lent, opening-hoisted o candidates lent)
-for-box i (AnyCalls.reply {n = n} {before = before} {has = has} reply surfaced lent calls c) =
-    let b = for-box i calls in
-    subst (λ (x : Outcome). ForBox i (n + askedFor i (x .step)) (x .step .state) × Hoisted (x .step .state))
-    (sym c)
-    (reply-for i n (before .step .state) reply surfaced lent (b .0), reply-hoisted (before .step .state) reply surfaced lent (b .1))
+abbrev Counted : ℕ → ℕ → ℕ → State → Type 0
+Counted i n m s = ForBox i n s × Hoisted s × Bounded m s
+
+counted : (i : ℕ) {n m : ℕ} {has : Outcome} → AnyCalls i n m has → Counted i n m (has .step .state)
+counted i (AnyCalls.opening o candidates lent c) =
+    subst (λ (x : Outcome). Counted i (askedFor i (x .step)) (oneIfAsked (x .step .answer)) (x .step .state)) (sym c)
+    (opening-for i o candidates lent, opening-hoisted o candidates lent, rw zero-add at (opening-bounded o candidates lent))
+counted i (AnyCalls.reply {n = n} {m = m} {before = before} reply surfaced lent calls c) =
+    let b = counted i calls in
+    let s = before .step .state in
+    subst (λ (x : Outcome). Counted i (n + askedFor i (x .step)) (m + oneIfAsked (x .step .answer)) (x .step .state)) (sym c)
+    (reply-for i n s reply surfaced lent (b .0), reply-hoisted s reply surfaced lent (b .1), reply-bounded m s reply surfaced lent (b .2))
 
 pub three-questions-each : ThreeQuestionsEach
-three-questions-each i n has calls = let b = for-box i calls in (b .0 .three, λ h. b .0 .none (let k = b .1 in omega arith))
+three-questions-each i n m has calls =
+    let b = counted i calls in
+    let k = b .1 in
+    let most = three-at-most m (has .step .state) (b .2) in
+    (b .0 .three, λ h. b .0 .none (omega arith), omega arith)
 
 -- ---- a run is the list of its turns
 
@@ -141,11 +149,25 @@ reply-demands s reply surfaced lent c =
       size = size-law s reply surfaced lent;
     })
 
+-- what was asked is still open after replies that were refused
+since : (styles : List ℕ) {asked before : Outcome} → RefusedSince styles asked before → before ≡ saying (before .step .answer) asked
+since styles RefusedSince.none = refl
+since styles {asked} (RefusedSince.more {before = before} {has = has} t earlier c r) =
+    let e = takes styles before (t .heard) (t .loan) has c in
+    let a = turned styles before t .step .answer in
+    e ∙ turn-refused styles before t (subst (λ (x : Outcome). isRefused (x .step .answer) ≡ true) e r) ∙ ap (saying a) (since styles earlier)
+    ∙ ap (λ (x : Outcome). saying (x .step .answer) asked) (sym e)
+
 pub laid-out-as-asked : LaidOutAsAsked
-laid-out-as-asked styles before has input overflow surfaced told c n =
-    let e = takes styles before (record { reply = LaidOut overflow; surfaced = surfaced }) own has c in
-    subst (λ (x : Outcome). WroteSize input (before .layouts) (x .layouts)) (sym e)
-    (lays-out styles before input overflow surfaced told (subst (λ (x : Outcome). isRefused (x .step .answer) ≡ false) e n))
+laid-out-as-asked o candidates lent turns asked before has run input told refused overflow surfaced c n =
+    let s = equals-straight-run o candidates lent turns asked run in
+    let q = s .pending ∙ sym (s .answer (ap isRefused told)) ∙ told in
+    let same = since (lent .styles) refused in
+    let e = takes (lent .styles) before (record { reply = LaidOut overflow; surfaced = surfaced }) own has c in
+    subst (λ (x : Outcome). WroteSize input (asked .layouts) (x .layouts)) (sym e)
+    (subst (λ (ws : List ℕ). WroteSize input ws (next (lent .styles) before (record { reply = LaidOut overflow; surfaced = surfaced }) .layouts)) (ap (λ (x : Outcome). x .layouts) same)
+    (lays-out (lent .styles) before input overflow surfaced (ap (openIn (lent .styles)) same ∙ q)
+    (subst (λ (x : Outcome). isRefused (x .step .answer) ≡ false) e n)))
 
 -- ---- the mirror image
 

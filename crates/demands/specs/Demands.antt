@@ -1,5 +1,8 @@
--- The three demands, of the entries `open` and `reply`. No entry asks anything of its caller, so each contract, and with it each of
--- these, holds for any bits in any number and slices of any length. `proofs/Demands.antt` proves each, under its name in small letters.
+-- The three demands, of every entry: 1 to 6 of `open` and `reply`, 7 of `from_alignment`, 8 of the program; of the C entries in
+-- demands_c/specs. No entry asks anything of its caller, and a proved function ends, without a panic: so each of these holds for any bits in
+-- any number and slices of any length. `proofs/Demands.antt` proves each, under its name in small letters.
+-- What document 01 leaves free is fixed by the definition all the same: what is asked and written where words were rewritten between calls or
+-- a state was forged (oof_box/specs/Cut.antt), and the numbers of a refused opening's state, which are zeros.
 -- Assumes nothing.
 use Prim.Native.Nat.{ℕ, _*_, _-_, _≤_}
 use mathlib.Core.Logic.{_↔_}
@@ -31,7 +34,7 @@ use Rattle.run.specs.declared.Answer.the-variants.{Ask, Refused}
 use Rattle.run.specs.Call.{Lent, Outcome, unwritten}
 use Rattle.run.specs.Run.{closed, boxAtHand, extentsOf}
 use Rattle.run.specs.Conditions.{FirstIs, NoneHolds, SideIsUnresolved, openingTests, replyTests}
-use Rattle.run.specs.Theorems.{isRefused, own, openIn, WroteSize, Turn, Stands, heededIn, courseOf}
+use Rattle.run.specs.Theorems.{isRefused, own, StageTellsKind, WroteSize, Turn, Stands, heededIn, courseOf}
 use Rattle.mirror.specs.Image.{imageStyles}
 use Rattle.mirror.specs.Quarter.{QuarterArea, QuarterTable, QuarterCandidates}
 use Rattle.mirror.specs.Runs.{Message, MirroredRuns, unclaimedAtOpening}
@@ -39,7 +42,7 @@ use Rattle.column.specs.Listing.{refusalText}
 use Rattle.listing.specs.Rows.{Prints}
 use Rattle.listing.specs.Listing.{printed}
 use Rattle.listing.specs.Laws.{programTests, IsList}
-use Rattle.demands.specs.Entries.{Opens, AnyCalls, Takes, Run, BothRuns, AfterEach}
+use Rattle.demands.specs.Entries.{Opens, AnyCalls, Takes, Run, RefusedSince, BothRuns, AfterEach}
 use Rattle.demands.specs.Entries as entry
 
 -- ---- Demand 1. "Whoever calls an entry, with any bits in any number and slices of any length, gets its answer (in a run, a question or
@@ -84,14 +87,19 @@ pub record ScreenDemands (text : List ℕ) (r : ℕ) (before after : List ℕ) :
   pub refused : (q : Refusal) → (printed text ≡ refusalText (numberOf q)) ↔ FirstIs (programTests text) (numberOf q)
   pub listed : IsList (printed text) ↔ NoneHolds (programTests text)
 
--- "A run asks at most three questions for each box hoisted", whatever words the host rewrites between calls: at most three for each box,
--- and none for one that isn't hoisted
+-- "A run asks at most three questions for each box hoisted", whatever words the host rewrites between calls: at most three for each box, none
+-- for one that isn't hoisted, and no others
 abbrev pub ThreeQuestionsEach : Type 0
-ThreeQuestionsEach = (i n : ℕ) (has : Outcome) → AnyCalls i n has → (n ≤ 3) × (has .step .state .counts .filled .working ≤ i → n ≡ 0)
+ThreeQuestionsEach =
+    (i n m : ℕ) (has : Outcome) → AnyCalls i n m has
+    → let hoisted = has .step .state .counts .filled .working in
+    (n ≤ 3) × (hoisted ≤ i → n ≡ 0) × (m ≤ 3 * hoisted)
 
--- ---- Demand 2. "Questions, layouts, lists and overflow equal the definition": the contracts are equations with it, and by the definition
--- the calls are the straight run (run/specs/Straight.antt) of boxes that each read straight through (oof_box/specs/Box.antt). This holds
--- after each call, whatever replies were refused before it.
+-- ---- Demand 2. "CSS .. gives the definition, each operation rounded once in 01's order; questions, layouts, lists and overflow equal it." The
+-- contracts are equations with the definition, and by it the calls are the straight run (run/specs/Straight.antt) of boxes that each read
+-- straight through (oof_box/specs/Box.antt). This holds after each call, whatever replies were refused before it.
+-- That the definition is CSS's is no theorem. What holds it to CSS: the laws of one axis and of one box (oof_axis/specs/Laws.antt,
+-- axis_laws/specs, box_laws/specs), document 01's rows, and the differential runs beside the Rust (docs/DIFFERENCES.md).
 
 abbrev pub EqualsStraightRun : Type 0
 EqualsStraightRun =
@@ -99,15 +107,16 @@ EqualsStraightRun =
     → Run o candidates lent turns has
     → Stands lent (length (heededIn o candidates lent turns)) has (courseOf o candidates lent turns)
 
--- the size told in a lay out question is the size written, at the place of the node that it names: the question being open by the state and
--- the words as they are, as it is after the call that asked it (`pending` of `Stands`), whatever replies were refused since
+-- the size told in a lay out question is the size written, at the place of the node that it names, whatever replies were refused in between
 abbrev pub LaidOutAsAsked : Type 0
 LaidOutAsAsked =
-    (styles : List ℕ) (before has : Outcome) (input : LayoutInput) (overflow : Rect) (surfaced : List ℕ)
-    → openIn styles before ≡ Ask (LayOut input)
-    → Takes styles before (record { reply = LaidOut overflow; surfaced = surfaced }) own has
+    (o : Opening) (candidates : List ℕ) (lent : Lent) (turns : List Turn) (asked before has : Outcome)
+    → Run o candidates lent turns asked
+    → (input : LayoutInput) → asked .step .answer ≡ Ask (LayOut input)
+    → RefusedSince (lent .styles) asked before
+    → (overflow : Rect) (surfaced : List ℕ) → Takes (lent .styles) before (record { reply = LaidOut overflow; surfaced = surfaced }) own has
     → isRefused (has .step .answer) ≡ false
-    → WroteSize input (before .layouts) (has .layouts)
+    → WroteSize input (asked .layouts) (has .layouts)
 
 -- ---- Demand 3. "Take a left-to-right run and its mirror image .. Let the host give both any one list of replies, refused ones included, each
 -- with the state that the last call returned, while nobody else writes the lent words. After opening and after each reply both have given
@@ -127,6 +136,8 @@ MirrorImage =
 
 pub record Demanded : Type 0 where
   pub three-questions-each : ThreeQuestionsEach
+  -- the kind of reply that a state waits for is that of the question that its call asked, whatever the words
+  pub stage-tells-kind : StageTellsKind
   pub equals-straight-run : EqualsStraightRun
   pub laid-out-as-asked : LaidOutAsAsked
   pub mirror-image : MirrorImage

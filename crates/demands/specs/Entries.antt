@@ -3,14 +3,14 @@
 -- Assumes nothing.
 use Prim.Native.Nat.{ℕ, _+_}
 use mathlib.Core.Path.{_≡_}
-use mathlib.Core.Bool.{false}
+use mathlib.Core.Bool.{true, false}
 use mathlib.Core.List.{List, [], _∷_, _++_}
 use Rattle.oof_box.specs.declared.question.Reply.{Reply}
 use Rattle.run.specs.declared.Opening.{Opening}
 use Rattle.run.specs.declared.State.{State}
 use Rattle.run.specs.Call.{Lent, Outcome, lent, outcome}
 use Rattle.run.specs.Run.{opened, replied}
-use Rattle.run.specs.Theorems.{isRefused, askedFor, Heard, Loan, own, other, Turn, Lends}
+use Rattle.run.specs.Theorems.{isRefused, oneIfAsked, askedFor, Heard, Loan, own, other, Turn, Lends}
 use Rattle.mirror.specs.Image.{imageOpening, imageCandidates}
 use Rattle.mirror.specs.Runs.{Message, Fair}
 
@@ -23,15 +23,18 @@ abbrev pub Replies : State → Reply → List ℕ → Lent → Outcome → Type 
 Replies s reply surfaced lent has = has ≡ replied s reply surfaced lent
 
 -- ---- Any calls: each reply is given the state that the last call returned, and any words in slices of any length. `n` questions were
--- asked for box i, the record i of the working list, each while it was at hand.
+-- asked for box i, the record i of the working list, each while it was at hand; `m` were asked in all.
 
-pub data AnyCalls (i : ℕ) : ℕ → Outcome → Type 0 where
-  opening : {has : Outcome} (o : Opening) (candidates : List ℕ) (lent : Lent) → Opens o candidates lent has → AnyCalls i (askedFor i (has .step)) has
+pub data AnyCalls (i : ℕ) : ℕ → ℕ → Outcome → Type 0 where
+  opening :
+      {has : Outcome} (o : Opening) (candidates : List ℕ) (lent : Lent)
+      → Opens o candidates lent has
+      → AnyCalls i (askedFor i (has .step)) (oneIfAsked (has .step .answer)) has
   reply :
-      {n : ℕ} {before has : Outcome} (reply : Reply) (surfaced : List ℕ) (lent : Lent)
-      → AnyCalls i n before
+      {n m : ℕ} {before has : Outcome} (reply : Reply) (surfaced : List ℕ) (lent : Lent)
+      → AnyCalls i n m before
       → Replies (before .step .state) reply surfaced lent has
-      → AnyCalls i (n + askedFor i (has .step)) has
+      → AnyCalls i (n + askedFor i (has .step)) (m + oneIfAsked (has .step .answer)) has
 
 -- ---- A run: nobody else writes the lent words.
 
@@ -59,6 +62,16 @@ pub data Run (o : Opening) (candidates : List ℕ) (lent : Lent) : List Turn →
       → Takes (lent .styles) before (t .heard) (t .loan) has
       → Lends (t .loan) (has .step .answer)
       → Run o candidates lent (turns ++ (t ∷ [])) has
+
+-- what the host has after replies that were each refused, since it had `asked`
+pub data RefusedSince (styles : List ℕ) (asked : Outcome) : Outcome → Type 0 where
+  none : RefusedSince styles asked asked
+  more :
+      {before has : Outcome} (t : Turn)
+      → RefusedSince styles asked before
+      → Takes styles before (t .heard) (t .loan) has
+      → isRefused (has .step .answer) ≡ true
+      → RefusedSince styles asked has
 
 -- ---- A run and its mirror image, side by side: each message is one reply, given to both. What is asked of it is `Fair`
 -- (mirror/specs/Runs.antt), by the state that came with it and by what was answered to it.

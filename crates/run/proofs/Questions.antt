@@ -119,11 +119,11 @@ one-more r stage given f = go stage given (not-given stage r f) (not-filled stag
 -- ---- between two calls
 
 -- by the questions asked so far, the boxes begun, and whether one is asked now
-abbrev Within : ℕ → ℕ → Replies → Progress → Type 0
+abbrev pub Within : ℕ → ℕ → Replies → Progress → Type 0
 Within questions begun r Finished = questions ≤ 3 * begun
 Within questions begun r (Asking stage) = (questions + 2 ≤ 3 * begun + kept r) × Forward stage r
 
-abbrev Bounded : ℕ → State → Type 0
+abbrev pub Bounded : ℕ → State → Type 0
 Bounded questions s = Within questions (s .counts .begun) (s .replies) (s .progress)
 
 pub three-at-most : (questions : ℕ) (s : State) → Bounded questions s → questions ≤ 3 * s .counts .begun
@@ -134,7 +134,7 @@ three-at-most questions s b = go (s .progress) b
     go (Asking stage) b = let n = b .0 in omega (arith, at-most-two (s .replies))
 
 -- after one more call: what it asked is counted
-abbrev BoundedBy : ℕ → Step → Type 0
+abbrev pub BoundedBy : ℕ → Step → Type 0
 BoundedBy questions t = Bounded (questions + oneIfAsked (t .answer)) (t .state)
 
 -- a reply that is kept leaves room for one question more
@@ -163,7 +163,7 @@ proceeding-bounded styles working run counts overflow questions h = go (next-way
     go (asks l e) = rw e (asking-bounded styles working run _ overflow noReplies questions (omega arith))
     go (ends l e) = rw e (omega arith)
 
-opening-bounded : (o : Opening) (candidates : List ℕ) (lent : Lent) → BoundedBy 0 (opened o candidates lent .step)
+pub opening-bounded : (o : Opening) (candidates : List ℕ) (lent : Lent) → BoundedBy 0 (opened o candidates lent .step)
 unfolding closed begun
 opening-bounded o candidates lent = go (opening-way o candidates lent)
   where
@@ -171,7 +171,7 @@ opening-bounded o candidates lent = go (opening-way o candidates lent)
     go (OpeningWay.turnedDown r e) = rw e (omega arith)
     go (begins v e) = rw e (proceeding-bounded _ _ _ _ _ 0 (omega arith))
 
-reply-bounded : (questions : ℕ) (s : State) (given : Reply) (surfaced : List ℕ) (lent : Lent) → Bounded questions s
+pub reply-bounded : (questions : ℕ) (s : State) (given : Reply) (surfaced : List ℕ) (lent : Lent) → Bounded questions s
     → BoundedBy questions (replied s given surfaced lent .step)
 unfolding takenBy measuredOn laidOut
 reply-bounded questions s given surfaced lent b = go (reply-way s given surfaced lent)

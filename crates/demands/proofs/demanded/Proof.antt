@@ -1,4 +1,5 @@
 use Rattle.demands.proofs.Demands.{three-questions-each, equals-straight-run, laid-out-as-asked, mirror-image}
+use Rattle.run.proofs.EachQuestion.{stage-tells-kind}
 use Rattle.demands.proofs.demanded.Statement.{statement}
 use Rattle.demands.proofs.demanded.Tie as tie
 
@@ -6,6 +7,7 @@ returns : tie.Need-returns
 returns c =
     record {
       three-questions-each = three-questions-each;
+      stage-tells-kind = stage-tells-kind;
       equals-straight-run = equals-straight-run;
       laid-out-as-asked = laid-out-as-asked;
       mirror-image = mirror-image;
