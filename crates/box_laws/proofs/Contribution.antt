@@ -6,7 +6,7 @@ use mathlib.Core.Bool.{Bool, true, false, false≢true, cond, not, _&&_, _||_}
 use Prim.Native.Nat.{ℕ, _+_, _*_, _≤_, _<_}
 use native.Mathlib.Omega.{arith}
 use lib.Dec.{lit<, lit≤}
-use lib.Ieee.{Float, le}
+use lib.Ieee.{Float, lt, le}
 use Rattle.util.specs.Number.{_⊕_, _⊖_, 0f}
 use Rattle.util.specs.Order.{larger, smaller}
 use Rattle.geometry.specs.Geometry.{_to_, zeroRect, lineX, lineY, rectOf}
@@ -28,15 +28,16 @@ use Rattle.oof_resolve.specs.Resolved.{resolvedBox}
 use Rattle.oof_resolve.specs.declared.ContainingBlock.{ContainingBlock}
 use Rattle.common.specs.ScrollableOverflow.{propagates, reach, placedAt, contribution}
 use Rattle.oof_place.specs.Placing.{layoutOf, fromOrigin, boxLayout}
-use Rattle.exact.specs.Integer.{N, zeroN, addN}
+use Rattle.exact.specs.Integer.{N, zeroN, addN, EqN}
 use Rattle.exact.specs.Value.{Signed}
-use Rattle.exact.proofs.Integers.{subN, minN, maxN, one-mult}
+use Rattle.exact.proofs.Integers.{subN, minN, maxN, leN, one-mult}
 use Rattle.exact.proofs.Exact.{Exact, of-value, widen, zero-exact}
 use Rattle.exact.proofs.Sum.{add-exact, sub-exact}
+use Rattle.exact.proofs.Compare.{lt-exact, le-exact}
 use Rattle.exact.proofs.Order.{larger-exact, smaller-exact}
-use Rattle.axis_laws.specs.Laws.{LeN}
-use Rattle.axis_laws.proofs.Numbers.{nil, _and_, at-most-sums}
-use Rattle.box_laws.specs.Laws.{ScrollingContributionIsReachable, Sixteenth, Fine, HoldsForwards, HoldsBackwards, Holds, ContributionHoldsTheBox, ContributionHoldsItsOverflow, ClippedOverflowIsNotCounted}
+use Rattle.axis_laws.specs.Laws.{LeN, _=Σ_, _≤Σ_}
+use Rattle.axis_laws.proofs.Numbers.{nil, _and_, equal-sums, at-most-sums, at-most, below}
+use Rattle.box_laws.specs.Laws.{ScrollingContributionIsReachable, Sixteenth, Fine, HoldsForwards, HoldsBackwards, HoldsAcross, HoldsDown, HoldsTheBox, ContributionHoldsTheBox, ContributionHoldsItsOverflow, PastTheStart, ContributionCounts, WithinTheBox, ContributionHoldsNoMore, ClippedOverflowIsNotCounted}
 use Rattle.box_laws.proofs.Always.{placed-always}
 
 -- ---- zeros, or the reach of the box, placed
@@ -134,6 +135,8 @@ record Reached (shows : Bool) (size : Float) (own : Line) (u s e : N) : Type 0 w
   high : LeN u last
   lowOwn : shows ≡ true → LeN first s
   highOwn : shows ≡ true → LeN e last
+  lowWithin : LeN zeroN s → EqN first zeroN
+  highWithin : LeN e u → EqN last u
 
 reached : (shows : Bool) {size : Float} {own : Line} {u s e : N} → Exact 1 bound size u → Exact 1 bound (own .start) s → Exact 1 bound (own .end) e → Reached shows size own u s e
 unfolding reach
@@ -147,6 +150,8 @@ reached true {size} {own} {u} {s} {e} hu hs he =
       high = omega arith;
       lowOwn = λ t. omega arith;
       highOwn = λ t. omega arith;
+      lowWithin = λ i. omega arith;
+      highWithin = λ i. omega arith;
     }
 reached false {size} {own} {u} {s} {e} hu hs he =
     record {
@@ -158,6 +163,8 @@ reached false {size} {own} {u} {s} {e} hu hs he =
       high = omega arith;
       lowOwn = λ t. absurd (false≢true t);
       highOwn = λ t. absurd (false≢true t);
+      lowWithin = λ i. refl;
+      highWithin = λ i. refl;
     }
 
 -- the reach of a box that stands at `at`, from the area's start edge, holds a line that its own edges hold
@@ -196,54 +203,179 @@ module _ (block : ContainingBlock) (style : Style) (l : Layout) (h : Fine block 
   abbrev y-shows : Bool
   y-shows = propagates (style .overflow .y) (style .overflow) (style .contain)
 
+  abbrev x-line : Line
+  x-line = reach x-shows (l .size .width) (lineX (l .overflow))
+
+  abbrev y-line : Line
+  y-line = reach y-shows (l .size .height) (lineY (l .overflow))
+
   x-reach : Reached x-shows (l .size .width) (lineX (l .overflow)) (units (h .sizeX)) (units (h .left)) (units (h .right))
   x-reach = reached x-shows (exactly (h .sizeX)) (exactly (h .left)) (exactly (h .right))
 
   y-reach : Reached y-shows (l .size .height) (lineY (l .overflow)) (units (h .sizeY)) (units (h .top)) (units (h .bottom))
   y-reach = reached y-shows (exactly (h .sizeY)) (exactly (h .top)) (exactly (h .bottom))
 
-  abbrev placedRect : Rect
-  placedRect = rectOf (placedAt (origin .x) (reach x-shows (l .size .width) (lineX (l .overflow)))) (placedAt (origin .y) (reach y-shows (l .size .height) (lineY (l .overflow))))
-
   -- lines that the reach holds
-  held : (x y : Line) {α β γ δ : N} → Exact 1 bound (x .start) α → Exact 1 bound (x .end) β → LeN (x-reach .first) α → LeN β (x-reach .last)
-      → Exact 1 bound (y .start) γ → Exact 1 bound (y .end) δ → LeN (y-reach .first) γ → LeN δ (y-reach .last)
-      → Holds block l placedRect x y
+  across-held : (x : Line) {α β : N} → Exact 1 bound (x .start) α → Exact 1 bound (x .end) β → LeN (x-reach .first) α → LeN β (x-reach .last) → HoldsAcross block l (placedAt (origin .x) x-line) x
   unfolding fromOrigin
-  held x y a b i j c d p q = (
+  across-held x a b i j = (
     λ e. rw e (forwards (exactly (h .offsetX)) (exactly (h .x)) (exactly (h .width)) (exactly (h .sizeX)) (x-reach .start) (x-reach .end) a b i j),
     λ e. rw e (backwards (exactly (h .offsetX)) (exactly (h .x)) (exactly (h .width)) (exactly (h .sizeX)) (x-reach .start) (x-reach .end) a b i j),
-    forwards (exactly (h .offsetY)) (exactly (h .y)) (exactly (h .width)) (exactly (h .sizeY)) (y-reach .start) (y-reach .end) c d p q,
   )
 
-  or-zeros : (x y : Line) → Holds block l placedRect x y
-      → let r = contribution origin (l .size) (l .overflow) (style .overflow) (style .contain) (anyScrollContainer (block .overflow)) in (r ≡ zeroRect) ⊎ Holds block l r x y
-  or-zeros x y k = go (zeros-or-placed origin (l .size) (l .overflow) (style .overflow) (style .contain) (anyScrollContainer (block .overflow)))
+  down-held : (y : Line) {α β : N} → Exact 1 bound (y .start) α → Exact 1 bound (y .end) β → LeN (y-reach .first) α → LeN β (y-reach .last) → HoldsDown block l (placedAt (origin .y) y-line) y
+  unfolding fromOrigin
+  down-held y a b i j = forwards (exactly (h .offsetY)) (exactly (h .y)) (exactly (h .width)) (exactly (h .sizeY)) (y-reach .start) (y-reach .end) a b i j
+
+  box-held : HoldsTheBox block l (rectOf (placedAt (origin .x) x-line) (placedAt (origin .y) y-line))
+  box-held = (across-held (0f to l .size .width) zero (exactly (h .sizeX)) (x-reach .low) (x-reach .high), down-held (0f to l .size .height) zero (exactly (h .sizeY)) (y-reach .low) (y-reach .high))
+
+  abbrev found : Rect
+  found = contribution origin (l .size) (l .overflow) (style .overflow) (style .contain) (anyScrollContainer (block .overflow))
+
+  or-zeros : (P : Rect → Type 0) → P (rectOf (placedAt (origin .x) x-line) (placedAt (origin .y) y-line)) → (found ≡ zeroRect) ⊎ P found
+  or-zeros P k = go (zeros-or-placed origin (l .size) (l .overflow) (style .overflow) (style .contain) (anyScrollContainer (block .overflow)))
     where
-      go : {r : Rect} → (r ≡ zeroRect) ⊎ (r ≡ placedRect) → (r ≡ zeroRect) ⊎ Holds block l r x y
+      go : (found ≡ zeroRect) ⊎ (found ≡ rectOf (placedAt (origin .x) x-line) (placedAt (origin .y) y-line)) → (found ≡ zeroRect) ⊎ P found
       go (inl e) = inl e
-      go (inr e) = inr (subst (λ (r : Rect). Holds block l r x y) (sym e) k)
+      go (inr e) = inr (subst P (sym e) k)
 
 pub contribution-holds-the-box : ContributionHoldsTheBox
 unfolding boxLayout layoutOf
 contribution-holds-the-box block style candidate =
     placed-always _ block style candidate
     (λ size laid h. (let l = layoutOf block style candidate (resolvedBox block style candidate) size (laid .overflow) in
-    let x = x-reach block style l h in
-    let y = y-reach block style l h in
-    or-zeros block style l h (0f to size .width) (0f to size .height) (held block style l h (0f to size .width) (0f to size .height) zero (exactly (h .sizeX)) (x .low) (x .high) zero (exactly (h .sizeY)) (y .low) (y .high))))
+    or-zeros block style l h (HoldsTheBox block l) (box-held block style l h)))
 
-visible : (o : Overflow) (p : OverflowPoint) (c : Contain) → o ≡ Visible → p .x ≡ Visible → p .y ≡ Visible → containsOverflow c ≡ false → propagates o p c ≡ true
+visible : (o : Overflow) (p : OverflowPoint) (c : Contain) → o ≡ Visible → anyScrollContainer p ≡ false → containsOverflow c ≡ false → propagates o p c ≡ true
 unfolding propagates
-visible o p c e f g n = rw (e, f, g, n) refl
+visible o p c e f n = rw (e, f, n) refl
 
 pub contribution-holds-its-overflow : ContributionHoldsItsOverflow
 unfolding boxLayout layoutOf
-contribution-holds-its-overflow block style candidate f g n =
+contribution-holds-its-overflow block style candidate f n =
     placed-always _ block style candidate
     (λ size laid h. (let l = layoutOf block style candidate (resolvedBox block style candidate) size (laid .overflow) in
     let x = x-reach block style l h in
     let y = y-reach block style l h in
-    let s = visible (style .overflow .x) (style .overflow) (style .contain) f f g n in
-    let t = visible (style .overflow .y) (style .overflow) (style .contain) g f g n in
-    or-zeros block style l h (lineX (laid .overflow)) (lineY (laid .overflow)) (held block style l h (lineX (laid .overflow)) (lineY (laid .overflow)) (exactly (h .left)) (exactly (h .right)) (x .lowOwn s) (x .highOwn s) (exactly (h .top)) (exactly (h .bottom)) (y .lowOwn t) (y .highOwn t))))
+    or-zeros block style l h
+    (λ r. (style .overflow .x ≡ Visible → HoldsAcross block l (lineX r) (lineX (laid .overflow))) × (style .overflow .y ≡ Visible → HoldsDown block l (lineY r) (lineY (laid .overflow)))) (
+      λ e. (let s = visible (style .overflow .x) (style .overflow) (style .contain) e f n in across-held block style l h (lineX (laid .overflow)) (exactly (h .left)) (exactly (h .right)) (x .lowOwn s) (x .highOwn s)),
+      λ e. (let s = visible (style .overflow .y) (style .overflow) (style .contain) e f n in down-held block style l h (lineY (laid .overflow)) (exactly (h .top)) (exactly (h .bottom)) (y .lowOwn s) (y .highOwn s)),
+    )))
+
+-- ---- no zeros
+
+at-most-false : (v w : N) → (LeN v w → ⊥) → leN v w ≡ false
+at-most-false v w f = go (leN v w) refl
+  where
+    go : (b : Bool) → leN v w ≡ b → b ≡ false
+    go true e = absurd (f (at-most v w e))
+    go false e = refl
+
+neither : (a b : Bool) → a ≡ false → b ≡ false → a || b ≡ false
+neither a b e f = rw (e, f) refl
+
+where-scrolling : (s b : Bool) → (s ≡ true → b ≡ false) → s && b ≡ false
+where-scrolling true b f = f refl
+where-scrolling false b f = refl
+
+not-zeros : (at : Point) (size : Size) (own : Rect) (overflow : OverflowPoint) (contain : Contain) (scrolls : Bool)
+    → let x = across at size own overflow contain in let y = down at size own overflow contain in
+    le (x .end) 0f || le (y .end) 0f ≡ false → scrolls && (le (placedAt (at .x) x .end) 0f || le (placedAt (at .y) y .end) 0f) ≡ false
+    → contribution at size own overflow contain scrolls ≡ rectOf (placedAt (at .x) x) (placedAt (at .y) y)
+unfolding contribution
+not-zeros at size own overflow contain scrolls e f = rw (e, f) refl
+
+module _ (block : ContainingBlock) (style : Style) (l : Layout) (h : Fine block l) where
+  abbrev x : Reached (x-shows block style l h) (l .size .width) (lineX (l .overflow)) (units (h .sizeX)) (units (h .left)) (units (h .right))
+  x = x-reach block style l h
+
+  abbrev y : Reached (y-shows block style l h) (l .size .height) (lineY (l .overflow)) (units (h .sizeY)) (units (h .top)) (units (h .bottom))
+  y = y-reach block style l h
+
+  -- an extent above 0
+  wide : lt 0f (l .size .width) ≡ true → le (x-line block style l h .end) 0f ≡ false
+  wide e = let p = below zeroN (units (h .sizeX)) (sym (lt-exact zero (exactly (h .sizeX))) ∙ e) in le-exact (x .end) zero ∙ at-most-false (x .last) zeroN (λ q. omega (arith, p, q, x .high))
+
+  tall : lt 0f (l .size .height) ≡ true → le (y-line block style l h .end) 0f ≡ false
+  tall e = let p = below zeroN (units (h .sizeY)) (sym (lt-exact zero (exactly (h .sizeY))) ∙ e) in le-exact (y .end) zero ∙ at-most-false (y .last) zeroN (λ q. omega (arith, p, q, y .high))
+
+  -- an end after the start edge
+  left-to-right : (l .location .x ∷ l .size .width ∷ [] ≤Σ block .area .offset .x ∷ [] → ⊥) → le (l .location .x ⊖ block .area .offset .x ⊕ x-line block style l h .end) 0f ≡ false
+  left-to-right f =
+      le-exact (add-exact (sub-exact (exactly (h .x)) (exactly (h .offsetX)) (lit< tt)) (x .end) (lit< tt)) zero
+      ∙ at-most-false (addN (subN (units (h .x)) (units (h .offsetX))) (x .last)) zeroN
+      (λ q. f (at-most-sums (exactly (h .x) and exactly (h .sizeX) and nil) (exactly (h .offsetX) and nil) (omega (arith, q, x .high))))
+
+  right-to-left : (block .area .offset .x ∷ block .area .size .width ∷ [] ≤Σ l .location .x ∷ [] → ⊥)
+      → le (block .area .size .width ⊖ (l .location .x ⊖ block .area .offset .x) ⊖ l .size .width ⊕ x-line block style l h .end) 0f ≡ false
+  right-to-left f =
+      le-exact (add-exact (sub-exact (sub-exact (exactly (h .width)) (sub-exact (exactly (h .x)) (exactly (h .offsetX)) (lit< tt)) (lit< tt)) (exactly (h .sizeX)) (lit< tt)) (x .end) (lit< tt)) zero
+      ∙ at-most-false (addN (subN (subN (units (h .width)) (subN (units (h .x)) (units (h .offsetX)))) (units (h .sizeX))) (x .last)) zeroN
+      (λ q. f (at-most-sums (exactly (h .offsetX) and exactly (h .width) and nil) (exactly (h .x) and nil) (omega (arith, q, x .high))))
+
+  downwards : (l .location .y ∷ l .size .height ∷ [] ≤Σ block .area .offset .y ∷ [] → ⊥) → le (l .location .y ⊖ block .area .offset .y ⊕ y-line block style l h .end) 0f ≡ false
+  downwards f =
+      le-exact (add-exact (sub-exact (exactly (h .y)) (exactly (h .offsetY)) (lit< tt)) (y .end) (lit< tt)) zero
+      ∙ at-most-false (addN (subN (units (h .y)) (units (h .offsetY))) (y .last)) zeroN
+      (λ q. f (at-most-sums (exactly (h .y) and exactly (h .sizeY) and nil) (exactly (h .offsetY) and nil) (omega (arith, q, y .high))))
+
+  past : PastTheStart block l → le (placedAt (origin block style l h .x) (x-line block style l h) .end) 0f || le (placedAt (origin block style l h .y) (y-line block style l h) .end) 0f ≡ false
+  unfolding fromOrigin placedAt
+  past p = neither _ _ (go (block .direction) refl) (downwards (p .2))
+    where
+      go : (d : Direction) → block .direction ≡ d
+          → le (cond (isRtl d) (block .area .size .width ⊖ (l .location .x ⊖ block .area .offset .x) ⊖ l .size .width) (l .location .x ⊖ block .area .offset .x) ⊕ x-line block style l h .end) 0f ≡ false
+      go Ltr e = left-to-right (p .0 e)
+      go Rtl e = right-to-left (p .1 e)
+
+  counts : lt 0f (l .size .width) ≡ true → lt 0f (l .size .height) ≡ true → (anyScrollContainer (block .overflow) ≡ true → PastTheStart block l) → HoldsTheBox block l (found block style l h)
+  counts w t p =
+      subst (HoldsTheBox block l)
+      (sym
+      (not-zeros (origin block style l h) (l .size) (l .overflow) (style .overflow) (style .contain) (anyScrollContainer (block .overflow)) (neither _ _ (wide w) (tall t))
+      (where-scrolling (anyScrollContainer (block .overflow)) _ (λ s. past (p s)))))
+      (box-held block style l h)
+
+pub contribution-counts : ContributionCounts
+unfolding boxLayout layoutOf
+contribution-counts block style candidate =
+    placed-always _ block style candidate (λ size laid h w t p. counts block style (layoutOf block style candidate (resolvedBox block style candidate) size (laid .overflow)) h w t p)
+
+-- ---- no more than the box
+
+-- a line placed by a reach that is the box's
+as-long : {p size : Float} {o u : N} {r : Line} {σ ε : N} → Exact 1 (4 * bound) p o → Exact 1 bound size u → Exact 1 bound (r .start) σ → Exact 1 bound (r .end) ε → EqN σ zeroN → EqN ε u
+    → placedAt p r .start ∷ size ∷ [] =Σ placedAt p r .end ∷ []
+unfolding placedAt
+as-long hp hu hs he i j = equal-sums (add-exact hp hs (lit< tt) and hu and nil) (add-exact hp he (lit< tt) and nil) (omega (arith, i, j))
+
+module _ (block : ContainingBlock) (style : Style) (l : Layout) (h : Fine block l) where
+  x-from : (d : Direction) → (o : N) × Exact 1 (4 * bound) (cond (isRtl d) (block .area .size .width ⊖ (l .location .x ⊖ block .area .offset .x) ⊖ l .size .width) (l .location .x ⊖ block .area .offset .x)) o
+  x-from Ltr = (_, widen (lit≤ tt) (sub-exact (exactly (h .x)) (exactly (h .offsetX)) (lit< tt)))
+  x-from Rtl = (_, sub-exact (sub-exact (exactly (h .width)) (sub-exact (exactly (h .x)) (exactly (h .offsetX)) (lit< tt)) (lit< tt)) (exactly (h .sizeX)) (lit< tt))
+
+  x-origin : (o : N) × Exact 1 (4 * bound) (origin block style l h .x) o
+  unfolding fromOrigin
+  x-origin = x-from (block .direction)
+
+  y-origin : (o : N) × Exact 1 (4 * bound) (origin block style l h .y) o
+  unfolding fromOrigin
+  y-origin = (_, widen (lit≤ tt) (sub-exact (exactly (h .y)) (exactly (h .offsetY)) (lit< tt)))
+
+  no-more : WithinTheBox l → let r = found block style l h in (r ≡ zeroRect) ⊎ ((r .left ∷ l .size .width ∷ [] =Σ r .right ∷ []) × (r .top ∷ l .size .height ∷ [] =Σ r .bottom ∷ []))
+  no-more i =
+      let x = x-reach block style l h in
+      let y = y-reach block style l h in
+      or-zeros block style l h (λ r. (r .left ∷ l .size .width ∷ [] =Σ r .right ∷ []) × (r .top ∷ l .size .height ∷ [] =Σ r .bottom ∷ [])) (
+        as-long (x-origin .1) (exactly (h .sizeX)) (x .start) (x .end) (x .lowWithin (at-most zeroN (units (h .left)) (sym (le-exact zero (exactly (h .left))) ∙ i .0)))
+            (x .highWithin (at-most (units (h .right)) (units (h .sizeX)) (sym (le-exact (exactly (h .right)) (exactly (h .sizeX))) ∙ i .1))),
+        as-long (y-origin .1) (exactly (h .sizeY)) (y .start) (y .end) (y .lowWithin (at-most zeroN (units (h .top)) (sym (le-exact zero (exactly (h .top))) ∙ i .2)))
+            (y .highWithin (at-most (units (h .bottom)) (units (h .sizeY)) (sym (le-exact (exactly (h .bottom)) (exactly (h .sizeY))) ∙ i .3))),
+      )
+
+pub contribution-holds-no-more : ContributionHoldsNoMore
+unfolding boxLayout layoutOf
+contribution-holds-no-more block style candidate =
+    placed-always _ block style candidate (λ size laid h i. no-more block style (layoutOf block style candidate (resolvedBox block style candidate) size (laid .overflow)) h i)

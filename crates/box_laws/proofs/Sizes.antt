@@ -5,18 +5,25 @@ use mathlib.Core.Bool.{Bool, true, false, false≢true, cond, not, _&&_, _||_}
 use Prim.Native.Nat.{ℕ}
 use lib.Ieee.{Float, lt}
 use Rattle.util.specs.Order.{larger}
-use Rattle.util.specs.Maybe.{present, unwrapOr, map, mapClamped, clamped}
+use Rattle.util.specs.Number.{_⊕_}
+use Rattle.util.specs.Maybe.{present, orElse, unwrapOr, map, mapAdd, mapLarger, mapClamped, clamped}
 use Rattle.util.specs.Laws.{AtOrAbove, AtOrBelow, notAbove}
 use Rattle.util.specs.declared.math.MaybeF32.{MaybeF32}
 use Rattle.util.specs.declared.math.MaybeF32.the-variants.{None, Some}
 use Rattle.util.proofs.Laws.{larger-bounds, larger-is-one, min-wins, max-binds, at-most-is-transitive}
-use Rattle.geometry.specs.Geometry.{bothPresent, filledSize, clampedSize, clampedFloats, completed, withRatio}
+use Rattle.geometry.specs.Geometry.{zeroSize, definite, bothPresent, firstSize, addedSize, raisedSize, filledSize, clampedSize, clampedFloats, completed, withRatio}
 use Rattle.geometry.specs.declared.Size.{Size}
 use Rattle.geometry.specs.declared.MaybeSize.{MaybeSize}
+use Rattle.style.specs.Resolve.{byTag, resolved, maybeResolved, resolvedSize}
+use Rattle.style.specs.Values.{isContentBox}
 use Rattle.style.specs.declared.Style.{Style}
+use Rattle.style.specs.declared.compact_length.CompactLength.{CompactLength}
+use Rattle.style.specs.declared.compact_length.LengthSize.{LengthSize}
+use Rattle.style.specs.declared.resolve.Field.{Field}
+use Rattle.style.specs.declared.resolve.Field.the-variants as field
 use Rattle.tree.specs.declared.layout.OofCandidate.{OofCandidate}
 use Rattle.oof_axis.specs.Axis.{stretchFit, stretches}
-use Rattle.oof_resolve.specs.Resolved.{resolvedBox}
+use Rattle.oof_resolve.specs.Resolved.{styleSize, minSize, resolvedBox}
 use Rattle.oof_resolve.specs.declared.ContainingBlock.{ContainingBlock}
 use Rattle.oof_resolve.specs.declared.ResolvedBox.{ResolvedBox}
 use Rattle.common.specs.SizingKeyword.{ifAbsent, keywordsOf}
@@ -29,9 +36,54 @@ use Rattle.oof_box.specs.Box.{Placed, placed, isKeyword, widthAs, heightAs, inT
 use Rattle.oof_box.specs.declared.question.MeasureInput.{MeasureInput}
 use Rattle.oof_box.specs.declared.question.Question.the-variants.{MeasureBoth}
 use Rattle.oof_box.specs.declared.sizing.Stretched.{Stretched}
-use Rattle.box_laws.specs.Laws.{Always, now, later, SizeAlways, Measures, measures, MinHolds, MaxHolds, GivenSizeStays, Plain, stretchable, StretchFills, MeasuredIsTheReply, tableMin, TableIsMeasured}
+use Rattle.box_laws.specs.Laws.{Always, now, later, SizeAlways, Measures, measures, pixels, edgesOf, SizesOfItsBox, MinHolds, MaxHolds, GivenSizeStays, Plain, stretchable, StretchFills, MeasuredIsTheReply, tableMin, TableIsMeasured}
 use Rattle.box_laws.proofs.Always.{size-from, size-always}
 use Rattle.box_laws.proofs.Clamp.{clamp-is-settled}
+
+-- ---- step 2
+
+pixels-are : (f : Field) (l : CompactLength) (basis x : Float) → l ≡ pixels x → maybeResolved f l basis ≡ Some x
+unfolding maybeResolved resolved byTag
+pixels-are f l basis x e = rw e refl
+
+module _ (style : Style) (area edges : Size) (x : Float) (ratio : style .ratio ≡ None) where
+  abbrev added : Size
+  added = cond (isContentBox (style .sizing)) edges zeroSize
+
+  style-width : (f : Field) (lengths : LengthSize) → lengths .width ≡ pixels x → styleSize f lengths style area edges .width ≡ Some (x ⊕ added .width)
+  unfolding styleSize withRatio addedSize mapAdd map resolvedSize
+  style-width f lengths e = rw (ratio, pixels-are f (lengths .width) (area .width) x e) refl
+
+  style-height : (f : Field) (lengths : LengthSize) → lengths .height ≡ pixels x → styleSize f lengths style area edges .height ≡ Some (x ⊕ added .height)
+  unfolding styleSize withRatio addedSize mapAdd map resolvedSize
+  style-height f lengths e = rw (ratio, pixels-are f (lengths .height) (area .height) x e) refl
+
+  min-width : style .min .width ≡ pixels x → minSize style area edges .width ≡ Some (larger (x ⊕ added .width) (edges .width))
+  unfolding minSize raisedSize firstSize definite mapLarger map orElse
+  min-width e = rw (style-width field.MinOrMax (style .min) e) refl
+
+  min-height : style .min .height ≡ pixels x → minSize style area edges .height ≡ Some (larger (x ⊕ added .height) (edges .height))
+  unfolding minSize raisedSize firstSize definite mapLarger map orElse
+  min-height e = rw (style-height field.MinOrMax (style .min) e) refl
+
+clamped-is : (m min max : MaybeF32) (x : Float) → m ≡ Some x → mapClamped m min max ≡ Some (clamped x min max)
+unfolding mapClamped map
+clamped-is m min max x e = rw e refl
+
+pub sizes-of-its-box : SizesOfItsBox
+unfolding resolvedBox clampedSize
+sizes-of-its-box block style candidate x ratio =
+    let area = block .area .size in
+    let box = resolvedBox block style candidate in
+    let edges = edgesOf box in
+    record {
+      maxWidth = style-width style area edges x ratio field.MinOrMax (style .max);
+      maxHeight = style-height style area edges x ratio field.MinOrMax (style .max);
+      minWidth = min-width style area edges x ratio;
+      minHeight = min-height style area edges x ratio;
+      width = λ e. clamped-is _ _ _ _ (style-width style area edges x ratio field.Size (style .size) e);
+      height = λ e. clamped-is _ _ _ _ (style-height style area edges x ratio field.Size (style .size) e);
+    }
 
 -- ---- min: as step 2 has it, or raised for a table
 

@@ -15,12 +15,12 @@ use Rattle.util.specs.Maybe.{clamped}
 use Rattle.util.specs.Laws.{AtOrAbove, AtOrBelow}
 use Rattle.util.specs.declared.math.MaybeF32.{MaybeF32}
 use Rattle.util.specs.declared.math.MaybeF32.the-variants.{None, Some}
-use Rattle.geometry.specs.Geometry.{_to_, zeroRect, rectOf, countedFrom, lineX, lineY}
+use Rattle.geometry.specs.Geometry.{_to_, zeroRect, zeroSize, rectOf, rectSum, sums, countedFrom, lineX, lineY}
 use Rattle.geometry.specs.declared.Line.{Line}
 use Rattle.geometry.specs.declared.Point.{Point}
 use Rattle.geometry.specs.declared.Rect.{Rect}
 use Rattle.geometry.specs.declared.Size.{Size}
-use Rattle.style.specs.Values.{anyScrollContainer, containsOverflow, isVisible}
+use Rattle.style.specs.Values.{isContentBox, anyScrollContainer, containsOverflow, isVisible}
 use Rattle.style.specs.declared.Contain.{Contain}
 use Rattle.style.specs.declared.Direction.the-variants.{Ltr, Rtl}
 use Rattle.style.specs.declared.Overflow.the-variants.{Visible}
@@ -58,7 +58,31 @@ SizeAlways P block style candidate = Always (λ (p : Placed). P (p .outcome .lay
 pub data Measures (P : MeasureInput → Size → Placed → Type 0) : Talk Placed → Type 0 where
   measures : {m : MeasureInput} {next : Size → Talk Placed} → ((r : Size) → Always (P m r) (next r)) → Measures P (ask (MeasureBoth m) next)
 
--- ---- sizes. Min, max and size are those of step 2: percentages resolved, padding plus border added where content-box, min at least these.
+-- ---- sizes. Min, max and size are those of step 2, as `SizesOfItsBox` says.
+
+abbrev pub pixels : Float → CompactLength
+pixels x = record { tag = 1; value = x }
+
+-- padding plus border
+abbrev pub edgesOf : ResolvedBox → Size
+edgesOf box = sums (rectSum (box .padding) (box .border))
+
+-- lengths are of the content box where the box sizing says so: padding plus border is added
+abbrev pub toBorderBox : Style → ResolvedBox → Size
+toBorderBox style box = cond (isContentBox (style .sizing)) (edgesOf box) zeroSize
+
+-- min is at least padding plus border, and the size is clamped
+pub record OfItsBox (x : Float) (style : Style) (box : ResolvedBox) : Type 0 where
+  pub maxWidth : style .max .width ≡ pixels x → box .max .width ≡ Some (x ⊕ toBorderBox style box .width)
+  pub maxHeight : style .max .height ≡ pixels x → box .max .height ≡ Some (x ⊕ toBorderBox style box .height)
+  pub minWidth : style .min .width ≡ pixels x → box .min .width ≡ Some (larger (x ⊕ toBorderBox style box .width) (edgesOf box .width))
+  pub minHeight : style .min .height ≡ pixels x → box .min .height ≡ Some (larger (x ⊕ toBorderBox style box .height) (edgesOf box .height))
+  pub width : style .size .width ≡ pixels x → box .size .width ≡ Some (clamped (x ⊕ toBorderBox style box .width) (box .min .width) (box .max .width))
+  pub height : style .size .height ≡ pixels x → box .size .height ≡ Some (clamped (x ⊕ toBorderBox style box .height) (box .min .height) (box .max .height))
+
+abbrev pub SizesOfItsBox : Type 0
+SizesOfItsBox =
+    (block : ContainingBlock) (style : Style) (candidate : OofCandidate) (x : Float) → style .ratio ≡ None → OfItsBox x style (resolvedBox block style candidate)
 
 -- min ≤ size
 abbrev pub MinHolds : Type 0
@@ -278,8 +302,8 @@ pub record Fine (block : ContainingBlock) (l : Layout) : Type 0 where
   pub top : Sixteenth (l .overflow .top)
   pub bottom : Sixteenth (l .overflow .bottom)
 
--- r holds what reaches from x .start to x .end and from y .start to y .end of the box's start edges: in y, and in x left-to-right, from the
--- area's top or left edge on; right-to-left, from its right edge leftwards
+-- r holds, or is, what reaches from l .start to l .end of the box's start edge: in y, and in x left-to-right, from the area's top or left
+-- edge on; in x right-to-left, from its right edge leftwards
 abbrev pub HoldsForwards : Line → Float → Float → Line → Type 0
 HoldsForwards r offset at l = (r .start ∷ offset ∷ [] ≤Σ at ∷ l .start ∷ []) × (at ∷ l .end ∷ [] ≤Σ r .end ∷ offset ∷ [])
 
@@ -287,29 +311,66 @@ abbrev pub HoldsBackwards : Line → Float → Float → Float → Float → Lin
 HoldsBackwards r offset width at size l =
     (r .start ∷ at ∷ size ∷ [] ≤Σ offset ∷ width ∷ l .start ∷ []) × (offset ∷ width ∷ l .end ∷ [] ≤Σ r .end ∷ at ∷ size ∷ [])
 
-abbrev pub Holds : ContainingBlock → Layout → Rect → Line → Line → Type 0
-Holds block l r x y =
-    (block .direction ≡ Ltr → HoldsForwards (lineX r) (block .area .offset .x) (l .location .x) x)
-    × (block .direction ≡ Rtl → HoldsBackwards (lineX r) (block .area .offset .x) (block .area .size .width) (l .location .x) (l .size .width) x)
-    × HoldsForwards (lineY r) (block .area .offset .y) (l .location .y) y
+abbrev pub HoldsAcross : ContainingBlock → Layout → Line → Line → Type 0
+HoldsAcross block l r x =
+    (block .direction ≡ Ltr → HoldsForwards r (block .area .offset .x) (l .location .x) x)
+    × (block .direction ≡ Rtl → HoldsBackwards r (block .area .offset .x) (block .area .size .width) (l .location .x) (l .size .width) x)
 
--- zeros, or it holds the border box, in both directions
+abbrev pub HoldsDown : ContainingBlock → Layout → Line → Line → Type 0
+HoldsDown block l r y = HoldsForwards r (block .area .offset .y) (l .location .y) y
+
+-- the border box, from its start edges
+abbrev pub HoldsTheBox : ContainingBlock → Layout → Rect → Type 0
+HoldsTheBox block l r = HoldsAcross block l (lineX r) (0f to l .size .width) × HoldsDown block l (lineY r) (0f to l .size .height)
+
+-- it is zeros, or it holds the border box, in both directions
 abbrev pub ContributionHoldsTheBox : Type 0
 ContributionHoldsTheBox =
     (block : ContainingBlock) (style : Style) (candidate : OofCandidate)
     → Always
-    (λ (p : Placed). let l = p .outcome .layout in let r = p .outcome .contribution in
-    Fine block l → (r ≡ zeroRect) ⊎ Holds block l r (0f to l .size .width) (0f to l .size .height))
+    (λ (p : Placed). let r = p .outcome .contribution in Fine block (p .outcome .layout) → (r ≡ zeroRect) ⊎ HoldsTheBox block (p .outcome .layout) r)
     (placed block style candidate)
 
--- and the box's own overflow, where that is visible in both axes and nothing contains it
+-- and the box's own overflow, along an axis in which that is visible, where the box is no scroll container and nothing contains it
 abbrev pub ContributionHoldsItsOverflow : Type 0
 ContributionHoldsItsOverflow =
-    (block : ContainingBlock) (style : Style) (candidate : OofCandidate)
-    → style .overflow .x ≡ Visible → style .overflow .y ≡ Visible → containsOverflow (style .contain) ≡ false
+    (block : ContainingBlock) (style : Style) (candidate : OofCandidate) → anyScrollContainer (style .overflow) ≡ false → containsOverflow (style .contain) ≡ false
     → Always
     (λ (p : Placed). let l = p .outcome .layout in let r = p .outcome .contribution in
-    Fine block l → (r ≡ zeroRect) ⊎ Holds block l r (lineX (l .overflow)) (lineY (l .overflow)))
+    Fine block l
+    → (r ≡ zeroRect)
+    ⊎ ((style .overflow .x ≡ Visible → HoldsAcross block l (lineX r) (lineX (l .overflow))) × (style .overflow .y ≡ Visible → HoldsDown block l (lineY r) (lineY (l .overflow)))))
+    (placed block style candidate)
+
+-- the box ends after the area's start edges
+abbrev pub PastTheStart : ContainingBlock → Layout → Type 0
+PastTheStart block l =
+    (block .direction ≡ Ltr → (l .location .x ∷ l .size .width ∷ [] ≤Σ block .area .offset .x ∷ []) → ⊥)
+    × (block .direction ≡ Rtl → (block .area .offset .x ∷ block .area .size .width ∷ [] ≤Σ l .location .x ∷ []) → ⊥)
+    × ((l .location .y ∷ l .size .height ∷ [] ≤Σ block .area .offset .y ∷ []) → ⊥)
+
+-- zeros are for a box without a size, or one that can't be scrolled to: any other counts
+abbrev pub ContributionCounts : Type 0
+ContributionCounts =
+    (block : ContainingBlock) (style : Style) (candidate : OofCandidate)
+    → Always
+    (λ (p : Placed). let l = p .outcome .layout in
+    Fine block l → lt 0f (l .size .width) ≡ true → lt 0f (l .size .height) ≡ true → (anyScrollContainer (block .overflow) ≡ true → PastTheStart block l)
+    → HoldsTheBox block l (p .outcome .contribution))
+    (placed block style candidate)
+
+-- it holds no more than the border box where the box's own overflow is within it: no margin
+abbrev pub WithinTheBox : Layout → Type 0
+WithinTheBox l =
+    (le 0f (l .overflow .left) ≡ true) × (le (l .overflow .right) (l .size .width) ≡ true)
+    × (le 0f (l .overflow .top) ≡ true) × (le (l .overflow .bottom) (l .size .height) ≡ true)
+
+abbrev pub ContributionHoldsNoMore : Type 0
+ContributionHoldsNoMore =
+    (block : ContainingBlock) (style : Style) (candidate : OofCandidate)
+    → Always
+    (λ (p : Placed). let l = p .outcome .layout in let r = p .outcome .contribution in
+    Fine block l → WithinTheBox l → (r ≡ zeroRect) ⊎ ((r .left ∷ l .size .width ∷ [] =Σ r .right ∷ []) × (r .top ∷ l .size .height ∷ [] =Σ r .bottom ∷ [])))
     (placed block style candidate)
 
 -- what the box clips isn't counted: own overflow that a scroll container or containment holds, in both axes; along an axis that isn't

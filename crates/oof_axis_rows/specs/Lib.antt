@@ -1,4 +1,3 @@
-pub mod Rows
 pub mod Sample
 pub mod Quarter
 pub mod Typical

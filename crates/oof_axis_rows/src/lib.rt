@@ -1,1 +1,1 @@
-// Worked examples of one axis, computed from the definitions: document 01's rows, and boxes that the Rust laid out.
+// Boxes that the Rust laid out, by axis, computed from the definitions.

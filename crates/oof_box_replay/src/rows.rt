@@ -12,6 +12,7 @@ use oof_axis::OofAlignment;
 use oof_axis::OofAxis;
 use oof_box::question::Replies;
 use oof_box::sizing;
+use oof_place;
 use oof_resolve;
 use oof_resolve::ContainingBlock;
 use style::BoxSizing;
@@ -277,12 +278,23 @@ fn uncontained() -> Contain {
 
 // A size, min and max (width) and a left padding; all else auto or 0.
 fn box_of(width: CompactLength, min: CompactLength, max: CompactLength, padding: f32) -> Style {
+    let inset = sides(automatic(), automatic());
+    style_of(inset, wide(width), min, max, padding)
+}
+
+fn style_of(
+    inset: LengthRect,
+    size: LengthSize,
+    min: CompactLength,
+    max: CompactLength,
+    padding: f32,
+) -> Style {
     Style {
-        inset: sides(automatic(), automatic()),
+        inset: inset,
         margin: sides(px(0.0), px(0.0)),
         padding: sides(px(padding), px(0.0)),
         border: sides(px(0.0), px(0.0)),
-        size: wide(width),
+        size: size,
         min: wide(min),
         max: wide(max),
         ratio: MaybeF32::None,
@@ -299,6 +311,10 @@ fn box_of(width: CompactLength, min: CompactLength, max: CompactLength, padding:
 }
 
 fn block() -> ContainingBlock {
+    block_of(Direction::Ltr, visible())
+}
+
+fn block_of(direction: Direction, overflow: OverflowPoint) -> ContainingBlock {
     let size = Size {
         width: 100.0,
         height: 100.0,
@@ -308,8 +324,8 @@ fn block() -> ContainingBlock {
             size: size,
             offset: Point::ZERO,
         },
-        direction: Direction::Ltr,
-        overflow: visible(),
+        direction: direction,
+        overflow: overflow,
     }
 }
 
@@ -359,6 +375,42 @@ fn contribution(x: f32, size: Size, right: f32, scrolls: bool) -> Rect {
     )
 }
 
+// What a box adds, nothing being measured and nothing of its own overflowing.
+fn added(parent: ContainingBlock, style: Style) -> Rect {
+    let resolved = oof_resolve::resolve_box(parent, style, candidate());
+    let keywords = sizing::size_keywords(style, resolved);
+    let size = sizing::final_size(style, resolved, keywords, Replies::NONE);
+    let none = Rect {
+        left: 0.0,
+        right: 0.0,
+        top: 0.0,
+        bottom: 0.0,
+    };
+    let laid = oof_place::place(parent, style, candidate(), resolved, size, none);
+    laid.contribution
+}
+
+// Right-to-left in a scrolling block: 40 wide and 10 high, by its right inset.
+fn past_right_edge(right: f32) -> Rect {
+    let inset = LengthRect {
+        left: automatic(),
+        right: px(right),
+        top: automatic(),
+        bottom: automatic(),
+    };
+    let size = LengthSize {
+        width: px(40.0),
+        height: px(10.0),
+    };
+    let scroll = OverflowPoint {
+        x: Overflow::Scroll,
+        y: Overflow::Scroll,
+    };
+    let style = style_of(inset, size, automatic(), automatic(), 0.0);
+    let parent = block_of(Direction::Rtl, scroll);
+    added(parent, style)
+}
+
 fn overflow_rows() {
     let empty = Size {
         width: 0.0,
@@ -372,6 +424,8 @@ fn overflow_rows() {
     print_rect(b"12", contribution(0.0, empty, 5.0, false));
     print_rect(b"13", contribution(-40.0, forty, 0.0, true));
     print_rect(b"13", contribution(-39.0, forty, 0.0, true));
+    print_rect(b"13", past_right_edge(-40.0));
+    print_rect(b"13", past_right_edge(-39.0));
 }
 
 pub(crate) fn run() {

@@ -1,4 +1,4 @@
--- Document 01's starred rows, 1 to 11, by computation.
+-- Document 01's rows, by computation.
 use mathlib.Core.Path.{_≡_, refl}
 use mathlib.Core.Bool.{true}
 use lib.Ieee.{add, sub, mul, div, neg, lt, le, eq, isNan, sum, round, units, odd, size, span, climb, ofBits, toBits, ofFields, nanBits, ofInt}
@@ -14,10 +14,9 @@ use Rattle.oof_resolve.specs.Resolved.{ofWidth, ofEachAxis, lessOffset, horizon
 use Rattle.oof_place.specs.Placing.{scrollbarOf, layoutOf, fromOrigin, boxLayout}
 use Rattle.oof_box.specs.Talk.{_>>=_}
 use Rattle.oof_box.specs.Box.{keywordStretch, sizeKeywords, settled, widthAs, heightAs, inTurn, byKeywords, keywordSizes, ignoresRatio, stretchRatio, widened, heightened, raisedMin, stretched, finalSize, measured, placed}
-use Rattle.oof_box.specs.Cut.{taken, knownBy, stretchedBy, sizeBy, keywordAsked, sizeAsked, askedOf, askedAfter, layoutAfter}
-use Rattle.oof_axis_rows.specs.Rows.{px, insets, none, static, axis, centered, autoMargins, overconstrained, staticCenter, lineIs, locates, places, hasBlock, rows, all}
-use Rattle.oof_box_rows.specs.Rows.{boxOf, block as block-of-rows, candidate, hasWidth, boxRows, starredRows}
+use Rattle.oof_box_rows.specs.AxisRows.{px, insets, none, static, axis, centered, autoMargins, overconstrained, staticCenter, lineIs, locates, places, hasBlock, axisRows}
+use Rattle.oof_box_rows.specs.Rows.{boxOf, blockOf, candidate, outcome, hasWidth, is, hasMin, clampedBox, flooredBox, boxRows, adds, flatBox, outside, outsideRight, overflowRows, rows, all}
 
-starred-rows-hold : all starredRows ≡ true
-unfolding add sub mul div neg lt le eq isNan sum round units odd size span climb ofBits toBits ofFields nanBits ofInt zeroOf before larger smaller magnitude present orElse unwrapOr map mapAdd mapLarger atMost atLeast clamped mapClamped rectOrZero sumX sumY sums rectSum unionOf smallerSize definite bothPresent firstSize filledSize addedSize raisedSize clampedSize clampedFloats completed withRatio byTag resolved takes maybeResolved resolvedRect resolvedSize selfRelative clampedSpace clampedSpaces definiteSpaces fromResolved startEdge endEdge alignIn centeredBlock staticBlock insetBlock weakerEdge closedUp repaired block bothInsets stretchFit stretching stretches isStretch halves filledMargins margins isNormal alignEdge limit keptWithin selfAligned staticAligned positionIn position placement byKeyword ofResolved keywordOf absoluteStretch ifAbsent keywordsOf propagates reach placedAt contribution ofWidth ofEachAxis lessOffset horizontal vertical paddingOrBorder styleSize minSize lessMargins spaceFor resolvedBox scrollbarOf layoutOf fromOrigin boxLayout _>>=_ keywordStretch sizeKeywords settled widthAs heightAs inTurn byKeywords keywordSizes ignoresRatio stretchRatio widened heightened raisedMin stretched finalSize measured placed taken knownBy stretchedBy sizeBy keywordAsked sizeAsked askedOf askedAfter layoutAfter px insets none static axis centered autoMargins overconstrained staticCenter lineIs locates places hasBlock rows all boxOf block-of-rows candidate hasWidth boxRows starredRows
-starred-rows-hold = refl
+rows-hold : all rows ≡ true
+unfolding add sub mul div neg lt le eq isNan sum round units odd size span climb ofBits toBits ofFields nanBits ofInt zeroOf before larger smaller magnitude present orElse unwrapOr map mapAdd mapLarger atMost atLeast clamped mapClamped rectOrZero sumX sumY sums rectSum unionOf smallerSize definite bothPresent firstSize filledSize addedSize raisedSize clampedSize clampedFloats completed withRatio byTag resolved takes maybeResolved resolvedRect resolvedSize selfRelative clampedSpace clampedSpaces definiteSpaces fromResolved startEdge endEdge alignIn centeredBlock staticBlock insetBlock weakerEdge closedUp repaired block bothInsets stretchFit stretching stretches isStretch halves filledMargins margins isNormal alignEdge limit keptWithin selfAligned staticAligned positionIn position placement byKeyword ofResolved keywordOf absoluteStretch ifAbsent keywordsOf propagates reach placedAt contribution ofWidth ofEachAxis lessOffset horizontal vertical paddingOrBorder styleSize minSize lessMargins spaceFor resolvedBox scrollbarOf layoutOf fromOrigin boxLayout _>>=_ keywordStretch sizeKeywords settled widthAs heightAs inTurn byKeywords keywordSizes ignoresRatio stretchRatio widened heightened raisedMin stretched finalSize measured placed px insets none static axis centered autoMargins overconstrained staticCenter lineIs locates places hasBlock axisRows boxOf blockOf candidate outcome hasWidth is hasMin clampedBox flooredBox boxRows adds flatBox outside outsideRight overflowRows rows all
+rows-hold = refl

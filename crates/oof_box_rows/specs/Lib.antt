@@ -1,3 +1,4 @@
+pub mod AxisRows
 pub mod Sample
 pub mod Quarter
 pub mod Typical

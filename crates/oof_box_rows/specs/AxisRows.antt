@@ -95,8 +95,8 @@ places a size x start end = locates a size x && lineIs (placement a (px size) .m
 unfoldable pub hasBlock : OofAxis → ℕ → ℕ → Bool
 hasBlock a start end = lineIs (block a) (px start) (px end)
 
-unfoldable pub rows : List Bool
-rows =
+unfoldable pub axisRows : List Bool
+axisRows =
     -- 1: insets 10, 20; size 30; center
     locates (centered leftToRight 10 20 Default) 30 (px 30)
     -- 2: insets 10, 20; auto margins; size 100
@@ -119,7 +119,3 @@ rows =
     ∷ locates (centered leftToRight 60 0 Default) 101 (px 0)
     ∷ locates (centered scrollAxis 60 0 Default) 101 (px 59 ⊘ 2f)
     ∷ []
-
-unfoldable pub all : List Bool → Bool
-all [] = true
-all (r ∷ rs) = r && all rs
