@@ -4,6 +4,7 @@
 crates/box_laws/specs/Laws.antt and the size law of crates/oof_box/specs/Theorems.antt, and `ROWS` document 01's rows 10 to 13, computed in
 crates/oof_box_rows. A law gives None where it says nothing of an input, else True or False. `MISREADINGS` change one method each.
 tools/misread/run says which law or row refuses which."""
+import functools
 import random
 from fractions import Fraction as F
 from axis import Axis, Input, zero
@@ -11,6 +12,17 @@ from axis import Axis, Input, zero
 NAN = float('nan')
 def larger(a, b): return b if a != a else a if b != b else max(a, b)
 def smaller(a, b): return b if a != a else a if b != b else min(a, b)
+def at_most(x, high): return x if high is None else smaller(x, high)
+def at_least(x, low): return x if low is None else larger(x, low)
+def once(f):
+    """A method that is worked out once for an input."""
+    @functools.wraps(f)
+    def found(s, b, *more):
+        memo, key = s.__dict__.setdefault('memo', {}), (f.__name__, id(b)) + more
+        if key not in memo: memo[key] = f(s, b, *more), b
+        return memo[key][0]
+    return found
+
 ZEROS = (0, 0, 0, 0)
 SIDES = LEFT, RIGHT, TOP, BOTTOM = range(4)
 
@@ -23,15 +35,18 @@ class Box:
 
     # step 1
     def resolve(s, l, basis): return None if l is None else l[1] if l[0] == 'px' else s.percent(l[1], basis)
-    def percent(s, x, basis): return x * basis / 100
+    def percent(s, x, basis): return F(x * basis, 100)
     def basis(s, b, field, side):
         return b.area[1] if field == 'inset' and side in (TOP, BOTTOM) else b.area[0]
+    @once
     def sides(s, b, field): return [s.resolve(getattr(b, field)[i], s.basis(b, field, i)) for i in SIDES]
     def static(s, b, y): return tuple(x - b.offset[y] for x in b.static[y])
+    @once
     def axis_of(s, b, y):
         inset, margin = s.sides(b, 'inset'), s.sides(b, 'margin')
         return Input(size=b.area[y], inset=tuple(inset[2 * y:2 * y + 2]), margin=tuple(margin[2 * y:2 * y + 2]), area=s.static(b, y), key=b.key[y],
             psf=b.psf[y], al=b.align[y][0], sf=b.align[y][1], inline=not y, rev=not y and b.rtl, scr=b.scroll[y])
+    @once
     def edges(s, b):
         p, q = s.sides(b, 'padding'), s.sides(b, 'border')
         return [p[2 * y] + q[2 * y] + p[2 * y + 1] + q[2 * y + 1] for y in (0, 1)]
@@ -40,26 +55,31 @@ class Box:
         if b.ratio is None or (z[0] is None) == (z[1] is None): return z
         return [z[0], F(z[0]) / b.ratio] if z[1] is None else [z[1] * b.ratio, z[1]]
     def added(s, b, y): return s.edges(b)[y] if b.content else 0
+    @once
     def style_size(s, b, field):
         z = s.ratio(b, [s.resolve(getattr(b, field)[y], b.area[y]) for y in (0, 1)])
         return [None if z[y] is None else z[y] + s.added(b, y) for y in (0, 1)]
     def floor(s, m, e): return e if m is None else larger(m, e)
+    @once
     def min(s, b): return [s.floor(m, e) for m, e in zip(s.style_size(b, 'min'), s.edges(b))]
+    @once
     def max(s, b): return s.style_size(b, 'max')
-    def clamp(s, x, low, high):
-        if high is not None: x = smaller(x, high)
-        return x if low is None else larger(x, low)
+    def clamp(s, x, low, high): return at_least(at_most(x, high), low)
     def clamped(s, b, z): return [None if z[y] is None else s.clamp(z[y], s.min(b)[y], s.max(b)[y]) for y in (0, 1)]
+    @once
     def size(s, b): return s.clamped(b, s.style_size(b, 'size'))
+    @once
     def fit(s, b, y): return s.axis.stretch_fit(s.axis_of(b, y))
     # step 5
+    def left(s, b): return s.size(b)
     def stretchable(s, b): return not b.replaced and not b.table
     def stretching(s, b, y): return s.axis.stretches(s.axis_of(b, y), s.stretchable(b))
     def table_stretches(s, b): return False
     def table_min(s, b, y, low): return larger(low, s.fit(b, y))
+    @once
     def stretched(s, b):
         """What is known, and the min that counts."""
-        known, low = s.size(b), list(s.min(b))
+        known, low = s.left(b), list(s.min(b))
         want = [known[y] is None and s.stretching(b, y) for y in (0, 1)]
         if b.table and not s.table_stretches(b):
             return known, [s.table_min(b, y, low[y]) if want[y] else low[y] for y in (0, 1)]
@@ -72,6 +92,7 @@ class Box:
     # step 6
     def asks(s, b, known): return None in known
     def fill(s, b, known, y): return b.measured[y] if known[y] is None else known[y]
+    @once
     def final(s, b):
         known, low = s.stretched(b)
         asked = s.asks(b, known)
@@ -98,6 +119,7 @@ class Box:
         r = (o[0] + l[0], o[0] + l[1], o[1] + m[0], o[1] + m[1])
         if s.nothing(l, m): return ZEROS
         return ZEROS if s.scrolls(b) and s.before(r[1], r[3]) else r
+    @once
     def placed(s, b):
         z, asked = s.final(b)
         p = [s.axis.placement(s.axis_of(b, y), s.sized(z, y)) for y in (0, 1)]
@@ -108,6 +130,9 @@ class Box:
 
 # ---- the laws, by the outcome and by what step 2 resolved
 
+# the smaller of x and high, then the larger of that and low
+def bounded(x, low, high): return max(x if high is None else min(x, high), low)
+
 def sizes_of_its_box(D, b):
     if b.ratio is not None: return None
     e = D.edges(b)
@@ -115,7 +140,7 @@ def sizes_of_its_box(D, b):
     low, high, size = D.min(b), D.max(b), D.size(b)
     px = lambda field, y: getattr(b, field)[y] is not None and getattr(b, field)[y][0] == 'px'
     return all((not px('max', y) or high[y] == b.max[y][1] + add[y]) and (not px('min', y) or low[y] == max(b.min[y][1] + add[y], e[y]))
-        and (not px('size', y) or size[y] == larger(smaller(b.size[y][1] + add[y], add[y] + b.size[y][1] if high[y] is None else high[y]), low[y])) for y in (0, 1))
+        and (not px('size', y) or size[y] == bounded(b.size[y][1] + add[y], low[y], high[y])) for y in (0, 1))
 def min_holds(D, b): z = D.placed(b).size; return all(D.min(b)[y] <= z[y] for y in (0, 1))
 def max_holds(D, b):
     z, low, high = D.placed(b).size, D.min(b), D.max(b)
@@ -124,25 +149,24 @@ def max_holds(D, b):
 def given_size_stays(D, b):
     given = [y for y in (0, 1) if D.size(b)[y] is not None]
     return all(D.placed(b).size[y] == D.size(b)[y] for y in given) if given else None
-def clamp(x, low, high): return max(x if high is None else min(x, high), low)
 def auto(D, b, table):
     return [y for y in (0, 1) if b.ratio is None and b.table == table and D.size(b)[y] is None]
 def stretches(D, b, y): return Axis().stretches(D.axis_of(b, y), not b.replaced and not b.table)
 def stretch_fills(D, b):
     says = [y for y in auto(D, b, False) if stretches(D, b, y)]
-    return all(D.placed(b).size[y] == clamp(Axis().stretch_fit(D.axis_of(b, y)), D.min(b)[y], D.max(b)[y]) for y in says) if says else None
+    return all(D.placed(b).size[y] == bounded(Axis().stretch_fit(D.axis_of(b, y)), D.min(b)[y], D.max(b)[y]) for y in says) if says else None
 def measured_is_the_reply(D, b):
     says = [y for y in auto(D, b, False) if not stretches(D, b, y)]
     p = D.placed(b)
-    return p.asked and all(p.size[y] == clamp(b.measured[y], D.min(b)[y], D.max(b)[y]) for y in says) if says else None
+    return p.asked and all(p.size[y] == bounded(b.measured[y], D.min(b)[y], D.max(b)[y]) for y in says) if says else None
 def table_is_measured(D, b):
     says, p = auto(D, b, True), D.placed(b)
     def low(y): return max(D.min(b)[y], Axis().stretch_fit(D.axis_of(b, y))) if Axis().stretches(D.axis_of(b, y), False) else D.min(b)[y]
-    return p.asked and all(p.size[y] == clamp(b.measured[y], low(y), D.max(b)[y]) for y in says) if says else None
+    return p.asked and all(p.size[y] == bounded(b.measured[y], low(y), D.max(b)[y]) for y in says) if says else None
 def percentages_of_the_width(D, b):
-    return all(l is None or l[0] == 'px' or D.sides(b, f)[i] == l[1] * b.area[0] / 100 for f in ('margin', 'padding', 'border') for i, l in enumerate(getattr(b, f)))
+    return all(l is None or l[0] == 'px' or D.sides(b, f)[i] == F(l[1] * b.area[0], 100) for f in ('margin', 'padding', 'border') for i, l in enumerate(getattr(b, f)))
 def insets_of_their_axis(D, b):
-    return all(l is None or l[0] == 'px' or D.sides(b, 'inset')[i] == l[1] * b.area[i // 2] / 100 for i, l in enumerate(b.inset))
+    return all(l is None or l[0] == 'px' or D.sides(b, 'inset')[i] == F(l[1] * b.area[i // 2], 100) for i, l in enumerate(b.inset))
 def stands_by_its_axes(D, b):
     p = D.placed(b)
     q = [D.axis.placement(D.axis_of(b, y), p.size[y]) for y in (0, 1)]
@@ -226,9 +250,9 @@ MISREADINGS = [
     misread('right inset: percentages of the height', basis=of_height(('inset', RIGHT))),
     misread('top and bottom insets: percentages of the width', basis=lambda s, b, field, side: b.area[0]),
     misread('percentages: of nothing', percent=lambda s, x, basis: 0),
-    misread('min before max', clamp=lambda s, x, low, high: x if low is None and high is None else smaller(x if low is None else larger(x, low), x if high is None else high) if high is not None else larger(x, low)),
-    misread('min ignored', clamp=lambda s, x, low, high: x if high is None else smaller(x, high)),
-    misread('max ignored', clamp=lambda s, x, low, high: x if low is None else larger(x, low)),
+    misread('min before max', clamp=lambda s, x, low, high: at_most(at_least(x, low), high)),
+    misread('min ignored', clamp=lambda s, x, low, high: at_most(x, high)),
+    misread('max ignored', clamp=lambda s, x, low, high: at_least(x, low)),
     misread('min: not raised to padding plus border', floor=lambda s, m, e: e if m is None else m),
     misread('min: padding plus border left out where absent', floor=lambda s, m, e: 0 if m is None else larger(m, e)),
     misread('min NaN: passed on', floor=lambda s, m, e: e if m is None else m if m != m else larger(m, e)),
@@ -247,7 +271,7 @@ MISREADINGS = [
     misread('measured: not clamped', final=lambda s, b: ([s.fill(b, s.stretched(b)[0], y) for y in (0, 1)], s.asks(b, s.stretched(b)[0]))),
     misread('stretched: the other axis\' stretch-fit size', fit=lambda s, b, y: S.fit(s, b, 1 - y)),
     misread('stretched: the area', fit=lambda s, b, y: b.area[y]),
-    misread('stretched: a given size too', size=lambda s, b: [None if S.stretching(s, b, y) else z for y, z in enumerate(S.size(s, b))]),
+    misread('stretched: a given size too', left=lambda s, b: [None if S.stretching(s, b, y) else z for y, z in enumerate(S.size(s, b))]),
     misread('offset: not added to the location', location=lambda s, b, y, p: p),
     misread('offset: added left-to-right only', location=lambda s, b, y, p: p if b.rtl and not y else p + b.offset[y]),
     misread('offset: not taken off the static area', static=lambda s, b, y: b.static[y]),

@@ -40,7 +40,7 @@ use Rattle.mirror_axis.proofs.FlipMargins.{margins-fill}
 use Rattle.mirror_axis.proofs.Law.{numbers, axis-exact}
 use Rattle.oof_axis.specs.Laws.{NoInset, TwoInsets, Aligned, Overflows, marginBox}
 use Rattle.oof_axis.proofs.Laws.{not-normal}
-use Rattle.axis_laws.specs.Laws.{Whole, LeN, _=Σ_, _≤Σ_, BeginsAt, BeginsFrom, BeginsBy, EndsAt, EndsFrom, EndsBy, EndInsetExact, AutoMarginsFill, FitsInside, SameSizeIsTheBlock, CenterIsEven, EndAtEnd, StartKept, SafeKeepsStart, StaticSafeKeepsStart, OverflowCovers, bounds, OverflowStaysWithin, OverflowKeepsStart, withSafety, OverflowMovesNoMore, OverflowStopsAtStart, OverflowStopsAtEnd, TooLargeAtStart, AroundStaticCenter, BlockAroundStaticCenter, StretchIs, StretchFits, StretchedBoxIsTheBlock}
+use Rattle.axis_laws.specs.Laws.{Whole, LeN, _=Σ_, _≤Σ_, BeginsAt, BeginsFrom, BeginsBy, EndsAt, EndsFrom, EndsBy, EndInsetExact, AutoMarginsFill, FitsInside, SameSizeIsTheBlock, CenterIsEven, AtTheEnd, EndAtEnd, StartKept, SafeKeepsStart, StaticSafeKeepsStart, OverflowCovers, bounds, OverflowStaysWithin, OverflowKeepsStart, withSafety, OverflowMovesNoMore, OverflowStopsAtStart, OverflowStopsAtEnd, TooLargeAtStart, AroundStaticCenter, BlockAroundStaticCenter, StretchIs, StretchFits, StretchedBoxIsTheBlock}
 use Rattle.axis_laws.proofs.Numbers.{Sum, nil, _and_, equal-sums, at-most-sums, at-most, above, below, not-below, Middle, align-inside, fits-told, safe-keeps, limited-covers, limited-within, limited-start, limited-told, limited-low, limited-high, limited-large, overflow-self, static-keeps, around}
 
 -- ---- the integers of a placed box: block, size, margins, and where the margin box begins
@@ -198,8 +198,7 @@ module _ (L A S : ℕ) (room : 10 * L + 6 * A + S < 16777216) (a : OofAxis) (α 
       let t = half-twice (subN (addN (ℓ .start) (ℓ .end)) (boxN u μ)) middle in
       equal-sums (s .position and s .position and s .border and s .marginEnd and nil) (line .start and line .end and s .marginStart and nil) (rw e (omega (arith, t)))
 
-  end-at : Aligned a → a .alignment ≡ align.End → le (marginBox a size) (span (block a)) ≡ true
-      → (a .reversed ≡ false → EndsAt a size (block a .end)) × (a .reversed ≡ true → BeginsAt a size (block a .start))
+  end-at : Aligned a → a .alignment ≡ align.End → le (marginBox a size) (span (block a)) ≡ true → AtTheEnd a size
   end-at g c f =
       let s = aligned g in
       let e = fits-told (a .safety) (shape a) (α .size) ℓ (boxN u μ) told (fits f) ∙ ap (λ (k : OofAlignment). alignN ℓ (boxN u μ) (alignOf k (a .reversed))) c in (

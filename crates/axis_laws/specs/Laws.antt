@@ -38,9 +38,11 @@ pub record Whole (a : OofAxis) (size : Float) : Type 0 where
 -- ---- sums, with no rounding
 
 infix 50 _=Σ_ _≤Σ_
+-- an integer at most another
 abbrev pub LeN : N → N → Type 0
 LeN a b = a .p + b .n ≤ b .p + a .n
 
+-- two lists of numbers add up to the same, or the first to at most the second
 abbrev pub _=Σ_ : List Float → List Float → Type 0
 xs =Σ ys = (t : N) × (u : N) × Total xs t × Total ys u × EqN t u
 
@@ -100,10 +102,12 @@ CenterIsEven =
     → placement a size .position ∷ placement a size .position ∷ size ∷ placement a size .margin .end ∷ [] =Σ block a .start ∷ block a .end ∷ placement a size .margin .start ∷ []
 
 -- an end-aligned box that fits ends at the end: the left one of a right-to-left axis
+abbrev pub AtTheEnd : OofAxis → Float → Type 0
+AtTheEnd a size = (a .reversed ≡ false → EndsAt a size (block a .end)) × (a .reversed ≡ true → BeginsAt a size (block a .start))
+
 abbrev pub EndAtEnd : Type 0
 EndAtEnd =
-    (a : OofAxis) (size : Float) → Whole a size → Aligned a → a .alignment ≡ align.End → le (marginBox a size) (span (block a)) ≡ true
-    → (a .reversed ≡ false → EndsAt a size (block a .end)) × (a .reversed ≡ true → BeginsAt a size (block a .start))
+    (a : OofAxis) (size : Float) → Whole a size → Aligned a → a .alignment ≡ align.End → le (marginBox a size) (span (block a)) ≡ true → AtTheEnd a size
 
 -- the block's start edge isn't passed
 abbrev pub StartKept : OofAxis → Float → Type 0
