@@ -67,9 +67,9 @@ EDITS = [
         ('oof_resolve/specs/Resolved.antt', 'ofWidth f sides area = resolvedRect f sides (area .width) (area .width)', 'ofWidth f sides area = resolvedRect f sides (area .width) (area .height)'),
         ('oof_resolve/src/lib.rt', 'resolve::maybe_resolve_rect(field, sides, area.width, area.width)', 'resolve::maybe_resolve_rect(field, sides, area.width, area.height)')]),
     ('box: normal stretches a table', ['oof_box', 'box_laws'], [
-        ('oof_box/specs/Box.antt', 'let plain = not (style .replaced) && not (style .table) in', 'let plain = not (style .replaced) && not false in'),
-        ('oof_box/src/sizing.rt', 'stretches axis (not (style .replaced) && not (style .table))', 'stretches axis (not (style .replaced) && not false)'),
-        ('oof_box/src/sizing.rt', 'axis.is_stretch_sized(style.replaced, style.table)', 'axis.is_stretch_sized(style.replaced, false)')]),
+        ('oof_box/specs/Box.antt', 'let plain = not (style .replaced) && not (style .table) in', 'let plain = not (style .replaced) && not (style .replaced) in'),
+        ('oof_box/src/sizing.rt', 'stretches axis (not (style .replaced) && not (style .table))', 'stretches axis (not (style .replaced) && not (style .replaced))'),
+        ('oof_box/src/sizing.rt', 'axis.is_stretch_sized(style.replaced, style.table)', 'axis.is_stretch_sized(style.replaced, style.replaced)')]),
     ('contribution: a box above the start edge counts', ['common', 'box_laws'], [
         ('common/specs/ScrollableOverflow.antt', 'cond (scrolls && (le (x .end) 0f || le (y .end) 0f)) zeroRect', 'cond (scrolls && (le (x .end) 0f || le (x .end) 0f)) zeroRect'),
         ('common/src/scrollable_overflow.rt', '(scrolls && (le (x .end) 0f || le (y .end) 0f))', '(scrolls && (le (x .end) 0f || le (x .end) 0f))'),
