@@ -35,6 +35,7 @@ def codes(path, name, prefix, names=None):
     return {prefix + (names or {}).get(v, snake(v)): int(n) for v, n in body(path, name)}
 
 
+RESOLVE = "style/specs/Resolve.antt"
 RECORD, DECODE = "style_record/specs/Record.antt", "style_record/specs/Decode.antt"
 CANDIDATE, LAYOUT = "tree_record/specs/Candidate.antt", "tree_record/specs/Layout.antt"
 STATE, ANSWER = "oof_c/specs/StateWords.antt", "oof_c/specs/AnswerWords.antt"
@@ -140,13 +141,14 @@ def answer():
 
 def tags():
     """By what each comes to in a size."""
-    names = {"Length value": "PX", "autoIn f": "AUTO", "Length (basis ⊗ value)": "PERCENT", "contentIn f": "CONTENT",
-             "keywordIn f keyword.MinContent": "MIN_CONTENT", "keywordIn f keyword.MaxContent": "MAX_CONTENT",
-             "keywordIn f keyword.FitContent": "FIT_CONTENT", "keywordIn f keyword.Stretch": "STRETCH",
-             "keywordIn f (keyword.FitContentLimit value)": "FIT_CONTENT_PX",
-             "keywordIn f (keyword.FitContentLimit (basis ⊗ value))": "FIT_CONTENT_PERCENT"}
-    clauses = re.findall(r"eqb tag (\d+)\) \((.*?)\)(?= \(cond| NotAllowed)", body("style/specs/Resolve.antt", "byTag")[0][1])
-    return {"TAG_" + names[to]: int(n) for n, to in clauses}
+    names = {"Length value": "PX", "autoIn f": "AUTO", "Length (basis ⊗ value)": "PERCENT", "Absent": "CONTENT",
+             "Keyword keyword.MinContent": "MIN_CONTENT", "Keyword keyword.MaxContent": "MAX_CONTENT",
+             "Keyword keyword.FitContent": "FIT_CONTENT", "Keyword keyword.Stretch": "STRETCH",
+             "Keyword (keyword.FitContentLimit value)": "FIT_CONTENT_PX",
+             "Keyword (keyword.FitContentLimit (basis ⊗ value))": "FIT_CONTENT_PERCENT"}
+    matches = body(RESOLVE, "byTag")[0][1] + " " + body(RESOLVE, "inSize")[0][1]
+    clauses = re.findall(r"eqb tag (\d+)\) (?:\((.*?)\)|(\w+))(?= \(cond| \(fromSize| NotAllowed)", matches)
+    return {"TAG_" + names[to or word]: int(n) for n, to, word in clauses}
 
 
 def wanted():
