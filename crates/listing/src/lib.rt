@@ -20,7 +20,9 @@ use run::Answer;
 use run::Opening;
 use screen::Screen;
 use screen::format;
+use style_record::words::STYLE_WORDS;
 use tree::layout::OofPositioningArea;
+use tree_record::candidate::CANDIDATE_WORDS;
 use tree_record::layout::LAYOUT_WORDS;
 
 mod rows;
@@ -29,7 +31,7 @@ mod rows;
 pub const LIST_BYTES: usize = (1 + format::MAX_CANDIDATES) * list::ROW + list::OVERFLOW;
 
 // The words of lists that hold every candidate, and of every item's layout.
-const LIST_WORDS: usize = format::MAX_CANDIDATES * format::CANDIDATE_WORDS;
+const LIST_WORDS: usize = format::MAX_CANDIDATES * CANDIDATE_WORDS;
 
 const ALL_LAYOUTS: usize = format::MAX_ITEMS * LAYOUT_WORDS;
 
@@ -104,9 +106,9 @@ fn list_parts(
     requires { ⌜ (length (now working) ≡ listWords) × (LIST-BYTES ≤ length (now out)) ⌝ }
     ensures { λ r. ⌜ Prints r (now (out .entry)) (now (out .exit)) (listOf (playedOut (openingOf (now (header .entry))) (take (n * replyWidth) (now (replies .entry))) (take (m * candidateWidth) (now (candidates .entry))) (lent (take (n * styleWords) (now (styles .entry))) (take (n * layoutWidth) (now (layouts .entry))) (now (working .entry)) (now (unclaimed .entry))))) ⌝ }
 {
-    let styles_end = n * format::STYLE_WORDS;
+    let styles_end = n * STYLE_WORDS;
     let replies_end = n * format::REPLY_WORDS;
-    let candidates_end = m * format::CANDIDATE_WORDS;
+    let candidates_end = m * CANDIDATE_WORDS;
     let layouts_end = n * LAYOUT_WORDS;
     list_run(
         opening_of(header),
@@ -125,9 +127,9 @@ fn list_words(
     n: usize,
     m: usize,
     header: &[u32; format::HEADER_WORDS],
-    styles: &[u32; format::MAX_ITEMS * format::STYLE_WORDS],
+    styles: &[u32; format::MAX_ITEMS * STYLE_WORDS],
     replies: &[u32; format::MAX_ITEMS * format::REPLY_WORDS],
-    candidates: &[u32; format::MAX_CANDIDATES * format::CANDIDATE_WORDS],
+    candidates: &[u32; format::MAX_CANDIDATES * CANDIDATE_WORDS],
     out: &mut [u8; LIST_BYTES],
 ) -> usize
     requires { ⌜ (n ≤ MAX-ITEMS) × (m ≤ MAX-CANDIDATES) ⌝ }
@@ -155,9 +157,9 @@ pub fn list_screen(text: &[u8], out: &mut [u8; LIST_BYTES]) -> usize
     ensures { λ r. ⌜ Prints r (now (out .entry)) (now (out .exit)) (printed (now (text .entry))) ⌝ }
 {
     let mut header = [0u32; format::HEADER_WORDS];
-    let mut styles = [0u32; format::MAX_ITEMS * format::STYLE_WORDS];
+    let mut styles = [0u32; format::MAX_ITEMS * STYLE_WORDS];
     let mut replies = [0u32; format::MAX_ITEMS * format::REPLY_WORDS];
-    let mut candidates = [0u32; format::MAX_CANDIDATES * format::CANDIDATE_WORDS];
+    let mut candidates = [0u32; format::MAX_CANDIDATES * CANDIDATE_WORDS];
     let answer = screen::read_screen(
         text,
         &mut header,

@@ -15,7 +15,7 @@ use geometry::Point;
 use geometry::Rect;
 use geometry::Size;
 use tree_record::candidate::CANDIDATE_WORDS;
-use tree_record::layout::LAYOUT_WORDS;
+use tree_record::layout;
 use util::bits;
 
 // A node as an index.
@@ -46,20 +46,20 @@ pub(crate) fn float_at(words: &[u32], k: usize) -> f32
 fn row_of(layouts: &[u32], node: u32) -> Row
     ensures { λ r. ⌜ r ≡ rowOf (now (layouts .entry)) node ⌝ }
 {
-    let at = LAYOUT_WORDS * index(node);
+    let at = layout::LAYOUT_WORDS * index(node);
     let size = Size {
-        width: float_at(layouts, at + 1),
-        height: float_at(layouts, at + 2),
+        width: float_at(layouts, at + layout::WIDTH),
+        height: float_at(layouts, at + layout::HEIGHT),
     };
     let location = Point {
-        x: float_at(layouts, at + 9),
-        y: float_at(layouts, at + 10),
+        x: float_at(layouts, at + layout::X),
+        y: float_at(layouts, at + layout::Y),
     };
     let margin = Rect {
-        left: float_at(layouts, at + 19),
-        right: float_at(layouts, at + 20),
-        top: float_at(layouts, at + 21),
-        bottom: float_at(layouts, at + 22),
+        left: float_at(layouts, at + layout::MARGIN_LEFT),
+        right: float_at(layouts, at + layout::MARGIN_RIGHT),
+        top: float_at(layouts, at + layout::MARGIN_TOP),
+        bottom: float_at(layouts, at + layout::MARGIN_BOTTOM),
     };
     Row {
         node: node,

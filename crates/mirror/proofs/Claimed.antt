@@ -1,33 +1,23 @@
 -- The candidates of an opening and their images: each is ready to be laid out, and goes to the same list. Assumes nothing.
-use Prim.Native.Nat.{ℕ, zero, suc, _+_, _*_, _/_, _<_, _≤_}
+use Prim.Native.Nat.{ℕ, suc, _+_, _*_, _/_, _<_, _≤_}
 use native.Mathlib.Omega.{arith}
-use native.Mathlib.Nat.{zero-add, not-suc-le-zero, le-of-suc-le-suc}
-use mathlib.Core.Path.{_≡_, refl, sym, ap, _∙_, subst}
-use mathlib.Core.Bool.{Bool, true, false, not}
+use mathlib.Core.Path.{_≡_, sym, ap, _∙_, subst}
+use mathlib.Core.Bool.{Bool, true, false}
 use mathlib.Core.List.{List, [], _∷_, map}
-use lib.Dec.{leb, lit<}
+use lib.Dec.{lit<}
 use lib.ListN.{length, getD}
-use lib.Seq.{take-at, drop-at}
-use borrow.Author.Tests.{leb-false, lt-leb, not-true}
+use borrow.Author.Tests.{leb-false}
 use Rattle.style.specs.declared.ContainingBlockClaims.{ContainingBlockClaims}
-use Rattle.style.specs.declared.Position.{Position}
-use Rattle.style.specs.declared.Position.the-variants as position
-use Rattle.style.specs.declared.alignment.AlignmentSafety.{AlignmentSafety}
-use Rattle.style.specs.declared.alignment.AlignmentSafety.the-variants.{Default, Unsafe, Safe}
-use Rattle.tree.specs.declared.layout.AxisStaticEdge.{AxisStaticEdge}
-use Rattle.tree.specs.declared.layout.AxisStaticEdge.the-variants.{Start, Center, End}
 use Rattle.tree.specs.declared.layout.OofCandidate.{OofCandidate}
 use Rattle.tree.specs.declared.layout.OofPositioningArea.{OofPositioningArea}
-use Rattle.records.specs.Records.{whole, recordAt, records, every, wrong, breaks, good, goodRecords}
-use Rattle.records.proofs.Laws.{word-of-record, record-of-records, every-is, good-is-unbroken, rear-back}
-use Rattle.tree_record.specs.Codes.{positionCode, edgeCode}
-use Rattle.style.specs.Codes.{safetyCode}
-use Rattle.tree_record.specs.Candidate.{candidateWidth, candidateKinds, candidateOf, candidateWords}
-use Rattle.tree_record.proofs.Laws.{candidate-widths, decoded-fits}
-use Rattle.sweep.specs.Sweep.{firstCandidates, candidatesIn, keep, listWords, appended}
+use Rattle.records.specs.Records.{whole, recordAt, records, wrong, breaks, goodRecords}
+use Rattle.records.proofs.Laws.{word-of-record, good-is-unbroken}
+use Rattle.tree_record.specs.Candidate.{candidateWidth, candidateKinds, candidateOf}
+use Rattle.tree_record.proofs.Laws.{decoded-fits}
+use Rattle.sweep.specs.Sweep.{firstCandidates, candidatesIn, keep, appended}
 use Rattle.sweep.specs.Laws.{AllFit}
-use Rattle.sweep.proofs.Steps.{words-length, appended-length}
 use Rattle.sweep.proofs.Laws.{kept-fits}
+use Rattle.sweep.proofs.Listed.{AllBelow, listed-good}
 use Rattle.run.proofs.Worlds.{list-back}
 use Rattle.oof_resolve.specs.declared.ContainingBlock.{ContainingBlock}
 use Rattle.mirror_box.specs.Quarter.{QuarterBlock, QuarterCandidate}
@@ -119,79 +109,10 @@ opened-images (one r e) = image (r .image) (opened-images e)
 
 -- ---- its words break no rule
 
-position-good : (p : Position) → leb 5 (positionCode p) ≡ false
-unfolding positionCode
-position-good position.Static = refl
-position-good position.Relative = refl
-position-good position.Absolute = refl
-position-good position.Fixed = refl
-position-good position.Sticky = refl
+below : (n : ℕ) (cs : List OofCandidate) → ((i : ℕ) → i < length cs → getD cs i nobody .node < n) → AllBelow n cs
+below n [] nodes = tt
+below n (c ∷ cs) nodes = (nodes 0 (omega arith), below n cs (λ i h. nodes (suc i) (omega arith)))
 
-edge-good : (e : AxisStaticEdge) → leb 3 (edgeCode e) ≡ false
-unfolding edgeCode
-edge-good Start = refl
-edge-good Center = refl
-edge-good End = refl
-
-safety-good : (s : AlignmentSafety) → leb 3 (safetyCode s) ≡ false
-unfolding safetyCode
-safety-good Default = refl
-safety-good Unsafe = refl
-safety-good Safe = refl
-
-record-good : (n : ℕ) (c : OofCandidate) → c .node < n → good (candidateKinds n) (candidateWords c) 0 ≡ true
-unfolding good every breaks wrong candidateWords
-record-good n c h =
-    rw (
-      lt-leb n (c .node) h,
-      position-good (c .position),
-      edge-good (c .place .x .align .keyword),
-      safety-good (c .place .x .align .safety),
-      edge-good (c .place .x .align .fallback),
-      edge-good (c .place .y .align .keyword),
-      safety-good (c .place .y .align .safety),
-      edge-good (c .place .y .align .fallback),
-    )
-    refl
-
-word-written : (n : ℕ) (c : OofCandidate) → c .node < n → (k : ℕ) → k < candidateWidth → wrong (getD (candidateKinds n) k whole) (getD (candidateWords c) k 0) ≡ false
-unfolding good breaks
-word-written n c h k l =
-    ap (λ (j : ℕ). wrong (getD (candidateKinds n) k whole) (getD (candidateWords c) j 0)) (sym (zero-add k))
-    ∙ not-true _ (every-is 13 (λ k. not (breaks (candidateKinds n) (candidateWords c) 0 k)) .0 (record-good n c h) k l)
-
-words-records : (cs : List OofCandidate) → records candidateWidth (length cs) (listWords cs) ≡ map candidateWords cs
-unfolding listWords records
-words-records [] = refl
-words-records (c ∷ cs) =
-    rw (take-at (candidateWords c) (listWords cs) 13 (candidate-widths .1 c), drop-at (candidateWords c) (listWords cs) 13 (candidate-widths .1 c), words-records cs) refl
-
-word-list : (cs : List OofCandidate) (i : ℕ) → i < length cs → getD (map candidateWords cs) i [] ≡ candidateWords (getD cs i nobody)
-word-list [] i h = absurd (not-suc-le-zero h)
-word-list (c ∷ cs) zero h = refl
-word-list (c ∷ cs) (suc i) h = word-list cs i (le-of-suc-le-suc h)
-
-module _ (w : List ℕ) (cs : List OofCandidate) (room : candidateWidth * (0 + length cs) ≤ length w) where
-  front-records : records candidateWidth (length cs) (appended w 0 cs) ≡ map candidateWords cs
-  unfolding records
-  front-records =
-      ap (λ (n : ℕ). records candidateWidth n (appended w 0 cs)) (sym (zero-add (length cs)))
-      ∙ rear-back candidateWidth 0 (length cs) w (listWords cs) (words-length cs) (omega (arith, words-length cs))
-      ∙ words-records cs
-
-  front-record : (i : ℕ) → i < length cs → recordAt candidateWidth (appended w 0 cs) i ≡ candidateWords (getD cs i nobody)
-  front-record i h =
-      sym (record-of-records candidateWidth (length cs) (appended w 0 cs) i h)
-      ∙ ap (λ (rs : List (List ℕ)). getD rs i []) front-records
-      ∙ word-list cs i h
-
-  pub front-good : (n : ℕ) → ((i : ℕ) → i < length cs → getD cs i nobody .node < n) → goodRecords (candidateKinds n) (appended w 0 cs) (length cs) ≡ true
-  unfolding breaks
-  front-good n nodes =
-      good-is-unbroken (candidateKinds n) (appended w 0 cs) (length cs) .1 (
-        omega (arith, appended-length w 0 cs),
-        λ i k h l.
-            ap (wrong (getD (candidateKinds n) k whole))
-            (sym (word-of-record candidateWidth (appended w 0 cs) i k l) ∙ ap (λ (r : List ℕ). getD r k 0) (front-record i h))
-            ∙ word-written n (getD cs i nobody) (nodes i h) k l,
-      )
+pub front-good : (w : List ℕ) (cs : List OofCandidate) → candidateWidth * (0 + length cs) ≤ length w
+    → (n : ℕ) → ((i : ℕ) → i < length cs → getD cs i nobody .node < n) → goodRecords (candidateKinds n) (appended w 0 cs) (length cs) ≡ true
+front-good w cs room n nodes = listed-good w cs (omega arith) n (below n cs nodes)

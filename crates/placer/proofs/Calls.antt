@@ -25,7 +25,8 @@ use Rattle.placer_check.specs.Verdict.{thenRoom}
 use Rattle.placer_check.specs.declared.Verdict.the-variants.{Accepted}
 use Rattle.placer_check.proofs.Verdicts.{passed, room-number, neither}
 use Rattle.placer.specs.Entry.{AtHand, ReplyCleared}
-use Rattle.placer.proofs.Nodes.{AllBelow, good-below, below-at, item-words}
+use Rattle.sweep.proofs.Listed.{AllBelow}
+use Rattle.placer.proofs.Nodes.{good-below, below-at, item-words}
 
 -- records that are not bad
 fine : (styles list : List ℕ) (count : ℕ) → badCandidate styles list count ≡ false → goodRecords (candidateKinds (items styles)) list count ≡ true

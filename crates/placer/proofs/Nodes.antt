@@ -20,11 +20,7 @@ use Rattle.sweep.specs.declared.Shift.the-variants.{Unmoved, By}
 use Rattle.sweep.specs.Sweep.{firstCandidates, moved, side, keep, appended}
 use Rattle.sweep.specs.Laws.{AllFit}
 use Rattle.sweep.proofs.Laws.{appended-back}
-
--- every node is below n
-abbrev pub AllBelow : ℕ → List OofCandidate → Type 0
-AllBelow n [] = Unit {0}
-AllBelow n (c ∷ cs) = (c .node < n) × AllBelow n cs
+use Rattle.sweep.proofs.Listed.{AllBelow}
 
 both-below : (n : ℕ) (xs ys : List OofCandidate) → AllBelow n xs → AllBelow n ys → AllBelow n (xs ++ ys)
 both-below n [] ys a b = b

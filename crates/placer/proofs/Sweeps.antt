@@ -27,7 +27,8 @@ use Rattle.run.specs.Call.{Lent}
 use Rattle.run.specs.Refusals.{listFull}
 use Rattle.placer_check.proofs.Verdicts.{neither}
 use Rattle.placer.specs.Entry.{AtHand}
-use Rattle.placer.proofs.Nodes.{AllBelow, moved-below, keep-below, appended-below, item-words}
+use Rattle.sweep.proofs.Listed.{AllBelow}
+use Rattle.placer.proofs.Nodes.{moved-below, keep-below, appended-below, item-words}
 
 pub unmoved : (cs : List OofCandidate) → map (moved Unmoved) cs ≡ cs
 unfolding moved

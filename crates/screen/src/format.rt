@@ -4,6 +4,9 @@ ghost use Prim.Native.Nat.{_<_};
 ghost use lib.ListN.{length, getD};
 ghost use Rattle.screen.specs.declared.format.Kind.the-variants.{Code};
 ghost use Rattle.screen.specs.Format.{isFloat, fieldsOf, bytesOf};
+use style_record::words;
+use style_record::words::STYLE_WORDS;
+use tree_record::candidate::CANDIDATE_WORDS;
 
 // A field's content: a code, or a float in eighths.
 pub enum Kind {
@@ -21,21 +24,10 @@ pub enum Line {
 // The columns of a field.
 pub const COLUMNS: usize = 11;
 
-// How many words the records have.
+// How many words the first line and an item's replies have. Those of a style and of a candidate are their records'.
 pub const HEADER_WORDS: usize = 10;
 
-pub const STYLE_WORDS: usize = 57;
-
 pub const REPLY_WORDS: usize = 6;
-
-pub const CANDIDATE_WORDS: usize = 13;
-
-// Of an item's words, the lengths come first, a tag and a value each; then the ratio and the scrollbar width are floats.
-const LENGTHS_END: usize = 44;
-
-const RATIO: usize = 45;
-
-const SCROLLBAR_WIDTH: usize = 55;
 
 // The places of the counts in the first line.
 pub const ITEM_COUNT: usize = 8;
@@ -89,13 +81,14 @@ fn is_float(line: Line, j: usize) -> bool
     match line {
         Line::First => j < 4,
         Line::Item => {
-            if j < LENGTHS_END {
+            // the lengths come first, a tag and a value each; then the ratio and the scrollbar width are floats
+            if j < words::RATIO_PRESENT {
                 return j % 2 == 1;
             }
-            if j == RATIO {
+            if j == words::RATIO {
                 return true;
             }
-            if j == SCROLLBAR_WIDTH {
+            if j == words::SCROLLBAR_WIDTH {
                 return true;
             }
             STYLE_WORDS <= j

@@ -9,6 +9,8 @@ use geometry::Size;
 use libc::STDOUT_FILENO;
 use screen::Screen;
 use screen::format;
+use style_record::words::STYLE_WORDS;
+use tree_record::candidate::CANDIDATE_WORDS;
 use util::bits;
 ghost use Prim.Native.Nat.{_+_, _*_, _≤_};
 ghost use mathlib.Core.Path.{_≡_};
@@ -134,9 +136,9 @@ fn show_words(
     n: usize,
     m: usize,
     header: &[u32; format::HEADER_WORDS],
-    styles: &[u32; format::MAX_ITEMS * format::STYLE_WORDS],
+    styles: &[u32; format::MAX_ITEMS * STYLE_WORDS],
     replies: &[u32; format::MAX_ITEMS * format::REPLY_WORDS],
-    candidates: &[u32; format::MAX_CANDIDATES * format::CANDIDATE_WORDS],
+    candidates: &[u32; format::MAX_CANDIDATES * CANDIDATE_WORDS],
 )
     requires { ⌜ n ≤ 128 ⌝ }
     requires { ⌜ m ≤ 256 ⌝ }
@@ -146,11 +148,11 @@ fn show_words(
     io::write_all(STDOUT_FILENO, b"\nfirst replies");
     print_words(replies, 0, format::REPLY_WORDS);
     io::write_all(STDOUT_FILENO, b"\nfirst candidate");
-    print_words(candidates, 0, format::CANDIDATE_WORDS);
+    print_words(candidates, 0, CANDIDATE_WORDS);
     io::write_all(STDOUT_FILENO, b"\n");
-    print_sum(b"styles ", styles, n * format::STYLE_WORDS);
+    print_sum(b"styles ", styles, n * STYLE_WORDS);
     print_sum(b"replies ", replies, n * format::REPLY_WORDS);
-    print_sum(b"candidates ", candidates, m * format::CANDIDATE_WORDS);
+    print_sum(b"candidates ", candidates, m * CANDIDATE_WORDS);
     print_row(
         header[8],
         header[2],
@@ -168,9 +170,9 @@ fn show_words(
 // What is read of a text.
 fn show(text: &[u8]) {
     let mut header = [7u32; format::HEADER_WORDS];
-    let mut styles = [7u32; format::MAX_ITEMS * format::STYLE_WORDS];
+    let mut styles = [7u32; format::MAX_ITEMS * STYLE_WORDS];
     let mut replies = [7u32; format::MAX_ITEMS * format::REPLY_WORDS];
-    let mut candidates = [7u32; format::MAX_CANDIDATES * format::CANDIDATE_WORDS];
+    let mut candidates = [7u32; format::MAX_CANDIDATES * CANDIDATE_WORDS];
     let answer = screen::read_screen(
         text,
         &mut header,
@@ -287,13 +289,8 @@ fn show_zeros(n: usize, m: usize, more: usize) {
         format::COLUMNS * format::CANDIDATE_COUNT,
         wide_place(m),
     );
-    let candidates = put_lines(
-        &mut text,
-        items,
-        format::STYLE_WORDS + format::REPLY_WORDS,
-        n,
-    );
-    let end = put_lines(&mut text, candidates, format::CANDIDATE_WORDS, m);
+    let candidates = put_lines(&mut text, items, STYLE_WORDS + format::REPLY_WORDS, n);
+    let end = put_lines(&mut text, candidates, CANDIDATE_WORDS, m);
     if end < ROOM {
         if more <= 1 {
             show_front(&text, end + more);

@@ -57,7 +57,7 @@ use Rattle.placer.proofs.Nodes.{good-below, keep-below}
 use Rattle.script.specs.Script.{scriptedReply, playedOn, played, playedOut}
 use Rattle.script.specs.Theorems.{isFinish, OpenedFinishes}
 use Rattle.script.proofs.Ends.{openIn, stays, Reached, once, run-ends}
-use Rattle.script.proofs.Listed.{listed-good}
+use Rattle.sweep.proofs.Listed.{listed-good}
 
 -- ---- a scripted reply is of its question's kind
 

@@ -11,6 +11,33 @@ use geometry::Size;
 use tree::layout::Layout;
 use util::bits;
 
+// Where the words stand after the order. A rectangle begins at its left.
+pub const WIDTH: usize = 1;
+
+pub const HEIGHT: usize = 2;
+
+const OVERFLOW: usize = 3;
+
+const SCROLLBAR_WIDTH: usize = 7;
+
+const SCROLLBAR_HEIGHT: usize = 8;
+
+pub const X: usize = 9;
+
+pub const Y: usize = 10;
+
+const PADDING: usize = 11;
+
+const BORDER: usize = 15;
+
+pub const MARGIN_LEFT: usize = 19;
+
+pub const MARGIN_RIGHT: usize = 20;
+
+pub const MARGIN_TOP: usize = 21;
+
+pub const MARGIN_BOTTOM: usize = 22;
+
 pub const LAYOUT_WORDS: usize = 23;
 
 // Left, right, top, bottom, from four words on.
@@ -35,21 +62,21 @@ pub fn layout_at(layouts: &[u32], node: usize) -> Layout
     Layout {
         order: layouts[at],
         size: Size {
-            width: bits::from_word(layouts[at + 1]),
-            height: bits::from_word(layouts[at + 2]),
+            width: bits::from_word(layouts[at + WIDTH]),
+            height: bits::from_word(layouts[at + HEIGHT]),
         },
-        overflow: rect_at(layouts, at + 3),
+        overflow: rect_at(layouts, at + OVERFLOW),
         scrollbar: Size {
-            width: bits::from_word(layouts[at + 7]),
-            height: bits::from_word(layouts[at + 8]),
+            width: bits::from_word(layouts[at + SCROLLBAR_WIDTH]),
+            height: bits::from_word(layouts[at + SCROLLBAR_HEIGHT]),
         },
         location: Point {
-            x: bits::from_word(layouts[at + 9]),
-            y: bits::from_word(layouts[at + 10]),
+            x: bits::from_word(layouts[at + X]),
+            y: bits::from_word(layouts[at + Y]),
         },
-        padding: rect_at(layouts, at + 11),
-        border: rect_at(layouts, at + 15),
-        margin: rect_at(layouts, at + 19),
+        padding: rect_at(layouts, at + PADDING),
+        border: rect_at(layouts, at + BORDER),
+        margin: rect_at(layouts, at + MARGIN_LEFT),
     }
 }
 

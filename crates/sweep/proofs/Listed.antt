@@ -1,4 +1,4 @@
--- Candidates whose nodes are items, written from a list's front, are records that break no rule. Assumes nothing.
+-- Candidates whose nodes are below n, written from a list's front, are records that break no rule. Assumes nothing.
 use Prim.Native.Nat.{ℕ, zero, suc, _*_, _<_, _≤_}
 use native.Mathlib.Omega.{arith}
 use native.Mathlib.Nat.{zero-add, not-suc-le-zero, le-of-suc-le-suc}
@@ -22,9 +22,13 @@ use Rattle.style.specs.Codes.{safetyCode}
 use Rattle.tree_record.specs.Codes.{positionCode, edgeCode}
 use Rattle.tree_record.specs.Candidate.{candidateWidth, candidateKinds, candidateWords}
 use Rattle.tree_record.proofs.Laws.{candidate-widths}
 use Rattle.sweep.specs.Sweep.{listWords, appended}
 use Rattle.sweep.proofs.Steps.{words-length, appended-length}
-use Rattle.placer.proofs.Nodes.{AllBelow}
+
+-- every node is below n
+abbrev pub AllBelow : ℕ → List OofCandidate → Type 0
+AllBelow n [] = Unit {0}
+AllBelow n (c ∷ cs) = (c .node < n) × AllBelow n cs
 
 -- ---- one record
 
