@@ -98,7 +98,7 @@ def layout():
 
 
 def state():
-    replies, block, extents = (body(STATE, name)[0][1] for name in ("repliesOf", "blockOf", "extentsOf"))
+    replies, block, extents = (body(STATE, name)[0][1] for name in ("repliesOf", "containerOf", "extentsOf"))
     first = lambda record, of: int(re.search(rf"\b{of} \(at w (\d+)\)", record)[1])
     def named(record, *fields):
         """The words of these fields, which stand one after another."""

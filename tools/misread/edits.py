@@ -15,7 +15,7 @@ import tempfile
 import time
 
 AXIS, CODE = 'oof_axis/specs/Axis.antt', 'oof_axis/src/lib.rt'
-STATIC = 'alignIn (a .place .area) box (a .place .align .keyword)'
+STATIC = 'alignIn (a .place .area) outer (a .place .align .keyword)'
 # name, the crates whose laws are asked in turn, and (file, old, new)
 EDITS = [
     ('lone start inset: the end margin', ['oof_axis'], [
@@ -31,25 +31,25 @@ EDITS = [
         (AXIS, 'insetBlock (Some start) None a = start to a .size', 'insetBlock (Some start) None a = 0f to a .size'),
         (CODE, 'MaybeF32::None => Line {\n                    start: start,\n                    end: self.size,', 'MaybeF32::None => Line {\n                    start: 0.0,\n                    end: self.size,')]),
     ('weaker edge: always right', ['oof_axis'], [
-        (AXIS, 'weakerEdge (Some start) (Some end) a = endEdge a', 'weakerEdge (Some start) (Some end) a = End'),
-        (CODE, 'MaybeF32::Some(_) => end,', 'MaybeF32::Some(_) => AxisStaticEdge::End,')]),
+        (AXIS, 'startIsWeaker (Some start) (Some end) a = a .reversed', 'startIsWeaker (Some start) (Some end) a = false'),
+        (CODE, 'MaybeF32::Some(_) => start_is_end,', 'MaybeF32::Some(_) => false,')]),
     ('end aligned as start', ['oof_axis'], [
-        (AXIS, 'alignEdge align.End a = endEdge a', 'alignEdge align.End a = startEdge a'),
+        (AXIS, 'alignEdge align.End a = endEdge (a .reversed)', 'alignEdge align.End a = startEdge (a .reversed)'),
         (CODE, 'OofAlignment::End => axis.end_edge(),', 'OofAlignment::End => axis.start_edge(),')]),
     ('limit for normal', ['oof_axis'], [
         (AXIS, 'isNormal align.Normal = true', 'isNormal align.Normal = false'),
         (CODE, 'OofAlignment::Normal => true,', 'OofAlignment::Normal => false,')]),
     ('safe: always at the start', ['oof_axis'], [
-        (AXIS, '(cond (lt (span l) box) (startEdge a) edge)', '(cond (lt (span l) box) (startEdge a) (startEdge a))'),
+        (AXIS, '(cond (lt (span l) outer) (startEdge (a .reversed)) edge)', '(cond (lt (span l) outer) (startEdge (a .reversed)) (startEdge (a .reversed)))'),
         (CODE, 'return align_in_line(imcb, outer, start);\n                }\n                align_in_line(imcb, outer, edge)', 'return align_in_line(imcb, outer, start);\n                }\n                align_in_line(imcb, outer, start)')]),
     ('safe: never at the start', ['oof_axis'], [
-        (AXIS, '(cond (lt (span l) box) (startEdge a) edge)', '(cond (lt (span l) box) edge edge)'),
+        (AXIS, '(cond (lt (span l) outer) (startEdge (a .reversed)) edge)', '(cond (lt (span l) outer) edge edge)'),
         (CODE, 'return align_in_line(imcb, outer, start);', 'return align_in_line(imcb, outer, edge);')]),
     ('static: aligned in the block', ['oof_axis'], [
-        (AXIS, 'staticAligned Default a l box = alignIn (a .place .area) box', 'staticAligned Default a l box = alignIn l box'),
+        (AXIS, 'staticAligned Default a l outer = alignIn (a .place .area) outer', 'staticAligned Default a l outer = alignIn l outer'),
         (CODE, 'AlignmentSafety::Default => align_in_line(area, outer, edge),', 'AlignmentSafety::Default => align_in_line(imcb, outer, edge),')]),
     ('static safe: never at the start', ['oof_axis'], [
-        (AXIS, f'cond (lt (span l) box) (alignIn l box (startEdge a)) ({STATIC})', f'cond (lt (span l) box) ({STATIC}) ({STATIC})'),
+        (AXIS, f'cond (lt (span l) outer) (alignIn l outer (startEdge (a .reversed))) ({STATIC})', f'cond (lt (span l) outer) ({STATIC}) ({STATIC})'),
         (CODE, 'return align_in_line(imcb, outer, start_edge);', 'return align_in_line(area, outer, edge);')]),
     ('negative free space: to the other margin', ['oof_axis'], [
         (AXIS, '(cond (a .reversed) (free to 0f) (0f to free))', '(cond (a .reversed) (0f to free) (free to 0f))'),
@@ -60,23 +60,23 @@ EDITS = [
         (AXIS, 'filledMargins (Some start) None free a = start to free ⊖ start', 'filledMargins (Some start) None free a = start to free'),
         (CODE, 'end: free - start,', 'end: free,')]),
     ('too large for the limit: at its right', ['oof_axis'], [
-        (AXIS, '(lim .start)) (alignIn lim box (startEdge a))', '(lim .start)) (alignIn lim box (endEdge a))'),
+        (AXIS, '(lim .start)) (alignIn lim outer (startEdge (a .reversed)))', '(lim .start)) (alignIn lim outer (endEdge (a .reversed)))'),
         (CODE, 'align_in_line(limit, outer, self.start_edge())', 'align_in_line(limit, outer, self.end_edge())')]),
     # a box: every crate up to the laws is proved anew
     ('box: top margin of the height', ['oof_resolve', 'box_laws'], [
-        ('oof_resolve/specs/Resolved.antt', 'ofWidth f sides area = resolvedRect f sides (area .width) (area .width)', 'ofWidth f sides area = resolvedRect f sides (area .width) (area .height)'),
+        ('oof_resolve/specs/Resolved.antt', 'ofWidth f sides areaSize = resolvedRect f sides (areaSize .width) (areaSize .width)', 'ofWidth f sides areaSize = resolvedRect f sides (areaSize .width) (areaSize .height)'),
         ('oof_resolve/src/lib.rt', 'resolve::maybe_resolve_rect(field, sides, area.width, area.width)', 'resolve::maybe_resolve_rect(field, sides, area.width, area.height)')]),
     ('box: normal stretches a table', ['oof_box', 'box_laws'], [
         ('oof_box/specs/Box.antt', 'let plain = not (style .replaced) && not (style .table) in', 'let plain = not (style .replaced) && not (style .replaced) in'),
         ('oof_box/src/sizing.rt', 'stretches axis (not (style .replaced) && not (style .table))', 'stretches axis (not (style .replaced) && not (style .replaced))'),
         ('oof_box/src/sizing.rt', 'axis.is_stretch_sized(style.replaced, style.table)', 'axis.is_stretch_sized(style.replaced, style.replaced)')]),
     ('contribution: a box above the start edge counts', ['common', 'box_laws'], [
-        ('common/specs/ScrollableOverflow.antt', 'cond (scrolls && (le (x .end) 0f || le (y .end) 0f)) zeroRect', 'cond (scrolls && (le (x .end) 0f || le (x .end) 0f)) zeroRect'),
+        ('common/specs/ScrollableOverflow.antt', 'cond (parentScrolls && (le (x .end) 0f || le (y .end) 0f)) zeroRect', 'cond (parentScrolls && (le (x .end) 0f || le (x .end) 0f)) zeroRect'),
         ('common/src/scrollable_overflow.rt', '(scrolls && (le (x .end) 0f || le (y .end) 0f))', '(scrolls && (le (x .end) 0f || le (x .end) 0f))'),
         ('common/src/scrollable_overflow.rt', 'scrolls && either_at_most_zero(x.end, y.end)', 'scrolls && either_at_most_zero(x.end, x.end)')]),
     ('contribution: from the right edge, less the height', ['oof_place', 'box_laws'], [
-        ('oof_place/specs/Placing.antt', 'block .area .size .width ⊖ x ⊖ size .width', 'block .area .size .width ⊖ x ⊖ size .height'),
-        ('oof_place/src/lib.rt', 'x: block.area.size.width - x - size.width,', 'x: block.area.size.width - x - size.height,')]),
+        ('oof_place/specs/Placing.antt', 'container .area .size .width ⊖ x ⊖ size .width', 'container .area .size .width ⊖ x ⊖ size .height'),
+        ('oof_place/src/lib.rt', 'x: container.area.size.width - x - size.width,', 'x: container.area.size.width - x - size.height,')]),
 ]
 
 

@@ -34,28 +34,28 @@ unfolding measured
 measured-always P node box at f = always-bind (λ (s : Size). Unit {0}) P _ _ (always-any _) (λ s u. now (f s))
 
 -- what holds of the final size for any reply, where K holds of the size known after step 4, holds of the layout's size
-pub size-from : (K : MaybeSize → Type 0) (P : Size → Type 0) (block : ContainingBlock) (style : Style) (candidate : OofCandidate)
-    → Always K (keywordSizes (candidate .node) style (resolvedBox block style candidate) (sizeKeywords style (resolvedBox block style candidate)))
-    → ((known : MaybeSize) → K known → (s : Size) → P (finalSize (resolvedBox block style candidate) (stretched style (resolvedBox block style candidate) known) s))
-    → SizeAlways P block style candidate
+pub size-from : (K : MaybeSize → Type 0) (P : Size → Type 0) (container : ContainingBlock) (style : Style) (candidate : OofCandidate)
+    → Always K (keywordSizes (candidate .node) style (resolvedBox container style candidate) (sizeKeywords style (resolvedBox container style candidate)))
+    → ((known : MaybeSize) → K known → (s : Size) → P (finalSize (resolvedBox container style candidate) (stretched style (resolvedBox container style candidate) known) s))
+    → SizeAlways P container style candidate
 unfolding placed boxLayout layoutOf _>>=_
-size-from K P block style candidate a f =
-    let box = resolvedBox block style candidate in
+size-from K P container style candidate a f =
+    let box = resolvedBox container style candidate in
     always-bind K (λ (p : Placed). P (p .outcome .layout .size)) (keywordSizes (candidate .node) style box (sizeKeywords style box)) _ a
     (λ known k. always-bind P (λ (p : Placed). P (p .outcome .layout .size)) (measured (candidate .node) box (stretched style box known)) _ (measured-always P (candidate .node) box (stretched style box known) (f known k)) (λ size h. later (λ laid. now h)))
 
 -- the same where nothing need be known
-pub size-always : (P : Size → Type 0) (block : ContainingBlock) (style : Style) (candidate : OofCandidate)
-    → ((known : MaybeSize) (s : Size) → P (finalSize (resolvedBox block style candidate) (stretched style (resolvedBox block style candidate) known) s))
-    → SizeAlways P block style candidate
-size-always P block style candidate f = size-from (λ (k : MaybeSize). Unit {0}) P block style candidate (always-any _) (λ known u s. f known s)
+pub size-always : (P : Size → Type 0) (container : ContainingBlock) (style : Style) (candidate : OofCandidate)
+    → ((known : MaybeSize) (s : Size) → P (finalSize (resolvedBox container style candidate) (stretched style (resolvedBox container style candidate) known) s))
+    → SizeAlways P container style candidate
+size-always P container style candidate f = size-from (λ (k : MaybeSize). Unit {0}) P container style candidate (always-any _) (λ known u s. f known s)
 
 -- what holds of the outcome by any final size and any reply to lay out
-pub placed-always : (P : Placed → Type 0) (block : ContainingBlock) (style : Style) (candidate : OofCandidate)
-    → ((size : Size) (laid : Laid) → P (record { outcome = boxLayout block style candidate (resolvedBox block style candidate) size (laid .overflow); surfaced = laid .surfaced }))
-    → Always P (placed block style candidate)
+pub placed-always : (P : Placed → Type 0) (container : ContainingBlock) (style : Style) (candidate : OofCandidate)
+    → ((size : Size) (laid : Laid) → P (record { outcome = boxLayout container style candidate (resolvedBox container style candidate) size (laid .overflow); surfaced = laid .surfaced }))
+    → Always P (placed container style candidate)
 unfolding placed _>>=_
-placed-always P block style candidate f =
-    let box = resolvedBox block style candidate in
+placed-always P container style candidate f =
+    let box = resolvedBox container style candidate in
     always-bind (λ (k : MaybeSize). Unit {0}) P (keywordSizes (candidate .node) style box (sizeKeywords style box)) _ (always-any _)
     (λ known u. always-bind (λ (s : Size). Unit {0}) P (measured (candidate .node) box (stretched style box known)) _ (always-any _) (λ size h. later (λ laid. now (f size laid))))

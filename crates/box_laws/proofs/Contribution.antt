@@ -71,8 +71,8 @@ module _ (at : Point) (size : Size) (own : Rect) (overflow : OverflowPoint) (con
 
 pub scrolling-contribution-is-reachable : ScrollingContributionIsReachable
 unfolding boxLayout
-scrolling-contribution-is-reachable block style candidate s =
-    placed-always _ block style candidate (λ size laid. rw s (reachable _ size (laid .overflow) (style .overflow) (style .contain)))
+scrolling-contribution-is-reachable container style candidate s =
+    placed-always _ container style candidate (λ size laid. rw s (reachable _ size (laid .overflow) (style .overflow) (style .contain)))
 
 -- ---- what is clipped
 
@@ -193,9 +193,9 @@ module _ {offset at width size : Float} {o ξ ω u : N} (ho : Exact 1 bound offs
 
 -- ---- the laws
 
-module _ (block : ContainingBlock) (style : Style) (l : Layout) (h : Fine block l) where
+module _ (container : ContainingBlock) (style : Style) (l : Layout) (h : Fine container l) where
   abbrev origin : Point
-  origin = fromOrigin block (l .location) (l .size)
+  origin = fromOrigin container (l .location) (l .size)
 
   abbrev x-shows : Bool
   x-shows = propagates (style .overflow .x) (style .overflow) (style .contain)
@@ -216,25 +216,25 @@ module _ (block : ContainingBlock) (style : Style) (l : Layout) (h : Fine block 
   y-reach = reached y-shows (exactly (h .sizeY)) (exactly (h .top)) (exactly (h .bottom))
 
   -- lines that the reach holds
-  across-held : (x : Line) {α β : N} → Exact 1 bound (x .start) α → Exact 1 bound (x .end) β → LeN (x-reach .first) α → LeN β (x-reach .last) → HoldsAcross block l (placedAt (origin .x) x-line) x
+  across-held : (x : Line) {α β : N} → Exact 1 bound (x .start) α → Exact 1 bound (x .end) β → LeN (x-reach .first) α → LeN β (x-reach .last) → HoldsAcross container l (placedAt (origin .x) x-line) x
   unfolding fromOrigin
   across-held x a b i j = (
     λ e. rw e (forwards (exactly (h .offsetX)) (exactly (h .x)) (exactly (h .width)) (exactly (h .sizeX)) (x-reach .start) (x-reach .end) a b i j),
     λ e. rw e (backwards (exactly (h .offsetX)) (exactly (h .x)) (exactly (h .width)) (exactly (h .sizeX)) (x-reach .start) (x-reach .end) a b i j),
   )
 
-  down-held : (y : Line) {α β : N} → Exact 1 bound (y .start) α → Exact 1 bound (y .end) β → LeN (y-reach .first) α → LeN β (y-reach .last) → HoldsDown block l (placedAt (origin .y) y-line) y
+  down-held : (y : Line) {α β : N} → Exact 1 bound (y .start) α → Exact 1 bound (y .end) β → LeN (y-reach .first) α → LeN β (y-reach .last) → HoldsDown container l (placedAt (origin .y) y-line) y
   unfolding fromOrigin
   down-held y a b i j = forwards (exactly (h .offsetY)) (exactly (h .y)) (exactly (h .width)) (exactly (h .sizeY)) (y-reach .start) (y-reach .end) a b i j
 
-  box-held : HoldsTheBox block l (rectOf (placedAt (origin .x) x-line) (placedAt (origin .y) y-line))
+  box-held : HoldsTheBox container l (rectOf (placedAt (origin .x) x-line) (placedAt (origin .y) y-line))
   box-held = (across-held (0f to l .size .width) zero (exactly (h .sizeX)) (x-reach .low) (x-reach .high), down-held (0f to l .size .height) zero (exactly (h .sizeY)) (y-reach .low) (y-reach .high))
 
   abbrev found : Rect
-  found = contribution origin (l .size) (l .overflow) (style .overflow) (style .contain) (anyScrollContainer (block .overflow))
+  found = contribution origin (l .size) (l .overflow) (style .overflow) (style .contain) (anyScrollContainer (container .overflow))
 
   or-zeros : (P : Rect → Type 0) → P (rectOf (placedAt (origin .x) x-line) (placedAt (origin .y) y-line)) → (found ≡ zeroRect) ⊎ P found
-  or-zeros P k = go (zeros-or-placed origin (l .size) (l .overflow) (style .overflow) (style .contain) (anyScrollContainer (block .overflow)))
+  or-zeros P k = go (zeros-or-placed origin (l .size) (l .overflow) (style .overflow) (style .contain) (anyScrollContainer (container .overflow)))
     where
       go : (found ≡ zeroRect) ⊎ (found ≡ rectOf (placedAt (origin .x) x-line) (placedAt (origin .y) y-line)) → (found ≡ zeroRect) ⊎ P found
       go (inl e) = inl e
@@ -242,10 +242,10 @@ module _ (block : ContainingBlock) (style : Style) (l : Layout) (h : Fine block 
 
 pub contribution-holds-the-box : ContributionHoldsTheBox
 unfolding boxLayout layoutOf
-contribution-holds-the-box block style candidate =
-    placed-always _ block style candidate
-    (λ size laid h. (let l = layoutOf block style candidate (resolvedBox block style candidate) size (laid .overflow) in
-    or-zeros block style l h (HoldsTheBox block l) (box-held block style l h)))
+contribution-holds-the-box container style candidate =
+    placed-always _ container style candidate
+    (λ size laid h. (let l = layoutOf container style candidate (resolvedBox container style candidate) size (laid .overflow) in
+    or-zeros container style l h (HoldsTheBox container l) (box-held container style l h)))
 
 visible : (o : Overflow) (p : OverflowPoint) (c : Contain) → o ≡ Visible → anyScrollContainer p ≡ false → containsOverflow c ≡ false → propagates o p c ≡ true
 unfolding propagates
@@ -253,15 +253,15 @@ visible o p c e f n = rw (e, f, n) refl
 
 pub contribution-holds-its-overflow : ContributionHoldsItsOverflow
 unfolding boxLayout layoutOf
-contribution-holds-its-overflow block style candidate f n =
-    placed-always _ block style candidate
-    (λ size laid h. (let l = layoutOf block style candidate (resolvedBox block style candidate) size (laid .overflow) in
-    let x = x-reach block style l h in
-    let y = y-reach block style l h in
-    or-zeros block style l h
-    (λ r. (style .overflow .x ≡ Visible → HoldsAcross block l (lineX r) (lineX (laid .overflow))) × (style .overflow .y ≡ Visible → HoldsDown block l (lineY r) (lineY (laid .overflow)))) (
-      λ e. (let s = visible (style .overflow .x) (style .overflow) (style .contain) e f n in across-held block style l h (lineX (laid .overflow)) (exactly (h .left)) (exactly (h .right)) (x .lowOwn s) (x .highOwn s)),
-      λ e. (let s = visible (style .overflow .y) (style .overflow) (style .contain) e f n in down-held block style l h (lineY (laid .overflow)) (exactly (h .top)) (exactly (h .bottom)) (y .lowOwn s) (y .highOwn s)),
+contribution-holds-its-overflow container style candidate f n =
+    placed-always _ container style candidate
+    (λ size laid h. (let l = layoutOf container style candidate (resolvedBox container style candidate) size (laid .overflow) in
+    let x = x-reach container style l h in
+    let y = y-reach container style l h in
+    or-zeros container style l h
+    (λ r. (style .overflow .x ≡ Visible → HoldsAcross container l (lineX r) (lineX (laid .overflow))) × (style .overflow .y ≡ Visible → HoldsDown container l (lineY r) (lineY (laid .overflow)))) (
+      λ e. (let s = visible (style .overflow .x) (style .overflow) (style .contain) e f n in across-held container style l h (lineX (laid .overflow)) (exactly (h .left)) (exactly (h .right)) (x .lowOwn s) (x .highOwn s)),
+      λ e. (let s = visible (style .overflow .y) (style .overflow) (style .contain) e f n in down-held container style l h (lineY (laid .overflow)) (exactly (h .top)) (exactly (h .bottom)) (y .lowOwn s) (y .highOwn s)),
     )))
 
 -- ---- no zeros
@@ -287,61 +287,61 @@ not-zeros : (at : Point) (size : Size) (own : Rect) (overflow : OverflowPoint) (
 unfolding contribution
 not-zeros at size own overflow contain scrolls e f = rw (e, f) refl
 
-module _ (block : ContainingBlock) (style : Style) (l : Layout) (h : Fine block l) where
-  abbrev x : Reached (x-shows block style l h) (l .size .width) (lineX (l .overflow)) (units (h .sizeX)) (units (h .left)) (units (h .right))
-  x = x-reach block style l h
+module _ (container : ContainingBlock) (style : Style) (l : Layout) (h : Fine container l) where
+  abbrev x : Reached (x-shows container style l h) (l .size .width) (lineX (l .overflow)) (units (h .sizeX)) (units (h .left)) (units (h .right))
+  x = x-reach container style l h
 
-  abbrev y : Reached (y-shows block style l h) (l .size .height) (lineY (l .overflow)) (units (h .sizeY)) (units (h .top)) (units (h .bottom))
-  y = y-reach block style l h
+  abbrev y : Reached (y-shows container style l h) (l .size .height) (lineY (l .overflow)) (units (h .sizeY)) (units (h .top)) (units (h .bottom))
+  y = y-reach container style l h
 
   -- an extent above 0
-  wide : lt 0f (l .size .width) ≡ true → le (x-line block style l h .end) 0f ≡ false
+  wide : lt 0f (l .size .width) ≡ true → le (x-line container style l h .end) 0f ≡ false
   wide e = let p = below zeroN (units (h .sizeX)) (sym (lt-exact zero (exactly (h .sizeX))) ∙ e) in le-exact (x .end) zero ∙ at-most-false (x .last) zeroN (λ q. omega (arith, p, q, x .high))
 
-  tall : lt 0f (l .size .height) ≡ true → le (y-line block style l h .end) 0f ≡ false
+  tall : lt 0f (l .size .height) ≡ true → le (y-line container style l h .end) 0f ≡ false
   tall e = let p = below zeroN (units (h .sizeY)) (sym (lt-exact zero (exactly (h .sizeY))) ∙ e) in le-exact (y .end) zero ∙ at-most-false (y .last) zeroN (λ q. omega (arith, p, q, y .high))
 
   -- an end after the start edge
-  left-to-right : (l .location .x ∷ l .size .width ∷ [] ≤Σ block .area .offset .x ∷ [] → ⊥) → le (l .location .x ⊖ block .area .offset .x ⊕ x-line block style l h .end) 0f ≡ false
+  left-to-right : (l .location .x ∷ l .size .width ∷ [] ≤Σ container .area .offset .x ∷ [] → ⊥) → le (l .location .x ⊖ container .area .offset .x ⊕ x-line container style l h .end) 0f ≡ false
   left-to-right f =
       le-exact (add-exact (sub-exact (exactly (h .x)) (exactly (h .offsetX)) (lit< tt)) (x .end) (lit< tt)) zero
       ∙ at-most-false (addN (subN (units (h .x)) (units (h .offsetX))) (x .last)) zeroN
       (λ q. f (at-most-sums (exactly (h .x) and exactly (h .sizeX) and nil) (exactly (h .offsetX) and nil) (omega (arith, q, x .high))))
 
-  right-to-left : (block .area .offset .x ∷ block .area .size .width ∷ [] ≤Σ l .location .x ∷ [] → ⊥)
-      → le (block .area .size .width ⊖ (l .location .x ⊖ block .area .offset .x) ⊖ l .size .width ⊕ x-line block style l h .end) 0f ≡ false
+  right-to-left : (container .area .offset .x ∷ container .area .size .width ∷ [] ≤Σ l .location .x ∷ [] → ⊥)
+      → le (container .area .size .width ⊖ (l .location .x ⊖ container .area .offset .x) ⊖ l .size .width ⊕ x-line container style l h .end) 0f ≡ false
   right-to-left f =
       le-exact (add-exact (sub-exact (sub-exact (exactly (h .width)) (sub-exact (exactly (h .x)) (exactly (h .offsetX)) (lit< tt)) (lit< tt)) (exactly (h .sizeX)) (lit< tt)) (x .end) (lit< tt)) zero
       ∙ at-most-false (addN (subN (subN (units (h .width)) (subN (units (h .x)) (units (h .offsetX)))) (units (h .sizeX))) (x .last)) zeroN
       (λ q. f (at-most-sums (exactly (h .offsetX) and exactly (h .width) and nil) (exactly (h .x) and nil) (omega (arith, q, x .high))))
 
-  downwards : (l .location .y ∷ l .size .height ∷ [] ≤Σ block .area .offset .y ∷ [] → ⊥) → le (l .location .y ⊖ block .area .offset .y ⊕ y-line block style l h .end) 0f ≡ false
+  downwards : (l .location .y ∷ l .size .height ∷ [] ≤Σ container .area .offset .y ∷ [] → ⊥) → le (l .location .y ⊖ container .area .offset .y ⊕ y-line container style l h .end) 0f ≡ false
   downwards f =
       le-exact (add-exact (sub-exact (exactly (h .y)) (exactly (h .offsetY)) (lit< tt)) (y .end) (lit< tt)) zero
       ∙ at-most-false (addN (subN (units (h .y)) (units (h .offsetY))) (y .last)) zeroN
       (λ q. f (at-most-sums (exactly (h .y) and exactly (h .sizeY) and nil) (exactly (h .offsetY) and nil) (omega (arith, q, y .high))))
 
-  past : PastTheStart block l → le (placedAt (origin block style l h .x) (x-line block style l h) .end) 0f || le (placedAt (origin block style l h .y) (y-line block style l h) .end) 0f ≡ false
+  past : PastTheStart container l → le (placedAt (origin container style l h .x) (x-line container style l h) .end) 0f || le (placedAt (origin container style l h .y) (y-line container style l h) .end) 0f ≡ false
   unfolding fromOrigin placedAt
-  past p = neither _ _ (go (block .direction) refl) (downwards (p .2))
+  past p = neither _ _ (go (container .direction) refl) (downwards (p .2))
     where
-      go : (d : Direction) → block .direction ≡ d
-          → le (cond (isRtl d) (block .area .size .width ⊖ (l .location .x ⊖ block .area .offset .x) ⊖ l .size .width) (l .location .x ⊖ block .area .offset .x) ⊕ x-line block style l h .end) 0f ≡ false
+      go : (d : Direction) → container .direction ≡ d
+          → le (cond (isRtl d) (container .area .size .width ⊖ (l .location .x ⊖ container .area .offset .x) ⊖ l .size .width) (l .location .x ⊖ container .area .offset .x) ⊕ x-line container style l h .end) 0f ≡ false
       go Ltr e = left-to-right (p .0 e)
       go Rtl e = right-to-left (p .1 e)
 
-  counts : lt 0f (l .size .width) ≡ true → lt 0f (l .size .height) ≡ true → (anyScrollContainer (block .overflow) ≡ true → PastTheStart block l) → HoldsTheBox block l (found block style l h)
+  counts : lt 0f (l .size .width) ≡ true → lt 0f (l .size .height) ≡ true → (anyScrollContainer (container .overflow) ≡ true → PastTheStart container l) → HoldsTheBox container l (found container style l h)
   counts w t p =
-      subst (HoldsTheBox block l)
+      subst (HoldsTheBox container l)
       (sym
-      (not-zeros (origin block style l h) (l .size) (l .overflow) (style .overflow) (style .contain) (anyScrollContainer (block .overflow)) (neither _ _ (wide w) (tall t))
-      (where-scrolling (anyScrollContainer (block .overflow)) _ (λ s. past (p s)))))
-      (box-held block style l h)
+      (not-zeros (origin container style l h) (l .size) (l .overflow) (style .overflow) (style .contain) (anyScrollContainer (container .overflow)) (neither _ _ (wide w) (tall t))
+      (where-scrolling (anyScrollContainer (container .overflow)) _ (λ s. past (p s)))))
+      (box-held container style l h)
 
 pub contribution-counts : ContributionCounts
 unfolding boxLayout layoutOf
-contribution-counts block style candidate =
-    placed-always _ block style candidate (λ size laid h w t p. counts block style (layoutOf block style candidate (resolvedBox block style candidate) size (laid .overflow)) h w t p)
+contribution-counts container style candidate =
+    placed-always _ container style candidate (λ size laid h w t p. counts container style (layoutOf container style candidate (resolvedBox container style candidate) size (laid .overflow)) h w t p)
 
 -- ---- no more than the box
 
@@ -351,24 +351,24 @@ as-long : {p size : Float} {o u : N} {r : Line} {σ ε : N} → Exact 1 (4 * bou
 unfolding placedAt
 as-long hp hu hs he i j = equal-sums (add-exact hp hs (lit< tt) and hu and nil) (add-exact hp he (lit< tt) and nil) (omega (arith, i, j))
 
-module _ (block : ContainingBlock) (style : Style) (l : Layout) (h : Fine block l) where
-  x-from : (d : Direction) → (o : N) × Exact 1 (4 * bound) (cond (isRtl d) (block .area .size .width ⊖ (l .location .x ⊖ block .area .offset .x) ⊖ l .size .width) (l .location .x ⊖ block .area .offset .x)) o
+module _ (container : ContainingBlock) (style : Style) (l : Layout) (h : Fine container l) where
+  x-from : (d : Direction) → (o : N) × Exact 1 (4 * bound) (cond (isRtl d) (container .area .size .width ⊖ (l .location .x ⊖ container .area .offset .x) ⊖ l .size .width) (l .location .x ⊖ container .area .offset .x)) o
   x-from Ltr = (_, widen (lit≤ tt) (sub-exact (exactly (h .x)) (exactly (h .offsetX)) (lit< tt)))
   x-from Rtl = (_, sub-exact (sub-exact (exactly (h .width)) (sub-exact (exactly (h .x)) (exactly (h .offsetX)) (lit< tt)) (lit< tt)) (exactly (h .sizeX)) (lit< tt))
 
-  x-origin : (o : N) × Exact 1 (4 * bound) (origin block style l h .x) o
+  x-origin : (o : N) × Exact 1 (4 * bound) (origin container style l h .x) o
   unfolding fromOrigin
-  x-origin = x-from (block .direction)
+  x-origin = x-from (container .direction)
 
-  y-origin : (o : N) × Exact 1 (4 * bound) (origin block style l h .y) o
+  y-origin : (o : N) × Exact 1 (4 * bound) (origin container style l h .y) o
   unfolding fromOrigin
   y-origin = (_, widen (lit≤ tt) (sub-exact (exactly (h .y)) (exactly (h .offsetY)) (lit< tt)))
 
-  no-more : WithinTheBox l → let r = found block style l h in (r ≡ zeroRect) ⊎ ((r .left ∷ l .size .width ∷ [] =Σ r .right ∷ []) × (r .top ∷ l .size .height ∷ [] =Σ r .bottom ∷ []))
+  no-more : WithinTheBox l → let r = found container style l h in (r ≡ zeroRect) ⊎ ((r .left ∷ l .size .width ∷ [] =Σ r .right ∷ []) × (r .top ∷ l .size .height ∷ [] =Σ r .bottom ∷ []))
   no-more i =
-      let x = x-reach block style l h in
-      let y = y-reach block style l h in
-      or-zeros block style l h (λ r. (r .left ∷ l .size .width ∷ [] =Σ r .right ∷ []) × (r .top ∷ l .size .height ∷ [] =Σ r .bottom ∷ [])) (
+      let x = x-reach container style l h in
+      let y = y-reach container style l h in
+      or-zeros container style l h (λ r. (r .left ∷ l .size .width ∷ [] =Σ r .right ∷ []) × (r .top ∷ l .size .height ∷ [] =Σ r .bottom ∷ [])) (
         as-long (x-origin .1) (exactly (h .sizeX)) (x .start) (x .end) (x .lowWithin (at-most zeroN (units (h .left)) (sym (le-exact zero (exactly (h .left))) ∙ i .0)))
             (x .highWithin (at-most (units (h .right)) (units (h .sizeX)) (sym (le-exact (exactly (h .right)) (exactly (h .sizeX))) ∙ i .1))),
         as-long (y-origin .1) (exactly (h .sizeY)) (y .start) (y .end) (y .lowWithin (at-most zeroN (units (h .top)) (sym (le-exact zero (exactly (h .top))) ∙ i .2)))
@@ -377,5 +377,5 @@ module _ (block : ContainingBlock) (style : Style) (l : Layout) (h : Fine block 
 
 pub contribution-holds-no-more : ContributionHoldsNoMore
 unfolding boxLayout layoutOf
-contribution-holds-no-more block style candidate =
-    placed-always _ block style candidate (λ size laid h i. no-more block style (layoutOf block style candidate (resolvedBox block style candidate) size (laid .overflow)) h i)
+contribution-holds-no-more container style candidate =
+    placed-always _ container style candidate (λ size laid h i. no-more container style (layoutOf container style candidate (resolvedBox container style candidate) size (laid .overflow)) h i)

@@ -45,8 +45,8 @@ percent-or-zero f l basis x e = rw (percent-is f l basis x e) refl
 
 pub percentages-of-the-width : PercentagesOfTheWidth
 unfolding resolvedBox horizontal vertical ofWidth paddingOrBorder resolvedRect rectOrZero
-percentages-of-the-width block style candidate x =
-    let w = block .area .size .width in
+percentages-of-the-width container style candidate x =
+    let w = container .area .size .width in
     record {
       marginLeft = percent-is field.InsetOrMargin (style .margin .left) w x;
       marginRight = percent-is field.InsetOrMargin (style .margin .right) w x;
@@ -64,19 +64,19 @@ percentages-of-the-width block style candidate x =
 
 pub insets-of-their-axis : InsetsOfTheirAxis
 unfolding resolvedBox horizontal vertical ofEachAxis resolvedRect
-insets-of-their-axis block style candidate x =
+insets-of-their-axis container style candidate x =
     record {
-      left = percent-is field.InsetOrMargin (style .inset .left) (block .area .size .width) x;
-      right = percent-is field.InsetOrMargin (style .inset .right) (block .area .size .width) x;
-      top = percent-is field.InsetOrMargin (style .inset .top) (block .area .size .height) x;
-      bottom = percent-is field.InsetOrMargin (style .inset .bottom) (block .area .size .height) x;
+      left = percent-is field.InsetOrMargin (style .inset .left) (container .area .size .width) x;
+      right = percent-is field.InsetOrMargin (style .inset .right) (container .area .size .width) x;
+      top = percent-is field.InsetOrMargin (style .inset .top) (container .area .size .height) x;
+      bottom = percent-is field.InsetOrMargin (style .inset .bottom) (container .area .size .height) x;
     }
 
 -- ---- where a box stands
 
 pub stands-by-its-axes : StandsByItsAxes
 unfolding boxLayout layoutOf
-stands-by-its-axes block style candidate = placed-always _ block style candidate (λ size laid. (refl, refl, refl))
+stands-by-its-axes container style candidate = placed-always _ container style candidate (λ size laid. (refl, refl, refl))
 
 -- ---- at another offset
 
@@ -84,59 +84,59 @@ same-place : (p p' : AxisStaticPosition) (offset offset' : Float) → SamePlace 
 unfolding lessOffset
 same-place p p' offset offset' h = ap₂ (λ (l : Line) (s : AxisStaticAlign). record { area = l; align = s }) (h .area) (h .align)
 
-module _ (block : ContainingBlock) (offset' : Point) (style : Style) (candidate candidate' : OofCandidate) (h : StandAlike candidate (block .area .offset) candidate' offset') where
-  same-across : horizontal (withOffset offset' block) style candidate' ≡ horizontal block style candidate
+module _ (container : ContainingBlock) (offset' : Point) (style : Style) (candidate candidate' : OofCandidate) (h : StandAlike candidate (container .area .offset) candidate' offset') where
+  same-across : horizontal (withOffset offset' container) style candidate' ≡ horizontal container style candidate
   unfolding horizontal
   same-across =
-      let justify = selfRelative (style .justify) (style .direction) (block .direction) true in
+      let justify = selfRelative (style .justify) (style .direction) (container .direction) true in
       ap
       (λ (p : AxisStaticPosition).
       record {
-        size = block .area .size .width;
-        inset = maybeLineX (ofEachAxis (style .inset) (block .area .size));
-        margin = maybeLineX (ofWidth field.InsetOrMargin (style .margin) (block .area .size));
+        size = container .area .size .width;
+        inset = maybeLineX (ofEachAxis (style .inset) (container .area .size));
+        margin = maybeLineX (ofWidth field.InsetOrMargin (style .margin) (container .area .size));
         place = p;
         alignment = fromResolved (justify .keyword);
         safety = justify .safety;
         inline = true;
-        reversed = isRtl (block .direction);
-        scrolls = isScrollContainer (block .overflow .x);
+        reversed = isRtl (container .direction);
+        scrolls = isScrollContainer (container .overflow .x);
       })
-      (same-place (candidate .place .x) (candidate' .place .x) (block .area .offset .x) (offset' .x) (h .x))
+      (same-place (candidate .place .x) (candidate' .place .x) (container .area .offset .x) (offset' .x) (h .x))
 
-  same-down : vertical (withOffset offset' block) style candidate' ≡ vertical block style candidate
+  same-down : vertical (withOffset offset' container) style candidate' ≡ vertical container style candidate
   unfolding vertical
   same-down =
-      let align = selfRelative (style .align) (style .direction) (block .direction) false in
+      let align = selfRelative (style .align) (style .direction) (container .direction) false in
       ap
       (λ (p : AxisStaticPosition).
       record {
-        size = block .area .size .height;
-        inset = maybeLineY (ofEachAxis (style .inset) (block .area .size));
-        margin = maybeLineY (ofWidth field.InsetOrMargin (style .margin) (block .area .size));
+        size = container .area .size .height;
+        inset = maybeLineY (ofEachAxis (style .inset) (container .area .size));
+        margin = maybeLineY (ofWidth field.InsetOrMargin (style .margin) (container .area .size));
         place = p;
         alignment = fromResolved (align .keyword);
         safety = align .safety;
         inline = false;
         reversed = false;
-        scrolls = isScrollContainer (block .overflow .y);
+        scrolls = isScrollContainer (container .overflow .y);
       })
-      (same-place (candidate .place .y) (candidate' .place .y) (block .area .offset .y) (offset' .y) (h .y))
+      (same-place (candidate .place .y) (candidate' .place .y) (container .area .offset .y) (offset' .y) (h .y))
 
-  same-box : resolvedBox (withOffset offset' block) style candidate' ≡ resolvedBox block style candidate
+  same-box : resolvedBox (withOffset offset' container) style candidate' ≡ resolvedBox container style candidate
   unfolding resolvedBox
   same-box = rw (same-across, same-down) refl
 
   abbrev box : ResolvedBox
-  box = resolvedBox block style candidate
+  box = resolvedBox container style candidate
 
   -- from the scroll origin, the offset taken off
   abbrev counted : Point → Size → Point
-  counted p size = record { x = cond (isRtl (block .direction)) (block .area .size .width ⊖ p .x ⊖ size .width) (p .x); y = p .y }
+  counted p size = record { x = cond (isRtl (container .direction)) (container .area .size .width ⊖ p .x ⊖ size .width) (p .x); y = p .y }
 
   moved : (size : Size) (laid : Laid)
-      → MovedAlone (block .area .offset) offset' (record { outcome = boxLayout block style candidate box size (laid .overflow); surfaced = laid .surfaced })
-      (record { outcome = boxLayout (withOffset offset' block) style candidate' box size (laid .overflow); surfaced = laid .surfaced })
+      → MovedAlone (container .area .offset) offset' (record { outcome = boxLayout container style candidate box size (laid .overflow); surfaced = laid .surfaced })
+      (record { outcome = boxLayout (withOffset offset' container) style candidate' box size (laid .overflow); surfaced = laid .surfaced })
   unfolding boxLayout layoutOf fromOrigin
   moved size laid =
       record {
@@ -145,13 +145,13 @@ module _ (block : ContainingBlock) (offset' : Point) (style : Style) (candidate 
         layout = rw (h .order) refl;
         surfaced = refl;
         contribution =
-            λ e e'. ap (λ (p : Point). contribution (counted p size) size (laid .overflow) (style .overflow) (style .contain) (anyScrollContainer (block .overflow))) (e' ∙ sym e);
+            λ e e'. ap (λ (p : Point). contribution (counted p size) size (laid .overflow) (style .overflow) (style .contain) (anyScrollContainer (container .overflow))) (e' ∙ sym e);
       }
 
 pub offset-moves-alone : OffsetMovesAlone
 unfolding placed boxLayout layoutOf _>>=_
-offset-moves-alone block offset' style candidate candidate' h =
-    rw (same-box block offset' style candidate candidate' h, h .node)
-    (alike-bind (MovedAlone (block .area .offset) offset') (keywordSizes (candidate .node) style (resolvedBox block style candidate) (sizeKeywords style (resolvedBox block style candidate))) _ _
-    (λ known. alike-bind (MovedAlone (block .area .offset) offset') (measured (candidate .node) (resolvedBox block style candidate) (stretched style (resolvedBox block style candidate) known)) _ _
-    (λ size. asking (λ laid. ended (moved block offset' style candidate candidate' h size laid)))))
+offset-moves-alone container offset' style candidate candidate' h =
+    rw (same-box container offset' style candidate candidate' h, h .node)
+    (alike-bind (MovedAlone (container .area .offset) offset') (keywordSizes (candidate .node) style (resolvedBox container style candidate) (sizeKeywords style (resolvedBox container style candidate))) _ _
+    (λ known. alike-bind (MovedAlone (container .area .offset) offset') (measured (candidate .node) (resolvedBox container style candidate) (stretched style (resolvedBox container style candidate) known)) _ _
+    (λ size. asking (λ laid. ended (moved container offset' style candidate candidate' h size laid)))))

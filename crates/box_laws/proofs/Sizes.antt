@@ -36,7 +36,7 @@ use Rattle.oof_box.specs.Box.{Placed, placed, isKeyword, widthAs, heightAs, inT
 use Rattle.oof_box.specs.declared.question.MeasureInput.{MeasureInput}
 use Rattle.oof_box.specs.declared.question.Question.the-variants.{MeasureBoth}
 use Rattle.oof_box.specs.declared.sizing.Stretched.{Stretched}
-use Rattle.box_laws.specs.Laws.{Always, now, later, SizeAlways, Measures, measures, pixels, edgesOf, SizesOfItsBox, MinHolds, MaxHolds, GivenSizeStays, Plain, stretchable, StretchFills, MeasuredIsTheReply, tableMin, TableIsMeasured}
+use Rattle.box_laws.specs.Laws.{Always, now, later, SizeAlways, Measures, measures, pixels, paddingBorderOf, SizesOfItsBox, MinHolds, MaxHolds, GivenSizeStays, Plain, stretchable, StretchFills, MeasuredIsTheReply, tableMin, TableIsMeasured}
 use Rattle.box_laws.proofs.Always.{size-from, size-always}
 use Rattle.box_laws.proofs.Clamp.{clamp-is-settled}
 
@@ -72,10 +72,10 @@ clamped-is m min max x e = rw e refl
 
 pub sizes-of-its-box : SizesOfItsBox
 unfolding resolvedBox clampedSize
-sizes-of-its-box block style candidate x ratio =
-    let area = block .area .size in
-    let box = resolvedBox block style candidate in
-    let edges = edgesOf box in
+sizes-of-its-box container style candidate x ratio =
+    let area = container .area .size in
+    let box = resolvedBox container style candidate in
+    let edges = paddingBorderOf box in
     record {
       maxWidth = style-width style area edges x ratio field.MinOrMax (style .max);
       maxHeight = style-height style area edges x ratio field.MinOrMax (style .max);
@@ -105,12 +105,12 @@ either P false a b h k = k refl
 
 pub min-holds : MinHolds
 unfolding finalSize clampedFloats stretched
-min-holds block style candidate low =
-    let box = resolvedBox block style candidate in (
-      λ e. size-always (λ s. AtOrAbove low (s .width)) block style candidate
+min-holds container style candidate low =
+    let box = resolvedBox container style candidate in (
+      λ e. size-always (λ s. AtOrAbove low (s .width)) container style candidate
           (λ known s. either (λ at. AtOrAbove low (clamped (filledSize (at .known) s .width) (at .min .width) (box .max .width))) (style .table) _ _
           (λ t. raised-keeps _ (box .min .width) (box .fit .width) low _ (box .max .width) e) (λ t. kept-above (box .min .width) low _ (box .max .width) e)),
-      λ e. size-always (λ s. AtOrAbove low (s .height)) block style candidate
+      λ e. size-always (λ s. AtOrAbove low (s .height)) container style candidate
           (λ known s. either (λ at. AtOrAbove low (clamped (filledSize (at .known) s .height) (at .min .height) (box .max .height))) (style .table) _ _
           (λ t. raised-keeps _ (box .min .height) (box .fit .height) low _ (box .max .height) e) (λ t. kept-above (box .min .height) low _ (box .max .height) e)),
     )
@@ -133,25 +133,25 @@ kept-binds : (x low high : Float) (min max : MaybeF32) → min ≡ Some low → 
 kept-binds x low high min max e f h = rw (e, f) (max-binds x high (Some low) (rw h refl))
 
 -- the stretch-fit sizes are those of the axes
-fit-across : (block : ContainingBlock) (style : Style) (candidate : OofCandidate) → resolvedBox block style candidate .fit .width ≡ stretchFit (resolvedBox block style candidate .horizontal)
+fit-across : (container : ContainingBlock) (style : Style) (candidate : OofCandidate) → resolvedBox container style candidate .fit .width ≡ stretchFit (resolvedBox container style candidate .horizontal)
 unfolding resolvedBox
-fit-across block style candidate = refl
+fit-across container style candidate = refl
 
-fit-down : (block : ContainingBlock) (style : Style) (candidate : OofCandidate) → resolvedBox block style candidate .fit .height ≡ stretchFit (resolvedBox block style candidate .vertical)
+fit-down : (container : ContainingBlock) (style : Style) (candidate : OofCandidate) → resolvedBox container style candidate .fit .height ≡ stretchFit (resolvedBox container style candidate .vertical)
 unfolding resolvedBox
-fit-down block style candidate = refl
+fit-down container style candidate = refl
 
 pub max-holds : MaxHolds
 unfolding finalSize clampedFloats stretched
-max-holds block style candidate low high =
-    let box = resolvedBox block style candidate in (
-      λ e f h k. size-always (λ s. AtOrBelow high (s .width)) block style candidate
+max-holds container style candidate low high =
+    let box = resolvedBox container style candidate in (
+      λ e f h k. size-always (λ s. AtOrBelow high (s .width)) container style candidate
           (λ known s. either (λ at. AtOrBelow high (clamped (filledSize (at .known) s .width) (at .min .width) (box .max .width))) (style .table) _ _
-          (λ t. raised-binds _ _ low (box .fit .width) high (box .min .width) (box .max .width) e f h (rw (fit-across block style candidate) (k t)))
+          (λ t. raised-binds _ _ low (box .fit .width) high (box .min .width) (box .max .width) e f h (rw (fit-across container style candidate) (k t)))
           (λ t. kept-binds _ low high (box .min .width) (box .max .width) e f h)),
-      λ e f h k. size-always (λ s. AtOrBelow high (s .height)) block style candidate
+      λ e f h k. size-always (λ s. AtOrBelow high (s .height)) container style candidate
           (λ known s. either (λ at. AtOrBelow high (clamped (filledSize (at .known) s .height) (at .min .height) (box .max .height))) (style .table) _ _
-          (λ t. raised-binds _ _ low (box .fit .height) high (box .min .height) (box .max .height) e f h (rw (fit-down block style candidate) (k t)))
+          (λ t. raised-binds _ _ low (box .fit .height) high (box .min .height) (box .max .height) e f h (rw (fit-down container style candidate) (k t)))
           (λ t. kept-binds _ low high (box .min .height) (box .max .height) e f h)),
     )
 
@@ -162,15 +162,15 @@ unfolding mapClamped map present unwrapOr
 settled-once None min max x e = absurd (false≢true (ap present e))
 settled-once (Some y) min max x e = let f = ap (λ (m : MaybeF32). unwrapOr m x) e in subst (λ (z : Float). clamped z min max ≡ z) f (clamp-is-settled y min max)
 
-given-width-settled : (block : ContainingBlock) (style : Style) (candidate : OofCandidate) (x : Float)
-    → let box = resolvedBox block style candidate in box .size .width ≡ Some x → clamped x (box .min .width) (box .max .width) ≡ x
+given-width-settled : (container : ContainingBlock) (style : Style) (candidate : OofCandidate) (x : Float)
+    → let box = resolvedBox container style candidate in box .size .width ≡ Some x → clamped x (box .min .width) (box .max .width) ≡ x
 unfolding resolvedBox clampedSize
-given-width-settled block style candidate x e = settled-once _ _ _ x e
+given-width-settled container style candidate x e = settled-once _ _ _ x e
 
-given-height-settled : (block : ContainingBlock) (style : Style) (candidate : OofCandidate) (x : Float)
-    → let box = resolvedBox block style candidate in box .size .height ≡ Some x → clamped x (box .min .height) (box .max .height) ≡ x
+given-height-settled : (container : ContainingBlock) (style : Style) (candidate : OofCandidate) (x : Float)
+    → let box = resolvedBox container style candidate in box .size .height ≡ Some x → clamped x (box .min .height) (box .max .height) ≡ x
 unfolding resolvedBox clampedSize
-given-height-settled block style candidate x e = settled-once _ _ _ x e
+given-height-settled container style candidate x e = settled-once _ _ _ x e
 
 clamped-stays : (m min max : MaybeF32) (x : Float) → m ≡ Some x → clamped x min max ≡ x → mapClamped m min max ≡ Some x
 unfolding mapClamped map
@@ -281,13 +281,13 @@ stretched-height style box known x c e s =
 
 pub given-size-stays : GivenSizeStays
 unfolding sizeKeywords keywordsOf
-given-size-stays block style candidate x =
-    let box = resolvedBox block style candidate in (
-      λ e. (let c = given-width-settled block style candidate x e in
-          size-from (λ (k : MaybeSize). k .width ≡ Some x) (λ s. s .width ≡ x) block style candidate
+given-size-stays container style candidate x =
+    let box = resolvedBox container style candidate in (
+      λ e. (let c = given-width-settled container style candidate x e in
+          size-from (λ (k : MaybeSize). k .width ≡ Some x) (λ s. s .width ≡ x) container style candidate
           (rw (no-keyword (box .size .width) _ x e) (known-width (candidate .node) style box x c e _)) (λ known k s. stretched-width style box known x c k s)),
-      λ e. (let c = given-height-settled block style candidate x e in
-          size-from (λ (k : MaybeSize). k .height ≡ Some x) (λ s. s .height ≡ x) block style candidate
+      λ e. (let c = given-height-settled container style candidate x e in
+          size-from (λ (k : MaybeSize). k .height ≡ Some x) (λ s. s .height ≡ x) container style candidate
           (rw (no-keyword (box .size .height) _ x e) (known-height (candidate .node) style box x c e _)) (λ known k s. stretched-height style box known x c k s)),
     )
 
@@ -366,12 +366,12 @@ known-is : {A : Type 0} (m : Talk A) (a : A) → m ≡ done a → Always (λ (k 
 known-is m a e = rw e (now refl)
 
 -- the final size by the size that step 2 left
-from-step-two : (P : Size → Type 0) (block : ContainingBlock) (style : Style) (candidate : OofCandidate)
-    → let box = resolvedBox block style candidate in
-    Plain style box → ((s : Size) → P (finalSize box (stretched style box (box .size)) s)) → SizeAlways P block style candidate
-from-step-two P block style candidate k f =
-    let box = resolvedBox block style candidate in
-    size-from (λ (known : MaybeSize). known ≡ box .size) P block style candidate
+from-step-two : (P : Size → Type 0) (container : ContainingBlock) (style : Style) (candidate : OofCandidate)
+    → let box = resolvedBox container style candidate in
+    Plain style box → ((s : Size) → P (finalSize box (stretched style box (box .size)) s)) → SizeAlways P container style candidate
+from-step-two P container style candidate k f =
+    let box = resolvedBox container style candidate in
+    size-from (λ (known : MaybeSize). known ≡ box .size) P container style candidate
     (known-is (keywordSizes (candidate .node) style box (sizeKeywords style box)) (box .size) (no-keywords (candidate .node) style box (sizeKeywords style box) (k .width) (k .height)))
     (λ known e s. rw e (f s))
 
@@ -381,16 +381,16 @@ stretch-side m min min' max fit y e f = rw (e, f) (clamp-is-settled fit min max)
 
 pub stretch-fills : StretchFills
 unfolding finalSize clampedFloats filledSize
-stretch-fills block style candidate k t =
-    let box = resolvedBox block style candidate in (
+stretch-fills container style candidate k t =
+    let box = resolvedBox container style candidate in (
       λ e s. (let h = auto-width style box true (k .ratio) t e s in
-          from-step-two (λ z. z .width ≡ clamped (stretchFit (box .horizontal)) (box .min .width) (box .max .width)) block style candidate k
+          from-step-two (λ z. z .width ≡ clamped (stretchFit (box .horizontal)) (box .min .width) (box .max .width)) container style candidate k
           (λ z. stretch-side (stretched style box (box .size) .known .width) (box .min .width) _ (box .max .width) (box .fit .width) (z .width) (h .0) (ap (λ (m : MaybeSize). m .width) (h .1))
-          ∙ ap (λ (x : Float). clamped x (box .min .width) (box .max .width)) (fit-across block style candidate))),
+          ∙ ap (λ (x : Float). clamped x (box .min .width) (box .max .width)) (fit-across container style candidate))),
       λ e s. (let h = auto-height style box true (k .ratio) t e s in
-          from-step-two (λ z. z .height ≡ clamped (stretchFit (box .vertical)) (box .min .height) (box .max .height)) block style candidate k
+          from-step-two (λ z. z .height ≡ clamped (stretchFit (box .vertical)) (box .min .height) (box .max .height)) container style candidate k
           (λ z. stretch-side (stretched style box (box .size) .known .height) (box .min .height) _ (box .max .height) (box .fit .height) (z .height) (h .0) (ap (λ (m : MaybeSize). m .height) (h .1))
-          ∙ ap (λ (x : Float). clamped x (box .min .height) (box .max .height)) (fit-down block style candidate))),
+          ∙ ap (λ (x : Float). clamped x (box .min .height) (box .max .height)) (fit-down container style candidate))),
     )
 
 -- ---- a side that is still absent: step 6 asks
@@ -413,14 +413,14 @@ unfolding measured _>>=_
 asks node box at e = rw e refl
 
 -- the question, its reply and the outcome
-asks-both : (P : MeasureInput → Size → Size → Type 0) (block : ContainingBlock) (style : Style) (candidate : OofCandidate)
-    → let box = resolvedBox block style candidate in let at = stretched style box (box .size) in
+asks-both : (P : MeasureInput → Size → Size → Type 0) (container : ContainingBlock) (style : Style) (candidate : OofCandidate)
+    → let box = resolvedBox container style candidate in let at = stretched style box (box .size) in
     Plain style box → bothPresent (at .known) ≡ false
     → ((r : Size) → P (record { node = candidate .node; known = at .known; space = box .space }) r (finalSize box at r))
-    → Measures (λ m r p. P m r (p .outcome .layout .size)) (placed block style candidate)
+    → Measures (λ m r p. P m r (p .outcome .layout .size)) (placed container style candidate)
 unfolding placed boxLayout layoutOf _>>=_
-asks-both P block style candidate k n f =
-    let box = resolvedBox block style candidate in
+asks-both P container style candidate k n f =
+    let box = resolvedBox container style candidate in
     rw (no-keywords (candidate .node) style box (sizeKeywords style box) (k .width) (k .height), asks (candidate .node) box (stretched style box (box .size)) n)
     (measures (λ r. later (λ laid. now (f r))))
 
@@ -430,14 +430,14 @@ absent-side m min min' max y e f = rw (e, f) refl
 
 pub measured-is-the-reply : MeasuredIsTheReply
 unfolding finalSize clampedFloats filledSize
-measured-is-the-reply block style candidate k t =
-    let box = resolvedBox block style candidate in
+measured-is-the-reply container style candidate k t =
+    let box = resolvedBox container style candidate in
     let at = stretched style box (box .size) in (
       λ e s. (let h = auto-width style box false (k .ratio) t e s in
-          asks-both (λ m r z. (m .known .width ≡ None) × (z .width ≡ clamped (r .width) (box .min .width) (box .max .width))) block style candidate k (not-both-width (at .known) (h .0))
+          asks-both (λ m r z. (m .known .width ≡ None) × (z .width ≡ clamped (r .width) (box .min .width) (box .max .width))) container style candidate k (not-both-width (at .known) (h .0))
           (λ r. (h .0, absent-side (at .known .width) (box .min .width) _ (box .max .width) (r .width) (h .0) (ap (λ (m : MaybeSize). m .width) (h .1))))),
       λ e s. (let h = auto-height style box false (k .ratio) t e s in
-          asks-both (λ m r z. (m .known .height ≡ None) × (z .height ≡ clamped (r .height) (box .min .height) (box .max .height))) block style candidate k (not-both-height (at .known) (h .0))
+          asks-both (λ m r z. (m .known .height ≡ None) × (z .height ≡ clamped (r .height) (box .min .height) (box .max .height))) container style candidate k (not-both-height (at .known) (h .0))
           (λ r. (h .0, absent-side (at .known .height) (box .min .height) _ (box .max .height) (r .height) (h .0) (ap (λ (m : MaybeSize). m .height) (h .1))))),
     )
 
@@ -472,21 +472,21 @@ module _ (style : Style) (box : ResolvedBox) (table : style .table ≡ true) whe
 
 pub table-is-measured : TableIsMeasured
 unfolding finalSize clampedFloats filledSize
-table-is-measured block style candidate low k t =
-    let box = resolvedBox block style candidate in
+table-is-measured container style candidate low k t =
+    let box = resolvedBox container style candidate in
     let at = stretched style box (box .size) in (
       λ e m. (let h = ap (λ (s : MaybeSize). s .width) (table-known style box t) ∙ e in
-          asks-both (λ m r z. (m .known .width ≡ None) × (z .width ≡ clamped (r .width) (Some (tableMin (stretches (box .horizontal) false) low (stretchFit (box .horizontal)))) (box .max .width))) block style candidate k (not-both-width (at .known) h)
+          asks-both (λ m r z. (m .known .width ≡ None) × (z .width ≡ clamped (r .width) (Some (tableMin (stretches (box .horizontal) false) low (stretchFit (box .horizontal)))) (box .max .width))) container style candidate k (not-both-width (at .known) h)
           (λ r. (
             h,
             absent-side (at .known .width) _ _ (box .max .width) (r .width) h
-                (table-width style box t low e m ∙ ap (λ (x : Float). Some (tableMin (stretches (box .horizontal) false) low x)) (fit-across block style candidate)),
+                (table-width style box t low e m ∙ ap (λ (x : Float). Some (tableMin (stretches (box .horizontal) false) low x)) (fit-across container style candidate)),
           ))),
       λ e m. (let h = ap (λ (s : MaybeSize). s .height) (table-known style box t) ∙ e in
-          asks-both (λ m r z. (m .known .height ≡ None) × (z .height ≡ clamped (r .height) (Some (tableMin (stretches (box .vertical) false) low (stretchFit (box .vertical)))) (box .max .height))) block style candidate k (not-both-height (at .known) h)
+          asks-both (λ m r z. (m .known .height ≡ None) × (z .height ≡ clamped (r .height) (Some (tableMin (stretches (box .vertical) false) low (stretchFit (box .vertical)))) (box .max .height))) container style candidate k (not-both-height (at .known) h)
           (λ r. (
             h,
             absent-side (at .known .height) _ _ (box .max .height) (r .height) h
-                (table-height style box t low e m ∙ ap (λ (x : Float). Some (tableMin (stretches (box .vertical) false) low x)) (fit-down block style candidate)),
+                (table-height style box t low e m ∙ ap (λ (x : Float). Some (tableMin (stretches (box .vertical) false) low x)) (fit-down container style candidate)),
           ))),
     )

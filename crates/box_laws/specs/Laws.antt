@@ -52,7 +52,7 @@ pub data Always {A : Type 0} (P : A → Type 0) : Talk A → Type 0 where
 
 -- of the laid-out size
 abbrev pub SizeAlways : (Size → Type 0) → ContainingBlock → Style → OofCandidate → Type 0
-SizeAlways P block style candidate = Always (λ (p : Placed). P (p .outcome .layout .size)) (placed block style candidate)
+SizeAlways P container style candidate = Always (λ (p : Placed). P (p .outcome .layout .size)) (placed container style candidate)
 
 -- the dialogue opens with the question for both sizes, and P holds of the question, of its reply and of the outcome
 pub data Measures (P : MeasureInput → Size → Placed → Type 0) : Talk Placed → Type 0 where
@@ -64,51 +64,51 @@ abbrev pub pixels : Float → CompactLength
 pixels x = record { tag = 1; value = x }
 
 -- padding plus border
-abbrev pub edgesOf : ResolvedBox → Size
-edgesOf box = sums (rectSum (box .padding) (box .border))
+abbrev pub paddingBorderOf : ResolvedBox → Size
+paddingBorderOf box = sums (rectSum (box .padding) (box .border))
 
 -- lengths are of the content box where the box sizing says so: padding plus border is added
 abbrev pub toBorderBox : Style → ResolvedBox → Size
-toBorderBox style box = cond (isContentBox (style .sizing)) (edgesOf box) zeroSize
+toBorderBox style box = cond (isContentBox (style .sizing)) (paddingBorderOf box) zeroSize
 
 -- min is at least padding plus border, and the size is clamped
 pub record OfItsBox (x : Float) (style : Style) (box : ResolvedBox) : Type 0 where
   pub maxWidth : style .max .width ≡ pixels x → box .max .width ≡ Some (x ⊕ toBorderBox style box .width)
   pub maxHeight : style .max .height ≡ pixels x → box .max .height ≡ Some (x ⊕ toBorderBox style box .height)
-  pub minWidth : style .min .width ≡ pixels x → box .min .width ≡ Some (larger (x ⊕ toBorderBox style box .width) (edgesOf box .width))
-  pub minHeight : style .min .height ≡ pixels x → box .min .height ≡ Some (larger (x ⊕ toBorderBox style box .height) (edgesOf box .height))
+  pub minWidth : style .min .width ≡ pixels x → box .min .width ≡ Some (larger (x ⊕ toBorderBox style box .width) (paddingBorderOf box .width))
+  pub minHeight : style .min .height ≡ pixels x → box .min .height ≡ Some (larger (x ⊕ toBorderBox style box .height) (paddingBorderOf box .height))
   pub width : style .size .width ≡ pixels x → box .size .width ≡ Some (clamped (x ⊕ toBorderBox style box .width) (box .min .width) (box .max .width))
   pub height : style .size .height ≡ pixels x → box .size .height ≡ Some (clamped (x ⊕ toBorderBox style box .height) (box .min .height) (box .max .height))
 
 abbrev pub SizesOfItsBox : Type 0
 SizesOfItsBox =
-    (block : ContainingBlock) (style : Style) (candidate : OofCandidate) (x : Float) → style .ratio ≡ None → OfItsBox x style (resolvedBox block style candidate)
+    (container : ContainingBlock) (style : Style) (candidate : OofCandidate) (x : Float) → style .ratio ≡ None → OfItsBox x style (resolvedBox container style candidate)
 
 -- min ≤ size
 abbrev pub MinHolds : Type 0
 MinHolds =
-    (block : ContainingBlock) (style : Style) (candidate : OofCandidate) (low : Float)
-    → let box = resolvedBox block style candidate in
-    (box .min .width ≡ Some low → SizeAlways (λ s. AtOrAbove low (s .width)) block style candidate)
-    × (box .min .height ≡ Some low → SizeAlways (λ s. AtOrAbove low (s .height)) block style candidate)
+    (container : ContainingBlock) (style : Style) (candidate : OofCandidate) (low : Float)
+    → let box = resolvedBox container style candidate in
+    (box .min .width ≡ Some low → SizeAlways (λ s. AtOrAbove low (s .width)) container style candidate)
+    × (box .min .height ≡ Some low → SizeAlways (λ s. AtOrAbove low (s .height)) container style candidate)
 
 -- size ≤ max, unless min is above max, or, of a table, its stretch-fit size, to which its min is raised
 abbrev pub MaxHolds : Type 0
 MaxHolds =
-    (block : ContainingBlock) (style : Style) (candidate : OofCandidate) (low high : Float)
-    → let box = resolvedBox block style candidate in
+    (container : ContainingBlock) (style : Style) (candidate : OofCandidate) (low high : Float)
+    → let box = resolvedBox container style candidate in
     (box .min .width ≡ Some low → box .max .width ≡ Some high → lt high low ≡ false → (style .table ≡ true → lt high (stretchFit (box .horizontal)) ≡ false)
-    → SizeAlways (λ s. AtOrBelow high (s .width)) block style candidate)
+    → SizeAlways (λ s. AtOrBelow high (s .width)) container style candidate)
     × (box .min .height ≡ Some low → box .max .height ≡ Some high → lt high low ≡ false → (style .table ≡ true → lt high (stretchFit (box .vertical)) ≡ false)
-    → SizeAlways (λ s. AtOrBelow high (s .height)) block style candidate)
+    → SizeAlways (λ s. AtOrBelow high (s .height)) container style candidate)
 
 -- a size that is given is the size: no reply, no alignment, no ratio and no keyword of the other side changes it
 abbrev pub GivenSizeStays : Type 0
 GivenSizeStays =
-    (block : ContainingBlock) (style : Style) (candidate : OofCandidate) (x : Float)
-    → let box = resolvedBox block style candidate in
-    (box .size .width ≡ Some x → SizeAlways (λ s. s .width ≡ x) block style candidate)
-    × (box .size .height ≡ Some x → SizeAlways (λ s. s .height ≡ x) block style candidate)
+    (container : ContainingBlock) (style : Style) (candidate : OofCandidate) (x : Float)
+    → let box = resolvedBox container style candidate in
+    (box .size .width ≡ Some x → SizeAlways (λ s. s .width ≡ x) container style candidate)
+    × (box .size .height ≡ Some x → SizeAlways (λ s. s .height ≡ x) container style candidate)
 
 -- neither a ratio nor a size keyword has a say: a side that isn't given is auto
 pub record Plain (style : Style) (box : ResolvedBox) : Type 0 where
@@ -124,24 +124,24 @@ stretchable style = not (style .replaced) && not (style .table)
 -- the margin box is then the block, where min and max leave it.
 abbrev pub StretchFills : Type 0
 StretchFills =
-    (block : ContainingBlock) (style : Style) (candidate : OofCandidate)
-    → let box = resolvedBox block style candidate in
+    (container : ContainingBlock) (style : Style) (candidate : OofCandidate)
+    → let box = resolvedBox container style candidate in
     Plain style box → style .table ≡ false
     → (box .size .width ≡ None → stretches (box .horizontal) (stretchable style) ≡ true
-    → SizeAlways (λ s. s .width ≡ clamped (stretchFit (box .horizontal)) (box .min .width) (box .max .width)) block style candidate)
+    → SizeAlways (λ s. s .width ≡ clamped (stretchFit (box .horizontal)) (box .min .width) (box .max .width)) container style candidate)
     × (box .size .height ≡ None → stretches (box .vertical) (stretchable style) ≡ true
-    → SizeAlways (λ s. s .height ≡ clamped (stretchFit (box .vertical)) (box .min .height) (box .max .height)) block style candidate)
+    → SizeAlways (λ s. s .height ≡ clamped (stretchFit (box .vertical)) (box .min .height) (box .max .height)) container style candidate)
 
 -- any other auto size is asked for, and is the reply, clamped
 abbrev pub MeasuredIsTheReply : Type 0
 MeasuredIsTheReply =
-    (block : ContainingBlock) (style : Style) (candidate : OofCandidate)
-    → let box = resolvedBox block style candidate in
+    (container : ContainingBlock) (style : Style) (candidate : OofCandidate)
+    → let box = resolvedBox container style candidate in
     Plain style box → style .table ≡ false
     → (box .size .width ≡ None → stretches (box .horizontal) (stretchable style) ≡ false
-    → Measures (λ m r p. (m .known .width ≡ None) × (p .outcome .layout .size .width ≡ clamped (r .width) (box .min .width) (box .max .width))) (placed block style candidate))
+    → Measures (λ m r p. (m .known .width ≡ None) × (p .outcome .layout .size .width ≡ clamped (r .width) (box .min .width) (box .max .width))) (placed container style candidate))
     × (box .size .height ≡ None → stretches (box .vertical) (stretchable style) ≡ false
-    → Measures (λ m r p. (m .known .height ≡ None) × (p .outcome .layout .size .height ≡ clamped (r .height) (box .min .height) (box .max .height))) (placed block style candidate))
+    → Measures (λ m r p. (m .known .height ≡ None) × (p .outcome .layout .size .height ≡ clamped (r .height) (box .min .height) (box .max .height))) (placed container style candidate))
 
 -- a table is never stretched: an auto size of it is asked for, and is the reply, clamped with its min raised to the stretch-fit size where
 -- the alignment is stretch
@@ -150,17 +150,17 @@ tableMin stretches low fit = cond stretches (larger low fit) low
 
 abbrev pub TableIsMeasured : Type 0
 TableIsMeasured =
-    (block : ContainingBlock) (style : Style) (candidate : OofCandidate) (low : Float)
-    → let box = resolvedBox block style candidate in
+    (container : ContainingBlock) (style : Style) (candidate : OofCandidate) (low : Float)
+    → let box = resolvedBox container style candidate in
     Plain style box → style .table ≡ true
     → (box .size .width ≡ None → box .min .width ≡ Some low
     → Measures
     (λ m r p. (m .known .width ≡ None)
-    × (p .outcome .layout .size .width ≡ clamped (r .width) (Some (tableMin (stretches (box .horizontal) false) low (stretchFit (box .horizontal)))) (box .max .width))) (placed block style candidate))
+    × (p .outcome .layout .size .width ≡ clamped (r .width) (Some (tableMin (stretches (box .horizontal) false) low (stretchFit (box .horizontal)))) (box .max .width))) (placed container style candidate))
     × (box .size .height ≡ None → box .min .height ≡ Some low
     → Measures
     (λ m r p. (m .known .height ≡ None)
-    × (p .outcome .layout .size .height ≡ clamped (r .height) (Some (tableMin (stretches (box .vertical) false) low (stretchFit (box .vertical)))) (box .max .height))) (placed block style candidate))
+    × (p .outcome .layout .size .height ≡ clamped (r .height) (Some (tableMin (stretches (box .vertical) false) low (stretchFit (box .vertical)))) (box .max .height))) (placed container style candidate))
 
 -- a clamp that is done changes nothing when done again
 abbrev pub ClampIsSettled : Type 0
@@ -188,7 +188,7 @@ pub record OfTheWidth (w x : Float) (style : Style) (box : ResolvedBox) : Type 0
 
 abbrev pub PercentagesOfTheWidth : Type 0
 PercentagesOfTheWidth =
-    (block : ContainingBlock) (style : Style) (candidate : OofCandidate) (x : Float) → OfTheWidth (block .area .size .width) x style (resolvedBox block style candidate)
+    (container : ContainingBlock) (style : Style) (candidate : OofCandidate) (x : Float) → OfTheWidth (container .area .size .width) x style (resolvedBox container style candidate)
 
 -- insets take them of their own axis
 pub record OfTheirAxis (area : Size) (x : Float) (style : Style) (box : ResolvedBox) : Type 0 where
@@ -199,25 +199,25 @@ pub record OfTheirAxis (area : Size) (x : Float) (style : Style) (box : Resolved
 
 abbrev pub InsetsOfTheirAxis : Type 0
 InsetsOfTheirAxis =
-    (block : ContainingBlock) (style : Style) (candidate : OofCandidate) (x : Float) → OfTheirAxis (block .area .size) x style (resolvedBox block style candidate)
+    (container : ContainingBlock) (style : Style) (candidate : OofCandidate) (x : Float) → OfTheirAxis (container .area .size) x style (resolvedBox container style candidate)
 
 -- ---- where a box stands
 
 -- where its axes place it, moved by the area's offset, with the margins of its axes
 abbrev pub StandsByItsAxes : Type 0
 StandsByItsAxes =
-    (block : ContainingBlock) (style : Style) (candidate : OofCandidate)
-    → let box = resolvedBox block style candidate in
+    (container : ContainingBlock) (style : Style) (candidate : OofCandidate)
+    → let box = resolvedBox container style candidate in
     Always
     (λ (p : Placed). let l = p .outcome .layout in
-    (l .location .x ≡ placement (box .horizontal) (l .size .width) .position ⊕ block .area .offset .x)
-    × (l .location .y ≡ placement (box .vertical) (l .size .height) .position ⊕ block .area .offset .y)
+    (l .location .x ≡ placement (box .horizontal) (l .size .width) .position ⊕ container .area .offset .x)
+    × (l .location .y ≡ placement (box .vertical) (l .size .height) .position ⊕ container .area .offset .y)
     × (l .margin ≡ rectOf (placement (box .horizontal) (l .size .width) .margin) (placement (box .vertical) (l .size .height) .margin)))
-    (placed block style candidate)
+    (placed container style candidate)
 
 -- the same block at another offset
 abbrev pub withOffset : Point → ContainingBlock → ContainingBlock
-withOffset offset block = record { area = record { size = block .area .size; offset = offset }; direction = block .direction; overflow = block .overflow }
+withOffset offset container = record { area = record { size = container .area .size; offset = offset }; direction = container .direction; overflow = container .overflow }
 
 -- two static positions that, counted from their areas' edges, are one
 pub record SamePlace (p : AxisStaticPosition) (offset : Float) (p' : AxisStaticPosition) (offset' : Float) : Type 0 where
@@ -267,8 +267,8 @@ pub record MovedAlone (offset offset' : Point) (p p' : Placed) : Type 0 where
 -- layouts move with the offset alone
 abbrev pub OffsetMovesAlone : Type 0
 OffsetMovesAlone =
-    (block : ContainingBlock) (offset' : Point) (style : Style) (candidate candidate' : OofCandidate) → StandAlike candidate (block .area .offset) candidate' offset'
-    → Alike (MovedAlone (block .area .offset) offset') (placed block style candidate) (placed (withOffset offset' block) style candidate')
+    (container : ContainingBlock) (offset' : Point) (style : Style) (candidate candidate' : OofCandidate) → StandAlike candidate (container .area .offset) candidate' offset'
+    → Alike (MovedAlone (container .area .offset) offset') (placed container style candidate) (placed (withOffset offset' container) style candidate')
 
 -- ---- the contribution to the scrollable overflow
 
@@ -276,10 +276,10 @@ OffsetMovesAlone =
 -- that this is one law for both.
 abbrev pub ScrollingContributionIsReachable : Type 0
 ScrollingContributionIsReachable =
-    (block : ContainingBlock) (style : Style) (candidate : OofCandidate) → anyScrollContainer (block .overflow) ≡ true
+    (container : ContainingBlock) (style : Style) (candidate : OofCandidate) → anyScrollContainer (container .overflow) ≡ true
     → Always
     (λ (p : Placed). let r = p .outcome .contribution in (r ≡ zeroRect) ⊎ ((le (r .right) 0f ≡ false) × (le (r .bottom) 0f ≡ false)))
-    (placed block style candidate)
+    (placed container style candidate)
 
 -- whole sixteenths of a pixel (to which boxes of quarter pixels are aligned), of size 131,072 at most
 pub record Sixteenth (x : Float) : Type 0 where
@@ -289,10 +289,10 @@ pub record Sixteenth (x : Float) : Type 0 where
   pub small : k ≤ 2097152
 
 -- the numbers of a laid-out box, its area, its place and its own overflow
-pub record Fine (block : ContainingBlock) (l : Layout) : Type 0 where
-  pub width : Sixteenth (block .area .size .width)
-  pub offsetX : Sixteenth (block .area .offset .x)
-  pub offsetY : Sixteenth (block .area .offset .y)
+pub record Fine (container : ContainingBlock) (l : Layout) : Type 0 where
+  pub width : Sixteenth (container .area .size .width)
+  pub offsetX : Sixteenth (container .area .offset .x)
+  pub offsetY : Sixteenth (container .area .offset .y)
   pub x : Sixteenth (l .location .x)
   pub y : Sixteenth (l .location .y)
   pub sizeX : Sixteenth (l .size .width)
@@ -312,52 +312,52 @@ HoldsBackwards r offset width at size l =
     (r .start ∷ at ∷ size ∷ [] ≤Σ offset ∷ width ∷ l .start ∷ []) × (offset ∷ width ∷ l .end ∷ [] ≤Σ r .end ∷ at ∷ size ∷ [])
 
 abbrev pub HoldsAcross : ContainingBlock → Layout → Line → Line → Type 0
-HoldsAcross block l r x =
-    (block .direction ≡ Ltr → HoldsForwards r (block .area .offset .x) (l .location .x) x)
-    × (block .direction ≡ Rtl → HoldsBackwards r (block .area .offset .x) (block .area .size .width) (l .location .x) (l .size .width) x)
+HoldsAcross container l r x =
+    (container .direction ≡ Ltr → HoldsForwards r (container .area .offset .x) (l .location .x) x)
+    × (container .direction ≡ Rtl → HoldsBackwards r (container .area .offset .x) (container .area .size .width) (l .location .x) (l .size .width) x)
 
 abbrev pub HoldsDown : ContainingBlock → Layout → Line → Line → Type 0
-HoldsDown block l r y = HoldsForwards r (block .area .offset .y) (l .location .y) y
+HoldsDown container l r y = HoldsForwards r (container .area .offset .y) (l .location .y) y
 
 -- the border box, from its start edges
 abbrev pub HoldsTheBox : ContainingBlock → Layout → Rect → Type 0
-HoldsTheBox block l r = HoldsAcross block l (lineX r) (0f to l .size .width) × HoldsDown block l (lineY r) (0f to l .size .height)
+HoldsTheBox container l r = HoldsAcross container l (lineX r) (0f to l .size .width) × HoldsDown container l (lineY r) (0f to l .size .height)
 
 -- it is zeros, or it holds the border box, in both directions
 abbrev pub ContributionHoldsTheBox : Type 0
 ContributionHoldsTheBox =
-    (block : ContainingBlock) (style : Style) (candidate : OofCandidate)
+    (container : ContainingBlock) (style : Style) (candidate : OofCandidate)
     → Always
-    (λ (p : Placed). let r = p .outcome .contribution in Fine block (p .outcome .layout) → (r ≡ zeroRect) ⊎ HoldsTheBox block (p .outcome .layout) r)
-    (placed block style candidate)
+    (λ (p : Placed). let r = p .outcome .contribution in Fine container (p .outcome .layout) → (r ≡ zeroRect) ⊎ HoldsTheBox container (p .outcome .layout) r)
+    (placed container style candidate)
 
 -- and the box's own overflow, along an axis in which that is visible, where the box is no scroll container and nothing contains it
 abbrev pub ContributionHoldsItsOverflow : Type 0
 ContributionHoldsItsOverflow =
-    (block : ContainingBlock) (style : Style) (candidate : OofCandidate) → anyScrollContainer (style .overflow) ≡ false → containsOverflow (style .contain) ≡ false
+    (container : ContainingBlock) (style : Style) (candidate : OofCandidate) → anyScrollContainer (style .overflow) ≡ false → containsOverflow (style .contain) ≡ false
     → Always
     (λ (p : Placed). let l = p .outcome .layout in let r = p .outcome .contribution in
-    Fine block l
+    Fine container l
     → (r ≡ zeroRect)
-    ⊎ ((style .overflow .x ≡ Visible → HoldsAcross block l (lineX r) (lineX (l .overflow))) × (style .overflow .y ≡ Visible → HoldsDown block l (lineY r) (lineY (l .overflow)))))
-    (placed block style candidate)
+    ⊎ ((style .overflow .x ≡ Visible → HoldsAcross container l (lineX r) (lineX (l .overflow))) × (style .overflow .y ≡ Visible → HoldsDown container l (lineY r) (lineY (l .overflow)))))
+    (placed container style candidate)
 
 -- the box ends after the area's start edges
 abbrev pub PastTheStart : ContainingBlock → Layout → Type 0
-PastTheStart block l =
-    (block .direction ≡ Ltr → (l .location .x ∷ l .size .width ∷ [] ≤Σ block .area .offset .x ∷ []) → ⊥)
-    × (block .direction ≡ Rtl → (block .area .offset .x ∷ block .area .size .width ∷ [] ≤Σ l .location .x ∷ []) → ⊥)
-    × ((l .location .y ∷ l .size .height ∷ [] ≤Σ block .area .offset .y ∷ []) → ⊥)
+PastTheStart container l =
+    (container .direction ≡ Ltr → (l .location .x ∷ l .size .width ∷ [] ≤Σ container .area .offset .x ∷ []) → ⊥)
+    × (container .direction ≡ Rtl → (container .area .offset .x ∷ container .area .size .width ∷ [] ≤Σ l .location .x ∷ []) → ⊥)
+    × ((l .location .y ∷ l .size .height ∷ [] ≤Σ container .area .offset .y ∷ []) → ⊥)
 
 -- zeros are for a box without a size, or one that can't be scrolled to: any other counts
 abbrev pub ContributionCounts : Type 0
 ContributionCounts =
-    (block : ContainingBlock) (style : Style) (candidate : OofCandidate)
+    (container : ContainingBlock) (style : Style) (candidate : OofCandidate)
     → Always
     (λ (p : Placed). let l = p .outcome .layout in
-    Fine block l → lt 0f (l .size .width) ≡ true → lt 0f (l .size .height) ≡ true → (anyScrollContainer (block .overflow) ≡ true → PastTheStart block l)
-    → HoldsTheBox block l (p .outcome .contribution))
-    (placed block style candidate)
+    Fine container l → lt 0f (l .size .width) ≡ true → lt 0f (l .size .height) ≡ true → (anyScrollContainer (container .overflow) ≡ true → PastTheStart container l)
+    → HoldsTheBox container l (p .outcome .contribution))
+    (placed container style candidate)
 
 -- it holds no more than the border box where the box's own overflow is within it: no margin
 abbrev pub WithinTheBox : Layout → Type 0
@@ -367,11 +367,11 @@ WithinTheBox l =
 
 abbrev pub ContributionHoldsNoMore : Type 0
 ContributionHoldsNoMore =
-    (block : ContainingBlock) (style : Style) (candidate : OofCandidate)
+    (container : ContainingBlock) (style : Style) (candidate : OofCandidate)
     → Always
     (λ (p : Placed). let l = p .outcome .layout in let r = p .outcome .contribution in
-    Fine block l → WithinTheBox l → (r ≡ zeroRect) ⊎ ((r .left ∷ l .size .width ∷ [] =Σ r .right ∷ []) × (r .top ∷ l .size .height ∷ [] =Σ r .bottom ∷ [])))
-    (placed block style candidate)
+    Fine container l → WithinTheBox l → (r ≡ zeroRect) ⊎ ((r .left ∷ l .size .width ∷ [] =Σ r .right ∷ []) × (r .top ∷ l .size .height ∷ [] =Σ r .bottom ∷ [])))
+    (placed container style candidate)
 
 -- what the box clips isn't counted: own overflow that a scroll container or containment holds, in both axes; along an axis that isn't
 -- visible, in that one

@@ -28,10 +28,10 @@ placedAt at l = at ⊕ l .start to at ⊕ l .end
 -- zeros if either end extent is at most 0, or if the parent scrolls and right or bottom is at most 0. The location counts from the
 -- parent's scroll origin, the box's own overflow from its start edge.
 unfoldable pub contribution : Point → Size → Rect → OverflowPoint → Contain → Bool → Rect
-contribution location size own overflow contain scrolls =
-    let across = reach (propagates (overflow .x) overflow contain) (size .width) (lineX own) in
-    let down = reach (propagates (overflow .y) overflow contain) (size .height) (lineY own) in
-    let x = placedAt (location .x) across in
-    let y = placedAt (location .y) down in
-    cond (le (across .end) 0f || le (down .end) 0f) zeroRect
-    (cond (scrolls && (le (x .end) 0f || le (y .end) 0f)) zeroRect (rectOf x y))
+contribution location size own overflow contain parentScrolls =
+    let reachX = reach (propagates (overflow .x) overflow contain) (size .width) (lineX own) in
+    let reachY = reach (propagates (overflow .y) overflow contain) (size .height) (lineY own) in
+    let x = placedAt (location .x) reachX in
+    let y = placedAt (location .y) reachY in
+    cond (le (reachX .end) 0f || le (reachY .end) 0f) zeroRect
+    (cond (parentScrolls && (le (x .end) 0f || le (y .end) 0f)) zeroRect (rectOf x y))

@@ -42,8 +42,8 @@ keywordOf style stretch basis = ofResolved (resolved field.Size style basis) str
 
 -- the stretch size of a size keyword: the area less insets and margins, each in turn, an absent one as 0; at least 0
 unfoldable pub absoluteStretch : Float → MaybeLine → MaybeLine → Float
-absoluteStretch size inset margin =
-    larger (size ⊖ orZero (inset .start) ⊖ orZero (inset .end) ⊖ orZero (margin .start) ⊖ orZero (margin .end)) 0f
+absoluteStretch areaSize inset margin =
+    larger (areaSize ⊖ orZero (inset .start) ⊖ orZero (inset .end) ⊖ orZero (margin .start) ⊖ orZero (margin .end)) 0f
 
 -- a side that is there needs no keyword
 unfoldable pub ifAbsent : MaybeF32 → SizingKeywordResolution → SizingKeywordResolution
@@ -52,8 +52,8 @@ ifAbsent (Some x) k = NoKeyword
 
 -- the keywords of the absent sides, each side's stretch size being given
 unfoldable pub keywordsOf : MaybeSize → LengthSize → Size → Size → SizingKeywords
-keywordsOf known style area stretch =
+keywordsOf known style areaSize stretch =
     record {
-      width = ifAbsent (known .width) (keywordOf (style .width) (stretch .width) (area .width));
-      height = ifAbsent (known .height) (keywordOf (style .height) (stretch .height) (area .height));
+      width = ifAbsent (known .width) (keywordOf (style .width) (stretch .width) (areaSize .width));
+      height = ifAbsent (known .height) (keywordOf (style .height) (stretch .height) (areaSize .height));
     }

@@ -36,8 +36,7 @@ use Rattle.mirror.proofs.Mirror.{mirror}
 use Rattle.mirror.specs.Image.{imageOpening, imageStyles, imageCandidates}
 use Rattle.mirror.specs.Quarter.{QuarterArea, QuarterTable, QuarterCandidates}
 use Rattle.mirror.specs.Runs.{Message, runNext, imageNext, Fair, AllFair, MirroredRuns, unclaimedAtOpening}
-use Rattle.demands.specs.Entries.{Opens, AnyCalls, Takes, Run, RefusedSince, BothRuns}
-use Rattle.demands.specs.Entries as entry
+use Rattle.demands.specs.Entries.{Opens, RepliesTo, AnyCalls, Takes, Run, RefusedSince, BothRuns}
 use Rattle.demands.specs.Demands.{OpeningDemands, ReplyDemands, AlignmentDemands, ScreenDemands, ThreeQuestionsEach, EqualsStraightRun, SizedLayout, SizeLaw, LaidOutAsAsked, MirrorImage}
 
 -- ---- one call
@@ -49,7 +48,7 @@ opening-demands o candidates lent c =
       call = refl;
       refused = opening-refused-exactly o candidates lent;
       accepted = opening-accepted-exactly o candidates lent;
-      wrote = refused-opening-keeps o candidates lent;
+      kept = refused-opening-keeps o candidates lent;
     })
 
 pub alignment-demands : (a : AlignItems) (area : Line) (rtl : Bool) {r : Aligned} → r ≡ fromAlignment a area rtl → AlignmentDemands a area rtl r
@@ -126,8 +125,8 @@ unfolding laidOut
 sized s overflow surfaced lent =
     let box = boxAtHand (lent .working) (s .counts) in
     let style = styleAt (lent .styles) (box .node) in
-    let law = box-size-law (s .opened .block) style box (s .replies) overflow in
-    record { layout = layoutAfter (s .opened .block) style box (s .replies) overflow .layout; wrote = refl; width = law .0; height = law .1 }
+    let law = box-size-law (s .opened .container) style box (s .replies) overflow in
+    record { layout = layoutAfter (s .opened .container) style box (s .replies) overflow .layout; wrote = refl; width = law .0; height = law .1 }
 
 size-law : (s : State) (reply : Reply) (surfaced : List ℕ) (lent : Lent) → SizeLaw s reply lent (replied s reply surfaced lent)
 size-law s reply surfaced lent overflow k a = go (reply-way s reply surfaced lent)
@@ -137,7 +136,7 @@ size-law s reply surfaced lent overflow k a = go (reply-way s reply surfaced len
     go (measures replies v t f) = never-kept s overflow (ap (takenBy s) (sym k) ∙ t)
     go (laysOut laid v t f) = subst (λ (x : Outcome). SizedLayout s lent (x .layouts)) (sym f) (sized s laid surfaced lent)
 
-pub reply-demands : (s : State) (reply : Reply) (surfaced : List ℕ) (lent : Lent) {has : Outcome} → entry.Replies s reply surfaced lent has
+pub reply-demands : (s : State) (reply : Reply) (surfaced : List ℕ) (lent : Lent) {has : Outcome} → RepliesTo s reply surfaced lent has
     → ReplyDemands s reply surfaced lent has
 reply-demands s reply surfaced lent c =
     subst (ReplyDemands s reply surfaced lent) (sym c)
@@ -145,7 +144,7 @@ reply-demands s reply surfaced lent c =
       call = refl;
       refused = reply-refused-exactly s reply surfaced lent;
       accepted = reply-accepted-exactly s reply surfaced lent;
-      wrote = refused-reply-keeps s reply surfaced lent;
+      kept = refused-reply-keeps s reply surfaced lent;
       size = size-law s reply surfaced lent;
     })
 

@@ -42,8 +42,7 @@ use Rattle.column.specs.Listing.{refusalText}
 use Rattle.listing.specs.Rows.{Prints}
 use Rattle.listing.specs.Listing.{printed}
 use Rattle.listing.specs.Laws.{programTests, IsList}
-use Rattle.demands.specs.Entries.{Opens, AnyCalls, Takes, Run, RefusedSince, BothRuns, AfterEach}
-use Rattle.demands.specs.Entries as entry
+use Rattle.demands.specs.Entries.{Opens, RepliesTo, AnyCalls, Takes, Run, RefusedSince, BothRuns, AfterEach}
 
 -- ---- Demand 1. "Whoever calls an entry, with any bits in any number and slices of any length, gets its answer (in a run, a question or
 -- finish) or one of document 01's refusals 1 to 8, each exactly under its stated condition. A refusal writes no lent word and returns the
@@ -55,7 +54,7 @@ pub record OpeningDemands (o : Opening) (candidates : List ℕ) (lent : Lent) (h
   pub call : Opens o candidates lent has
   pub refused : (r : Refusal) → (has .step .answer ≡ Refused r) ↔ FirstIs (openingTests o candidates lent) (numberOf r)
   pub accepted : (isRefused (has .step .answer) ≡ false) ↔ NoneHolds (openingTests o candidates lent)
-  pub wrote : (r : Refusal) → has .step .answer ≡ Refused r → has ≡ unwritten lent (record { state = closed lent; answer = Refused r })
+  pub kept : (r : Refusal) → has .step .answer ≡ Refused r → has ≡ unwritten lent (record { state = closed lent; answer = Refused r })
 
 -- Of demand 2, the law of the final size: the words that an accepted lay out reply writes, from any state, forged ones too, are those of a
 -- layout whose size is no NaN and at least padding plus border, on each axis where that sum isn't NaN
@@ -70,10 +69,10 @@ SizeLaw s reply lent has = (overflow : Rect) → reply ≡ LaidOut overflow → 
 
 -- a reply, whatever the state that is given with it
 pub record ReplyDemands (s : State) (reply : Reply) (surfaced : List ℕ) (lent : Lent) (has : Outcome) : Type 0 where
-  pub call : entry.Replies s reply surfaced lent has
+  pub call : RepliesTo s reply surfaced lent has
   pub refused : (r : Refusal) → (has .step .answer ≡ Refused r) ↔ FirstIs (replyTests s reply surfaced lent) (numberOf r)
   pub accepted : (isRefused (has .step .answer) ≡ false) ↔ NoneHolds (replyTests s reply surfaced lent)
-  pub wrote : (r : Refusal) → has .step .answer ≡ Refused r → has ≡ unwritten lent (record { state = s; answer = Refused r })
+  pub kept : (r : Refusal) → has .step .answer ≡ Refused r → has ≡ unwritten lent (record { state = s; answer = Refused r })
   pub size : SizeLaw s reply lent has
 
 -- `from_alignment`: 7

@@ -1,5 +1,5 @@
 -- What a host does with the entries, and all that it knows of them: their contracts. `demands::open` and `demands::reply` (src/lib.rt) are
--- the calls themselves and ensure `Opens` and `Replies` of each, so that what is shown here of lists of such calls holds of the code.
+-- the calls themselves and ensure `Opens` and `RepliesTo` of each, so that what is shown here of lists of such calls holds of the code.
 -- Assumes nothing.
 use Prim.Native.Nat.{ℕ, _+_}
 use mathlib.Core.Path.{_≡_}
@@ -19,8 +19,8 @@ use Rattle.mirror.specs.Runs.{Message, Fair}
 abbrev pub Opens : Opening → List ℕ → Lent → Outcome → Type 0
 Opens o candidates lent has = has ≡ opened o candidates lent
 
-abbrev pub Replies : State → Reply → List ℕ → Lent → Outcome → Type 0
-Replies s reply surfaced lent has = has ≡ replied s reply surfaced lent
+abbrev pub RepliesTo : State → Reply → List ℕ → Lent → Outcome → Type 0
+RepliesTo s reply surfaced lent has = has ≡ replied s reply surfaced lent
 
 -- ---- Any calls: each reply is given the state that the last call returned, and any words in slices of any length. `n` questions were
 -- asked for box i, the record i of the working list, each while it was at hand; `m` were asked in all.
@@ -33,7 +33,7 @@ pub data AnyCalls (i : ℕ) : ℕ → ℕ → Outcome → Type 0 where
   reply :
       {n m : ℕ} {before has : Outcome} (reply : Reply) (surfaced : List ℕ) (lent : Lent)
       → AnyCalls i n m before
-      → Replies (before .step .state) reply surfaced lent has
+      → RepliesTo (before .step .state) reply surfaced lent has
       → AnyCalls i (n + askedFor i (has .step)) (m + oneIfAsked (has .step .answer)) has
 
 -- ---- A run: nobody else writes the lent words.
@@ -46,11 +46,11 @@ ownSlices styles before = lent styles (before .layouts) (before .working) (befor
 pub data Takes (styles : List ℕ) (before : Outcome) (h : Heard) : Loan → Outcome → Type 0 where
   lentOwn :
       {has : Outcome}
-      → Replies (before .step .state) (h .reply) (h .surfaced) (ownSlices styles before) has
+      → RepliesTo (before .step .state) (h .reply) (h .surfaced) (ownSlices styles before) has
       → Takes styles before h own has
   lentOther :
       {slices : Lent} {left : Outcome}
-      → Replies (before .step .state) (h .reply) (h .surfaced) slices left
+      → RepliesTo (before .step .state) (h .reply) (h .surfaced) slices left
       → Takes styles before h (other slices) (outcome (left .step) (before .layouts) (before .working) (before .unclaimed))
 
 -- an opening that isn't refused, then replies, each given the state that the last call returned. One that lends other slices is refused

@@ -37,7 +37,7 @@ use Rattle.oof_c.specs.Entry.{Words, words, Returned, lentIn, resultOf, answerL
 use Rattle.oof_c.specs.Laws.{FitsReply, Keeps}
 use Rattle.oof_c.proofs.Laws.{accepted-is-zero, refused-is-not, refused-opening-closes, refused-reply-writes-nothing}
 use Rattle.oof_c.proofs.Kept.{opening-is-kept, reply-is-kept}
-use Rattle.demands_c.specs.Calls.{Opens, Replies, FitsOpening, askedFor, AnyCalls, Takes, Lends, Run}
+use Rattle.demands_c.specs.Calls.{Opens, RepliesTo, FitsOpening, askedFor, AnyCalls, Takes, Lends, Run}
 use Rattle.demands_c.specs.Demands.{OpeningDemands, ReplyDemands, ThreeQuestionsEach, StandsInWords, EqualsStraightRun}
 
 -- ---- the result is the number of the first condition that holds
@@ -79,7 +79,7 @@ opening-demands o candidates styles before c =
       call = refl;
       refused = numbered (openingTests o candidates l) a (opening-refused-exactly o candidates l) (opening-accepted-exactly o candidates l);
       accepted = zeroed (openingTests o candidates l) a (opening-accepted-exactly o candidates l);
-      wrote = refused-opening-closes o candidates styles before;
+      kept = refused-opening-closes o candidates styles before;
     })
   where
     l : Lent
@@ -89,7 +89,7 @@ opening-demands o candidates styles before c =
     a = opened o candidates l .step .answer
 
 pub reply-demands :
-    (reply : Reply) (surfaced styles : List ℕ) (before : Words) {has : Returned} → Replies reply surfaced styles before has
+    (reply : Reply) (surfaced styles : List ℕ) (before : Words) {has : Returned} → RepliesTo reply surfaced styles before has
     → ReplyDemands reply surfaced styles before has
 unfolding repliedInWords
 reply-demands reply surfaced styles before c =
@@ -98,7 +98,7 @@ reply-demands reply surfaced styles before c =
       call = refl;
       refused = numbered (replyTests s reply surfaced l) a (reply-refused-exactly s reply surfaced l) (reply-accepted-exactly s reply surfaced l);
       accepted = zeroed (replyTests s reply surfaced l) a (reply-accepted-exactly s reply surfaced l);
-      wrote = refused-reply-writes-nothing reply surfaced styles before;
+      kept = refused-reply-writes-nothing reply surfaced styles before;
     })
   where
     s : State

@@ -1,5 +1,5 @@
 -- What a C host does with the entries, and all that it knows of them: their contracts. The functions of src/lib.rt are the calls themselves
--- and ensure `Opens` or `Replies` of each, so that what is shown here of lists of such calls holds of the code. Assumes nothing.
+-- and ensure `Opens` or `RepliesTo` of each, so that what is shown here of lists of such calls holds of the code. Assumes nothing.
 use Prim.Native.Nat.{ℕ, _+_}
 use mathlib.Core.Bool.{cond, not, _&&_}
 use mathlib.Core.List.{List, [], _∷_, _++_}
@@ -20,8 +20,8 @@ use Rattle.oof_c.specs.Laws.{FitsReply}
 abbrev pub Opens : Opening → List ℕ → List ℕ → Words → Returned → Type 0
 Opens o candidates styles before has = has ≡ openedInWords o candidates styles before
 
-abbrev pub Replies : Reply → List ℕ → List ℕ → Words → Returned → Type 0
-Replies reply surfaced styles before has = has ≡ repliedInWords reply surfaced styles before
+abbrev pub RepliesTo : Reply → List ℕ → List ℕ → Words → Returned → Type 0
+RepliesTo reply surfaced styles before has = has ≡ repliedInWords reply surfaced styles before
 
 -- an opening's floats are f32s, as a C call's are
 abbrev pub FitsOpening : Opening → Type 0
@@ -47,17 +47,17 @@ pub data AnyCalls (i : ℕ) : ℕ → Returned → Type 0 where
       → FitsReply reply
       → AnyCalls i n last
       → before .state ≡ last .words .state
-      → Replies reply surfaced styles before has
+      → RepliesTo reply surfaced styles before has
       → AnyCalls i (n + askedFor i has) has
 
 -- ---- A run: nobody else writes the lent words, the state's and the answer's.
 
 -- what the host has of a run after a reply: if it lent other slices, the run's own keep their words
 pub data Takes (styles : List ℕ) (last : Words) (h : Heard) : Loan → Returned → Type 0 where
-  lentOwn : {has : Returned} → Replies (h .reply) (h .surfaced) styles last has → Takes styles last h own has
+  lentOwn : {has : Returned} → RepliesTo (h .reply) (h .surfaced) styles last has → Takes styles last h own has
   lentOther :
       {slices : Lent} {left : Returned}
-      → Replies (h .reply) (h .surfaced) (slices .styles) (words (slices .layouts) (slices .working) (slices .unclaimed) (last .state) (last .answer)) left
+      → RepliesTo (h .reply) (h .surfaced) (slices .styles) (words (slices .layouts) (slices .working) (slices .unclaimed) (last .state) (last .answer)) left
       → Takes styles last h (other slices)
       (record {
         result = left .result;

@@ -15,7 +15,7 @@ use Rattle.run.specs.declared.Answer.{Answer}
 use Rattle.run.specs.declared.Opening.{Opening}
 use Rattle.oof_c.specs.StateWords.{at, stateOf, stateWords}
 use Rattle.oof_c.specs.Entry.{Words, words, Returned, lentIn, answerLeft}
-use Rattle.demands_c.specs.Calls.{Opens, Replies, AnyCalls, Run}
+use Rattle.demands_c.specs.Calls.{Opens, RepliesTo, AnyCalls, Run}
 
 -- ---- Demand 1. "Whoever calls an entry, with any bits in any number and slices of any length, gets its answer .. or one of document 01's
 -- refusals .., each exactly under its stated condition. A refusal writes no lent word and returns the state as it came." The conditions, in
@@ -27,16 +27,16 @@ pub record OpeningDemands (o : Opening) (candidates styles : List ℕ) (before :
   pub call : Opens o candidates styles before has
   pub refused : (n : ℕ) → n ≢ 0 → (has .result ≡ n) ↔ FirstIs (openingTests o candidates (lentIn styles before)) n
   pub accepted : (has .result ≡ 0) ↔ NoneHolds (openingTests o candidates (lentIn styles before))
-  pub wrote :
+  pub kept :
       has .result ≢ 0
       → has .words ≡ words (before .layouts) (before .working) (before .unclaimed) (stateWords (closed (lentIn styles before))) (before .answer)
 
 -- a reply, whatever words stand for its state
 pub record ReplyDemands (reply : Reply) (surfaced styles : List ℕ) (before : Words) (has : Returned) : Type 0 where
-  pub call : Replies reply surfaced styles before has
+  pub call : RepliesTo reply surfaced styles before has
   pub refused : (n : ℕ) → n ≢ 0 → (has .result ≡ n) ↔ FirstIs (replyTests (stateOf (before .state)) reply surfaced (lentIn styles before)) n
   pub accepted : (has .result ≡ 0) ↔ NoneHolds (replyTests (stateOf (before .state)) reply surfaced (lentIn styles before))
-  pub wrote : has .result ≢ 0 → has .words ≡ before
+  pub kept : has .result ≢ 0 → has .words ≡ before
 
 -- "A run asks at most three questions for each box hoisted", whatever words the host rewrites between calls: at most three for each box,
 -- and none for one that isn't hoisted, which the state's word 7 tells

@@ -20,7 +20,7 @@ use Rattle.sweep.proofs.Laws.{kept-fits}
 use Rattle.sweep.proofs.Listed.{AllBelow, listed-good}
 use Rattle.run.proofs.Worlds.{list-back}
 use Rattle.oof_resolve.specs.declared.ContainingBlock.{ContainingBlock}
-use Rattle.mirror_box.specs.Quarter.{QuarterBlock, QuarterCandidate}
+use Rattle.mirror_box.specs.Quarter.{QuarterContainer, QuarterCandidate}
 use Rattle.mirror_box.specs.Mirrored.{CandidateImage}
 use Rattle.mirror_box.proofs.Law.{image-is-exact}
 use Rattle.mirror.specs.Image.{imageCandidates}
@@ -68,20 +68,20 @@ module _ (n : ℕ) (ws : List ℕ) (g : goodRecords (candidateKinds n) ws (lengt
   unfolding wrong
   fallback-there = leb-false 3 (getD (recordAt candidateWidth ws i) 7 0) (word-good 7 (lit< tt))
 
-pub all-ready : (block : ContainingBlock) → QuarterBlock block → (n : ℕ) (ws : List ℕ) → goodRecords (candidateKinds n) ws (length ws / candidateWidth) ≡ true → QuarterCandidates ws
-    → Each (Ready (block .area) n) (candidatesIn ws) (candidatesIn (imageCandidates (block .area) ws))
-all-ready block hb n ws g q =
-    by-records (block .area) ws
+pub all-ready : (container : ContainingBlock) → QuarterContainer container → (n : ℕ) (ws : List ℕ) → goodRecords (candidateKinds n) ws (length ws / candidateWidth) ≡ true → QuarterCandidates ws
+    → Each (Ready (container .area) n) (candidatesIn ws) (candidatesIn (imageCandidates (container .area) ws))
+all-ready container hb n ws g q =
+    by-records (container .area) ws
     (λ i h.
     let c = candidateOf (recordAt candidateWidth ws i) in
     let quarter : QuarterCandidate c = record { start = q i h .0 .0; end = q i h .0 .1 } in
     record {
       image =
-          subst (CandidateImage (block .area) c)
+          subst (CandidateImage (container .area) c)
           (sym
-          (decoded-image (block .area) (recordAt candidateWidth ws i) (recordAt candidateWidth (imageCandidates (block .area) ws) i) (record-words (block .area) ws i h)
+          (decoded-image (container .area) (recordAt candidateWidth ws i) (recordAt candidateWidth (imageCandidates (container .area) ws) i) (record-words (container .area) ws i h)
           (edge-there n ws g i h) (fallback-there n ws g i h)))
-          (image-is-exact block c hb quarter);
+          (image-is-exact container c hb quarter);
       quarter = quarter;
       there = node-there n ws g i h;
     })

@@ -44,7 +44,7 @@ unread-fair {before} {a} m u alike =
       alike = alike;
       words = λ e. no u e;
       quarters = λ e. no u (accepted-read a e);
-      unclaimed = λ e. no u (accepted-read a e);
+      surfacesNone = λ e. no u (accepted-read a e);
     }
 
 -- the same reply to both, with their own slices
@@ -56,7 +56,7 @@ own-fair reply surfaced surfaced' same quarters unclaimed =
       alike = record { reply = refl; surfaced = rw same refl; slices = refl };
       words = λ e. record { slices = refl; imageSlices = refl; surfaced = same };
       quarters = λ e. quarters;
-      unclaimed = λ e. unclaimed;
+      surfacesNone = λ e. unclaimed;
     }
 
 all-fair : AllFair table (opened panel four lent) replies

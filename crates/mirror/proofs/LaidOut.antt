@@ -40,13 +40,13 @@ use Rattle.mirror.proofs.Surfaced.{none-kept, count}
 abbrev pub placedOf : List ℕ → Own → Counts → Replies → Rect → OofBoxLayout
 placedOf styles p c replies overflow =
     let box = boxOf p (c .begun - 1) in
-    layoutAfter (p .block) (styleAt styles (box .node)) box replies overflow
+    layoutAfter (p .container) (styleAt styles (box .node)) box replies overflow
 
 -- what a run has for itself after it, no box that it surfaces being claimed
 abbrev pub after : List ℕ → ContainingBlockClaims → Counts → List ℕ → OofBoxLayout → Own → Own
 after styles by c surfaced placed p =
     record {
-      block = p .block;
+      container = p .container;
       overflow = unionOf (p .overflow) (placed .contribution);
       layouts = written (p .layouts) (layoutWidth * boxOf p (c .begun - 1) .node) (layoutWords (placed .layout));
       working = p .working;
@@ -82,8 +82,8 @@ module _ (ws : List ℕ) (n node : ℕ) (long : length ws ≡ layoutWidth * n) (
 
 module _ (f : Frame) (c : Counts) (p p' : Own) (lists : Lists f (c .filled) p p') (begun : 0 < c .begun) (waiting : c .begun ≤ c .filled .working)
     (long : length (p .layouts) ≡ layoutWidth * items (f .styles)) (long' : length (p' .layouts) ≡ layoutWidth * items (f .styles))
-    (by : ContainingBlockClaims) (surfaced : List ℕ) (placed placed' : OofBoxLayout) (read : Read (f .block .area) (placed .layout) (placed' .layout)) where
-  ready : (i : ℕ) → i < c .begun → Ready (f .block .area) (items (f .styles)) (boxOf p i) (boxOf p' i)
+    (by : ContainingBlockClaims) (surfaced : List ℕ) (placed placed' : OofBoxLayout) (read : Read (f .container .area) (placed .layout) (placed' .layout)) where
+  ready : (i : ℕ) → i < c .begun → Ready (f .container .area) (items (f .styles)) (boxOf p i) (boxOf p' i)
   ready i h = first-each (c .filled .working) (p .working) (p' .working) (lists .claimed) i (omega arith)
 
   here : ℕ
@@ -122,7 +122,7 @@ module _ (f : Frame) (c : Counts) (p p' : Own) (lists : Lists f (c .filled) p p'
               go false e = let l = ltb-false i (n - 1) e in absurd (d (omega arith))
 
       go : (b : Bool) → eqb (boxOf p i .node) here ≡ b
-          → MirroredLayout (f .block .area) (layoutOf (recordAt layoutWidth (written (p .layouts) (layoutWidth * here) (layoutWords (placed .layout))) (boxOf p i .node)))
+          → MirroredLayout (f .container .area) (layoutOf (recordAt layoutWidth (written (p .layouts) (layoutWidth * here) (layoutWords (placed .layout))) (boxOf p i .node)))
           (layoutOf (recordAt layoutWidth (written (p' .layouts) (layoutWidth * here') (layoutWords (placed' .layout))) (boxOf p' i .node)))
       go true e =
           let k = eqb-true (boxOf p i .node) here e in

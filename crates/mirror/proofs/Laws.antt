@@ -10,10 +10,10 @@ use borrow.Author.Tests.{ltb-true, ltb-false, le-ltb, eqb-true, eqb-false, ne-eq
 use Rattle.records.specs.Records.{recordAt}
 use Rattle.tree_record.specs.Candidate.{candidateWidth}
 use Rattle.style_record.specs.Record.{styleWords}
-use Rattle.mirror.specs.Image.{eachRecord, otherDirection, across, directionWord, imageStyle, imageStyles, imageCandidates}
+use Rattle.mirror.specs.Image.{eachRecord, otherDirection, counterpart, directionWord, imageStyle, imageStyles, imageCandidates}
 use Rattle.mirror.specs.Laws.{ImageIsAsLong, PartStays, StylesTwice, StylesPass, StylesDecode, CandidatesPass, CandidatesDecode}
 use Rattle.mirror.proofs.Words.{listed-word, each-length, each-word}
-use Rattle.mirror.proofs.Across.{across-there, across-twice, moved}
+use Rattle.mirror.proofs.Counterpart.{counterpart-there, counterpart-twice, moved}
 use Rattle.mirror.proofs.Styles as styles
 use Rattle.mirror.proofs.Candidates.{same-candidates, decoded-image, record-words}
 use Rattle.mirror.proofs.Claimed.{edge-there, fallback-there}
@@ -44,14 +44,14 @@ direction-twice (suc (suc d)) = rw (above 0 (omega arith), above 1 (omega arith)
 
 -- a record, its image, and the image of that
 image-twice : (r r' : ℕ → ℕ) → ((k : ℕ) → k < styleWords → r' k ≡ imageStyle r k) → (k : ℕ) → k < styleWords → imageStyle r' k ≡ r k
-unfolding imageStyle across
+unfolding imageStyle counterpart
 image-twice r r' same k h = go (eqb k directionWord) refl
   where
     go : (b : Bool) → eqb k directionWord ≡ b → imageStyle r' k ≡ r k
     go true e = let d = eqb-true k directionWord e in rw (d, same directionWord (omega arith)) (direction-twice (r 48))
     go false e =
         let d = eqb-false k directionWord e in
-        moved r' k d ∙ same (across k) (across-there k h) ∙ moved r (across k) (λ x. d (sym (across-twice k) ∙ ap across x)) ∙ ap r (across-twice k)
+        moved r' k d ∙ same (counterpart k) (counterpart-there k h) ∙ moved r (counterpart k) (λ x. d (sym (counterpart-twice k) ∙ ap counterpart x)) ∙ ap r (counterpart-twice k)
 
 pub styles-twice : StylesTwice
 styles-twice ws = ext-getD 0 (imageStyles (imageStyles ws)) ws (as-long ∙ each-length styleWords imageStyle ws) word

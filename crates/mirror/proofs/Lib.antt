@@ -1,5 +1,5 @@
 pub mod Words
-pub mod Across
+pub mod Counterpart
 pub mod Styles
 pub mod Lists
 pub mod Candidates

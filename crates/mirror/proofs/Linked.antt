@@ -28,8 +28,8 @@ use Rattle.run.specs.declared.Answer.{Answer}
 use Rattle.run.specs.Call.{Lent, Outcome}
 use Rattle.run.specs.Refusals.{badStyle, badCandidate}
 use Rattle.run.specs.Run.{extentsOf}
-use Rattle.mirror_box.specs.Image.{imageBlock}
-use Rattle.mirror_box.specs.Quarter.{QuarterBlock, QuarterStyle, QuarterCandidate, QuarterReplies}
+use Rattle.mirror_box.specs.Image.{imageContainer}
+use Rattle.mirror_box.specs.Quarter.{QuarterContainer, QuarterStyle, QuarterCandidate, QuarterReplies}
 use Rattle.mirror_box.specs.Mirrored.{CandidateImage, MirroredLayout, SameRect}
 use Rattle.mirror.specs.Image.{imageStyles}
 use Rattle.mirror.specs.Runs.{SameAnswer, Each, none, one, Unclaimed, MirroredRuns}
@@ -39,14 +39,14 @@ use Rattle.mirror.proofs.Lists.{each-weaker}
 -- ---- what never changes
 
 pub record Frame : Type 0 where
-  pub block : ContainingBlock
+  pub container : ContainingBlock
   pub styles : List ℕ
   pub extents : Extents
   pub atOpening : ℕ
 
 -- as demand 3 asks, of a table that passes refusal 3
 pub record QuarterFrame (f : Frame) : Type 0 where
-  pub block : QuarterBlock (f .block)
+  pub container : QuarterContainer (f .container)
   pub style : badStyle (f .styles) ≡ false → (i : ℕ) → i < items (f .styles) → QuarterStyle (styleAt (f .styles) i)
 
 -- ---- what the two share, and what each has for itself
@@ -58,7 +58,7 @@ pub record Shared : Type 0 where
   pub claims : ContainingBlockClaims
 
 pub record Own : Type 0 where
-  pub block : ContainingBlock
+  pub container : ContainingBlock
   pub overflow : Rect
   pub layouts : List ℕ
   pub working : List ℕ
@@ -71,7 +71,7 @@ stateOf f s p =
       replies = s .replies;
       counts = s .counts;
       overflow = p .overflow;
-      opened = record { block = p .block; claims = s .claims; extents = f .extents };
+      opened = record { container = p .container; claims = s .claims; extents = f .extents };
     }
 
 abbrev pub outcomeOf : Frame → Shared → Own → Answer → Outcome
@@ -98,18 +98,18 @@ layoutAt p node = layoutOf (recordAt layoutWidth (p .layouts) node)
 pub record Lists (f : Frame) (filled : Filled) (p p' : Own) : Type 0 where
   pub lengths : extentsOf (slicesOf (f .styles) p) ≡ f .extents
   pub lengths' : extentsOf (slicesOf (imageStyles (f .styles)) p') ≡ f .extents
-  pub claimed : Each (Ready (f .block .area) (items (f .styles))) (firstCandidates (filled .working) (p .working)) (firstCandidates (filled .working) (p' .working))
+  pub claimed : Each (Ready (f .container .area) (items (f .styles))) (firstCandidates (filled .working) (p .working)) (firstCandidates (filled .working) (p' .working))
   pub good : badCandidate (f .styles) (p .working) (filled .working) ≡ false
   pub good' : badCandidate (imageStyles (f .styles)) (p' .working) (filled .working) ≡ false
-  pub unclaimed : Unclaimed (f .block .area) (f .atOpening) (firstCandidates (filled .unclaimed) (p .unclaimed)) (firstCandidates (filled .unclaimed) (p' .unclaimed))
+  pub unclaimed : Unclaimed (f .container .area) (f .atOpening) (firstCandidates (filled .unclaimed) (p .unclaimed)) (firstCandidates (filled .unclaimed) (p' .unclaimed))
 
 -- the boxes laid out
 abbrev pub Laid : Frame → ℕ → Own → Own → Type 0
-Laid f n p p' = (i : ℕ) → i < n → MirroredLayout (f .block .area) (layoutAt p (boxOf p i .node)) (layoutAt p' (boxOf p' i .node))
+Laid f n p p' = (i : ℕ) → i < n → MirroredLayout (f .container .area) (layoutAt p (boxOf p i .node)) (layoutAt p' (boxOf p' i .node))
 
 -- while a question is open, each has its block: so it isn't after a refused opening
 abbrev pub Blocks : Frame → Own → Own → Type 0
-Blocks f p p' = (p .block ≡ f .block) × (p' .block ≡ imageBlock (f .block))
+Blocks f p p' = (p .container ≡ f .container) × (p' .container ≡ imageContainer (f .container))
 
 pub record Links (f : Frame) (s : Shared) (p p' : Own) : Type 0 where
   pub lists : Lists f (s .counts .filled) p p'
@@ -132,7 +132,7 @@ same-nodes : {area : OofPositioningArea} {n : ℕ} {cs cs' : List OofCandidate} 
 same-nodes none = refl
 same-nodes (one {cs = cs} {cs' = cs'} r e) = rw (r .image .node, same-nodes e) refl
 
-pub mirrored : {f : Frame} {o o' : Outcome} → Linked f o o' → MirroredRuns (f .block .area) (f .atOpening) o o'
+pub mirrored : {f : Frame} {o o' : Outcome} → Linked f o o' → MirroredRuns (f .container .area) (f .atOpening) o o'
 mirrored (linked s p p' h a) =
     record {
       answer = a;

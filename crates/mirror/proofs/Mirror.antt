@@ -95,7 +95,7 @@ module _ (f : Frame) (q : QuarterFrame f) where
         go true u = unread l l' (fair .alike .surfaced) (fair .alike .slices) u
         go false u =
             let same = fair .words u in
-            rw (same .slices, same .imageSlices) (read (same .surfaced) (subst IfAccepted (same .slices) (λ e. (fair .quarters e, fair .unclaimed e))))
+            rw (same .slices, same .imageSlices) (read (same .surfaced) (subst IfAccepted (same .slices) (λ e. (fair .quarters e, fair .surfacesNone e))))
 
   pub one-reply : {o o' : Outcome} (m : Message) → Linked f o o' → Fair (o .step .state) (runNext (f .styles) o m .step .answer) m
       → Linked f (runNext (f .styles) o m) (imageNext (imageStyles (f .styles)) o' m)

@@ -29,7 +29,7 @@ use Rattle.mirror.proofs.Linked.{Frame, QuarterFrame, Shared, Own, outc
 use Rattle.mirror.proofs.Box.{asked-same}
 
 abbrev pub openedOf : Frame → ContainingBlockClaims → Own → Opened
-openedOf f by p = record { block = p .block; claims = by; extents = f .extents }
+openedOf f by p = record { container = p .container; claims = by; extents = f .extents }
 
 -- a step, and the words that it leaves
 abbrev pub leaving : Step → Own → Outcome
@@ -38,7 +38,7 @@ leaving step p = record { step = step; layouts = p .layouts; working = p .workin
 module _ (f : Frame) (q : QuarterFrame f) (style : badStyle (f .styles) ≡ false) (by : ContainingBlockClaims) (p p' : Own) (blocks : Blocks f p p') (overflow : SameRect (p .overflow) (p' .overflow)) where
   -- a box of the working list, and its image
   pub ready-at : (c : Counts) → Lists f (c .filled) p p' → 0 < c .begun → c .begun ≤ c .filled .working
-      → Ready (f .block .area) (items (f .styles)) (boxOf p (c .begun - 1)) (boxOf p' (c .begun - 1))
+      → Ready (f .container .area) (items (f .styles)) (boxOf p (c .begun - 1)) (boxOf p' (c .begun - 1))
   ready-at c lists h l = first-each (c .filled .working) (p .working) (p' .working) (lists .claimed) (c .begun - 1) (omega arith)
 
   -- both ask
@@ -50,7 +50,7 @@ module _ (f : Frame) (q : QuarterFrame f) (style : badStyle (f .styles) ≡ fals
   asks-linked c replies lists laid given h l =
       let b = boxOf p (c .begun - 1) in
       let b' = boxOf p' (c .begun - 1) in
-      at (askedAfter (p .block) (styleAt (f .styles) (b .node)) b replies) (askedAfter (p' .block) (styleAt (imageStyles (f .styles)) (b' .node)) b' replies)
+      at (askedAfter (p .container) (styleAt (f .styles) (b .node)) b replies) (askedAfter (p' .container) (styleAt (imageStyles (f .styles)) (b' .node)) b' replies)
       (asked-same f q p p' blocks style b b' (ready-at c lists h l) replies given)
     where
       shared : Stage → Shared

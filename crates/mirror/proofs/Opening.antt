@@ -31,11 +31,11 @@ use Rattle.run.specs.declared.Step.{Step}
 use Rattle.run.specs.declared.Answer.the-variants.{Refused}
 use Rattle.run.specs.Call.{Lent, Outcome, unwritten}
 use Rattle.run.specs.Refusals.{Verdict, accepted, refused, badArea, badStyle, badCandidate}
-use Rattle.run.specs.Run.{claimsOf, blockOf, extentsOf, asking, finishing, proceeding, openingVerdict, closed, begun, openedBy, opened}
+use Rattle.run.specs.Run.{claimsOf, containerOf, extentsOf, asking, finishing, proceeding, openingVerdict, closed, begun, openedBy, opened}
 use Rattle.run.proofs.Ways.{neither, NextWay, asks, ends, next-way}
 use Rattle.exact.proofs.Same.{zero-same, equal}
 use Rattle.mirror_box.specs.Image as box
-use Rattle.mirror_box.specs.Quarter.{QuarterBlock, QuarterStyle}
+use Rattle.mirror_box.specs.Quarter.{QuarterContainer, QuarterStyle}
 use Rattle.mirror_box.specs.Mirrored.{SameRect}
 use Rattle.mirror.specs.Image.{imageOpening, imageStyles, imageCandidates}
 use Rattle.mirror.specs.Quarter.{QuarterArea, QuarterItem, QuarterTable, QuarterCandidates}
@@ -50,7 +50,7 @@ use Rattle.mirror.proofs.Next.{openedOf, leaving, proceeds-linked}
 
 -- ---- what demand 3 asks, as the law of one box asks it
 
-pub quarter-block : (o : Opening) → QuarterArea (o .area) → QuarterBlock (blockOf o)
+pub quarter-block : (o : Opening) → QuarterArea (o .area) → QuarterContainer (containerOf o)
 quarter-block o h = record { width = h .width; notZero = h .notZero; offset = h .x }
 
 pub quarter-style : (styles : List ℕ) → badStyle styles ≡ false → (i : ℕ) → i < items styles → QuarterItem (item styles i) → QuarterStyle (styleAt styles i)
@@ -97,7 +97,7 @@ held-at-opening o candidates lent = same-filled (lent .styles) _ _ _ zeroRect
 
 module _ (o : Opening) (candidates : List ℕ) (lent : Lent) (layouts working unclaimed : List ℕ) where
   abbrev pub frame : Frame
-  frame = record { block = blockOf o; styles = lent .styles; extents = extentsOf lent; atOpening = unclaimedAtOpening o candidates lent }
+  frame = record { container = containerOf o; styles = lent .styles; extents = extentsOf lent; atOpening = unclaimedAtOpening o candidates lent }
 
   -- the image's slices
   abbrev pub imageLent : Lent
@@ -122,7 +122,7 @@ module _ (o : Opening) (candidates : List ℕ) (lent : Lent) (layouts working un
     over = record { progress = Finished; replies = noReplies; counts = record { filled = record { working = 0; unclaimed = 0 }; begun = 0; answered = 0 }; claims = record { absolute = false; fixed = false } }
 
     abbrev untouched : Lent → Own
-    untouched lent = record { block = nobodys; overflow = zeroRect; layouts = lent .layouts; working = lent .working; unclaimed = lent .unclaimed }
+    untouched lent = record { container = nobodys; overflow = zeroRect; layouts = lent .layouts; working = lent .working; unclaimed = lent .unclaimed }
 
     no-records : (styles w : List ℕ) → badCandidate styles w 0 ≡ false
     unfolding badCandidate goodRecords every
@@ -130,7 +130,7 @@ module _ (o : Opening) (candidates : List ℕ) (lent : Lent) (layouts working un
 
     closed-as : (r : Refusal) → unwritten imageLent (record { state = closed imageLent; answer = Refused r }) ≡ outcomeOf frame over (untouched imageLent) (Refused r)
     unfolding closed nobodys
-    closed-as r = ap (λ (e : Extents). outcomeOf (record { block = blockOf o; styles = lent .styles; extents = e; atOpening = unclaimedAtOpening o candidates lent }) over (untouched imageLent) (Refused r)) (sym same)
+    closed-as r = ap (λ (e : Extents). outcomeOf (record { container = containerOf o; styles = lent .styles; extents = e; atOpening = unclaimedAtOpening o candidates lent }) over (untouched imageLent) (Refused r)) (sym same)
 
     turned-down : (r : Refusal) → openingVerdict o candidates lent ≡ refused r
         → Linked frame (unwritten lent (record { state = closed lent; answer = Refused r })) (unwritten imageLent (record { state = closed imageLent; answer = Refused r }))
@@ -169,11 +169,11 @@ module _ (o : Opening) (candidates : List ℕ) (lent : Lent) (layouts working un
 
     -- what each run has for itself
     abbrev first : Own
-    first = record { block = blockOf o; overflow = zeroRect; layouts = lent .layouts; working = appended (lent .working) 0 (inList true); unclaimed = appended (lent .unclaimed) 0 (inList false) }
+    first = record { container = containerOf o; overflow = zeroRect; layouts = lent .layouts; working = appended (lent .working) 0 (inList true); unclaimed = appended (lent .unclaimed) 0 (inList false) }
 
     abbrev second : Own
     second =
-        record { block = blockOf (imageOpening o); overflow = zeroRect; layouts = layouts; working = appended working 0 (inImage true); unclaimed = appended unclaimed 0 (inImage false) }
+        record { container = containerOf (imageOpening o); overflow = zeroRect; layouts = layouts; working = appended working 0 (inImage true); unclaimed = appended unclaimed 0 (inImage false) }
 
     abbrev counts : Counts
     counts = record { filled = record { working = length (inList true); unclaimed = length (inList false) }; begun = 0; answered = 0 }
@@ -186,7 +186,7 @@ module _ (o : Opening) (candidates : List ℕ) (lent : Lent) (layouts working un
         with : Extents → ℕ → ℕ → Outcome
         with e m n =
             leaving
-            (proceeding (imageStyles (lent .styles)) (second .working) (record { block = second .block; claims = by; extents = e }) (record { filled = record { working = m; unclaimed = n }; begun = 0; answered = 0 }) zeroRect)
+            (proceeding (imageStyles (lent .styles)) (second .working) (record { container = second .container; claims = by; extents = e }) (record { filled = record { working = m; unclaimed = n }; begun = 0; answered = 0 }) zeroRect)
             second
 
         alike : (e e' : Extents) (m m' n n' : ℕ) → e ≡ e' → m ≡ m' → n ≡ n' → with e m n ≡ with e' m' n'
@@ -194,20 +194,20 @@ module _ (o : Opening) (candidates : List ℕ) (lent : Lent) (layouts working un
 
     module _ (area : QuarterArea (o .area)) (table : QuarterTable (lent .styles)) (quarter : QuarterCandidates candidates) where
       pub quarter-frame : QuarterFrame frame
-      quarter-frame = record { block = quarter-block o area; style = λ e i h. quarter-style (lent .styles) e i h (table i h) }
+      quarter-frame = record { container = quarter-block o area; style = λ e i h. quarter-style (lent .styles) e i h (table i h) }
 
       module _ (d : openingVerdict o candidates lent ≡ accepted) (passed : OpeningPassed o candidates lent) (passed' : OpeningPassed (imageOpening o) image imageLent) where
         direction-there : o .direction < 2
         unfolding badArea
         direction-there = let e = ltb-false 1 (o .direction) (neither _ _ (neither _ _ (neither _ _ (passed .area) .0) .0) .0) in omega arith
 
-        image-block : blockOf (imageOpening o) ≡ box.imageBlock (blockOf o)
-        unfolding box.imageBlock
+        image-block : containerOf (imageOpening o) ≡ box.imageContainer (containerOf o)
+        unfolding box.imageContainer
         image-block = rw (direction-decoded (o .direction) direction-there) refl
 
         ready : (list : Bool) → Each (Ready (o .area) (items (lent .styles))) (inList list) (inImage list)
         ready list =
-            each-kept by list (λ c c' r. sym (r .image .position)) (all-ready (blockOf o) (quarter-block o area) (items (lent .styles)) candidates (passed .candidate) quarter)
+            each-kept by list (λ c c' r. sym (r .image .position)) (all-ready (containerOf o) (quarter-block o area) (items (lent .styles)) candidates (passed .candidate) quarter)
 
         image-back : (list : Bool) (w : List ℕ) → candidateWidth * (0 + length (inImage list)) ≤ length w → firstCandidates (length (inList list)) (appended w 0 (inImage list)) ≡ inImage list
         image-back list w room = rw (kept-alike list) (slice-back by image w list room)

@@ -20,8 +20,8 @@ use Rattle.oof_box.specs.Cut.{layoutAfter}
 use Rattle.oof_box.specs.declared.question.Replies.{Replies}
 use Rattle.exact.proofs.Same.{Same, equal}
 use Rattle.mirror_axis.proofs.Facing.{start-is-end, end-is-start}
-use Rattle.mirror_box.specs.Image.{exchangedRect, imageBlock, imageStyle}
-use Rattle.mirror_box.specs.Quarter.{QuarterBlock, QuarterStyle, QuarterCandidate, QuarterReplies, QuarterOverflow}
+use Rattle.mirror_box.specs.Image.{exchangedRect, imageContainer, imageStyle}
+use Rattle.mirror_box.specs.Quarter.{QuarterContainer, QuarterStyle, QuarterCandidate, QuarterReplies, QuarterOverflow}
 use Rattle.mirror_box.specs.Mirrored.{CandidateImage, MirrorSum, MirroredLayout}
 use Rattle.mirror_box.proofs.Bounds.{lengthBound, staticBound, fitBound}
 use Rattle.mirror_box.proofs.Resolve.{resolved-shared}
@@ -83,14 +83,14 @@ module _ (area : OofPositioningArea) (l l' : Layout) (m : MirroredLayout area l 
 
 -- ---- a box laid out
 
-module _ (block : ContainingBlock) (style : Style) (c c' : OofCandidate) (r : Replies) (overflow : Rect) (hb : QuarterBlock block) (hs : QuarterStyle style) (hc : QuarterCandidate c)
-    (hi : CandidateImage (block .area) c c') (q : QuarterReplies r) (qo : QuarterOverflow overflow) where
-  held : Held (layoutAfter block style c r overflow .layout) (layoutAfter (imageBlock block) (imageStyle style) c' r overflow .layout)
+module _ (container : ContainingBlock) (style : Style) (c c' : OofCandidate) (r : Replies) (overflow : Rect) (hb : QuarterContainer container) (hs : QuarterStyle style) (hc : QuarterCandidate c)
+    (hi : CandidateImage (container .area) c c') (q : QuarterReplies r) (qo : QuarterOverflow overflow) where
+  held : Held (layoutAfter container style c r overflow .layout) (layoutAfter (imageContainer container) (imageStyle style) c' r overflow .layout)
   unfolding layoutAfter place.boxLayout place.layoutOf
   held =
-      let b = resolvedBox block style c in
-      let b' = resolvedBox (imageBlock block) (imageStyle style) c' in
-      let h = resolved-shared block style c c' hb hs hc hi in
+      let b = resolvedBox container style c in
+      let b' = resolvedBox (imageContainer container) (imageStyle style) c' in
+      let h = resolved-shared container style c c' hb hs hc hi in
       let size = size-by style hs b b' h (keywords-shared style hs b b' h) r q in
       record {
         width = size .width;
@@ -100,5 +100,5 @@ module _ (block : ContainingBlock) (style : Style) (c c' : OofCandidate) (r : Re
         x' = add-fits binary32 _ _;
       }
 
-  pub layouts-read : Read (block .area) (layoutAfter block style c r overflow .layout) (layoutAfter (imageBlock block) (imageStyle style) c' r overflow .layout)
-  layouts-read = read-back (block .area) _ _ (lays-out-mirrored block style c c' r overflow hb hs hc hi q qo .layout) held
+  pub layouts-read : Read (container .area) (layoutAfter container style c r overflow .layout) (layoutAfter (imageContainer container) (imageStyle style) c' r overflow .layout)
+  layouts-read = read-back (container .area) _ _ (lays-out-mirrored container style c c' r overflow hb hs hc hi q qo .layout) held

@@ -91,10 +91,10 @@ module _ (f : Frame) (q : QuarterFrame f) (s : Shared) (p p' : Own) (links : Lin
       blocks : Blocks f p p'
       blocks = links .blocks stage asked
 
-      ready : Ready (f .block .area) (items (f .styles)) (boxOf p (s .counts .begun - 1)) (boxOf p' (s .counts .begun - 1))
+      ready : Ready (f .container .area) (items (f .styles)) (boxOf p (s .counts .begun - 1)) (boxOf p' (s .counts .begun - 1))
       ready = ready-at f q (passed .style) (s .claims) p p' blocks (links .overflow) (s .counts) (links .lists) (passed .begun) (passed .waiting)
 
-      mirrored-box : MirroredBox (f .block .area) placed placed'
+      mirrored-box : MirroredBox (f .container .area) placed placed'
       mirrored-box =
           laid-same f q p p' blocks (passed .style) (boxOf p (s .counts .begun - 1)) (boxOf p' (s .counts .begun - 1)) ready (s .replies) (links .replies) overflow given
 

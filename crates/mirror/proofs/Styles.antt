@@ -17,9 +17,9 @@ use Rattle.style_record.specs.declared.check.TableCheck.{TableCheck}
 use Rattle.style_record.proofs.First.{TableIs, good, bad, table-is}
 use Rattle.run.specs.Refusals.{isBad, badStyle}
 use Rattle.mirror_box.specs.Image as box
-use Rattle.mirror.specs.Image.{otherDirection, across, imageStyle, imageStyles}
+use Rattle.mirror.specs.Image.{otherDirection, counterpart, imageStyle, imageStyles}
 use Rattle.mirror.proofs.Words.{each-length, each-word}
-use Rattle.mirror.proofs.Across.{across-there, across-twice, image-breaks}
+use Rattle.mirror.proofs.Counterpart.{counterpart-there, counterpart-twice, image-breaks}
 
 -- ---- two records with the same words
 
@@ -77,7 +77,7 @@ direction-decoded (suc zero) h = refl
 direction-decoded (suc (suc d)) h = absurd (omega arith)
 
 image-decoded : (r : ℕ → ℕ) → r 48 < 2 → styleOf (imageStyle r) ≡ box.imageStyle (styleOf r)
-unfolding styleOf rectAt sizeAt lengthAt floatAt ratioAt alignAt overflowAt imageStyle across box.imageStyle box.exchangedLengths
+unfolding styleOf rectAt sizeAt lengthAt floatAt ratioAt alignAt overflowAt imageStyle counterpart box.imageStyle box.exchangedLengths
 image-decoded r h = rw (direction-decoded (r 48) h) refl
 
 -- ---- a table
@@ -91,16 +91,16 @@ module _ (ws : List ℕ) where
   unfolding items
   item-word i h k l = each-word styleWords imageStyle ws i k l h
 
-  item-breaks : (i k : ℕ) → i < items ws → k < styleWords → breaks (imageStyles ws) i k ≡ breaks ws i (across k)
+  item-breaks : (i k : ℕ) → i < items ws → k < styleWords → breaks (imageStyles ws) i k ≡ breaks ws i (counterpart k)
   unfolding breaks
   item-breaks i k h l = same-rule (item (imageStyles ws) i) (imageStyle (item ws i)) (item-word i h) k l ∙ image-breaks (item ws i) k
 
   image-good : NoneBreaks ws → NoneBreaks (imageStyles ws)
-  image-good g i h k l = let j : i < items ws = rw items-kept at h in item-breaks i k j l ∙ g i j (across k) (across-there k l)
+  image-good g i h k l = let j : i < items ws = rw items-kept at h in item-breaks i k j l ∙ g i j (counterpart k) (counterpart-there k l)
 
   good-image : NoneBreaks (imageStyles ws) → NoneBreaks ws
   good-image g i h k l =
-      ap (breaks ws i) (sym (across-twice k)) ∙ sym (item-breaks i (across k) h (across-there k l)) ∙ g i (rw items-kept h) (across k) (across-there k l)
+      ap (breaks ws i) (sym (counterpart-twice k)) ∙ sym (item-breaks i (counterpart k) h (counterpart-there k l)) ∙ g i (rw items-kept h) (counterpart k) (counterpart-there k l)
 
   pub same-check : badStyle (imageStyles ws) ≡ badStyle ws
   unfolding badStyle

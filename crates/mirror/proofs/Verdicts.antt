@@ -29,7 +29,7 @@ use Rattle.run.specs.Run.{extentsOf, claimsOf, noneFilled, openingVerdict, take
 use Rattle.run.proofs.Ways.{passed, neither}
 use Rattle.mirror.specs.Image.{imageOpening, imageStyles, imageCandidates, imageCandidate}
 use Rattle.mirror.proofs.Words as words
-use Rattle.mirror.proofs.Across.{direction-code}
+use Rattle.mirror.proofs.Counterpart.{direction-code}
 use Rattle.mirror.proofs.Styles.{items-kept, same-check}
 use Rattle.mirror.proofs.Candidates.{same-candidates}
 

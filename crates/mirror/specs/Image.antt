@@ -43,14 +43,14 @@ abbrev pub directionWord : ℕ
 directionWord = afterLengths + 4
 
 -- the place across from a word's: of a left length's word that of the right one's, tag for tag and value for value; and back
-unfoldable pub across : ℕ → ℕ
-across k =
+unfoldable pub counterpart : ℕ → ℕ
+counterpart k =
     cond (leb boxWords k) k
     (cond (ltb (k % sidesWords) lengthWords) (k + lengthWords)
     (cond (ltb (k % sidesWords) (2 * lengthWords)) (k - lengthWords) k))
 
 unfoldable pub imageStyle : (ℕ → ℕ) → ℕ → ℕ
-imageStyle word k = cond (eqb k directionWord) (otherDirection (word k)) (word (across k))
+imageStyle word k = cond (eqb k directionWord) (otherDirection (word k)) (word (counterpart k))
 
 -- ---- a candidate: its x area reflected, start and end exchanged in its edge and in its fallback edge
 

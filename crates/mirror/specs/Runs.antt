@@ -50,14 +50,14 @@ surfacedIn t = lentBy (t .heard .reply) (t .heard .surfaced)
 
 -- the lengths of the slices that are lent
 abbrev pub lengthsOf : Extents → Loan → Extents
-lengthsOf opened own = opened
-lengthsOf opened (other lent) = extentsOf lent
+lengthsOf atOpening own = atOpening
+lengthsOf atOpening (other lent) = extentsOf lent
 
 -- "the same kind, values and slice lengths for both"
-pub record Alike (opened : Extents) (t t' : Turn) : Type 0 where
+pub record Alike (atOpening : Extents) (t t' : Turn) : Type 0 where
   pub reply : t .heard .reply ≡ t' .heard .reply
   pub surfaced : length (surfacedIn t) ≡ length (surfacedIn t')
-  pub slices : lengthsOf opened (t .loan) ≡ lengthsOf opened (t' .loan)
+  pub slices : lengthsOf atOpening (t .loan) ≡ lengthsOf atOpening (t' .loan)
 
 -- "nobody else writes the lent words": both are lent their own slices. What a box surfaces is part of its reply: the same words for both
 pub record SameWords (t t' : Turn) : Type 0 where
@@ -78,7 +78,7 @@ pub record Fair (before : State) (answer : Answer) (m : Message) : Type 0 where
   pub words : isUnread answer ≡ false → SameWords (m .turn) (m .image)
   -- an accepted reply: its values are whole quarter pixels, and no box that it surfaces is claimed
   pub quarters : isRefused answer ≡ false → QuarterReply (m .turn .heard .reply)
-  pub unclaimed : isRefused answer ≡ false → claimed (before .opened .claims) (candidatesIn (surfacedIn (m .turn))) ≡ []
+  pub surfacesNone : isRefused answer ≡ false → claimed (before .opened .claims) (candidatesIn (surfacedIn (m .turn))) ≡ []
 
 -- each reply of a list, o being what the run's last call left
 abbrev pub AllFair : List ℕ → Outcome → List Message → Type 0

@@ -11,7 +11,7 @@ use Rattle.geometry.specs.declared.Line.{Line}
 use Rattle.tree.specs.declared.layout.AxisStaticEdge.{AxisStaticEdge}
 use Rattle.tree.specs.declared.layout.AxisStaticEdge.the-variants.{Start, Center, End}
 use Rattle.oof_axis.specs.declared.OofAxis.{OofAxis}
-use Rattle.oof_axis.specs.Axis.{endEdge, centeredBlock, staticBlock, insetBlock, weakerEdge, closedUp, repaired, block}
+use Rattle.oof_axis.specs.Axis.{centeredBlock, staticBlock, insetBlock, startIsWeaker, repaired, block}
 use Rattle.exact.specs.Integer.{N}
 use Rattle.exact.proofs.Tests.{pick}
 use Rattle.exact.proofs.Exact.{Exact, widen, eighths, zero-exact}
@@ -39,7 +39,6 @@ pub record ExactAxis (L A : ℕ) (a : OofAxis) (α : AxisN) : Type 0 where
   pub area : LineExact 4 A (a .place .area) (α .area)
 
 closed-exact : {b : ℕ} {l : Line} {m : LineN} (k : AxisStaticEdge) → LineExact 4 b l m → LineExact 4 b (closedUp k l) (closedN k m)
-unfolding closedUp
 closed-exact Start h = record { start = h .end; end = h .end }
 closed-exact Center h = record { start = h .start; end = h .start }
 closed-exact End h = record { start = h .start; end = h .start }
@@ -48,8 +47,8 @@ repaired-exact : {b : ℕ} {l : Line} {m : LineN} (k : AxisStaticEdge) → LineE
 unfolding repaired
 repaired-exact {b} k h = pick (LineExact 4 b) (lt-exact (h .end) (h .start)) (closed-exact k h) h
 
-pub weaker-is : (s e : MaybeF32) (a : OofAxis) → weakerEdge s e a ≡ weakerOf (present s) (present e) (a .reversed)
-unfolding weakerEdge endEdge present
+pub weaker-is : (s e : MaybeF32) (a : OofAxis) → startIsWeaker s e a ≡ weakerOf (present s) (present e) (a .reversed)
+unfolding startIsWeaker present
 weaker-is (Some x) (Some y) a = refl
 weaker-is (Some x) None a = refl
 weaker-is None (Some y) a = refl

@@ -18,7 +18,7 @@ use Rattle.tree.specs.declared.layout.AxisStaticEdge.the-variants.{Start, Cente
 use Rattle.oof_axis.specs.declared.OofAlignment.{OofAlignment}
 use Rattle.oof_axis.specs.declared.OofAlignment.the-variants as align
 use Rattle.oof_axis.specs.declared.OofAxis.{OofAxis}
-use Rattle.oof_axis.specs.Axis.{startEdge, endEdge, alignIn, alignEdge, isNormal, limit, keptWithin, selfAligned, staticAligned, positionIn, position, placement}
+use Rattle.oof_axis.specs.Axis.{alignIn, alignEdge, isNormal, limit, keptWithin, selfAligned, staticAligned, positionIn, position, placement}
 use Rattle.exact.specs.Integer.{N, addN}
 use Rattle.exact.proofs.Tests.{pick}
 use Rattle.exact.proofs.Integers.{subN, maxN, minN, ltN}
@@ -33,7 +33,7 @@ use Rattle.mirror_axis.proofs.ExactBlock.{LineExact, widen-line, ExactA
 use Rattle.mirror_axis.proofs.ExactMargins.{marginBound, margins-exact}
 
 align-is : (al : OofAlignment) (a : OofAxis) → alignEdge al a ≡ alignOf al (a .reversed)
-unfolding alignEdge startEdge endEdge
+unfolding alignEdge
 align-is align.Normal a = refl
 align-is align.Stretch a = refl
 align-is align.Start a = refl
@@ -60,8 +60,7 @@ module _ (L A S : ℕ) (room : 10 * L + 6 * A + S < 16777216) where
   align-exact Center h b = half-exact 1 (5 * L + 2 * A + S) (sub-exact (eighths (add-exact (h .start) (h .end) (omega arith))) b (omega arith)) (omega arith) (omega arith)
   align-exact End h b = widen (omega arith) (any (sub-exact (eighths (h .end)) b (omega arith)))
 
-  start-exact : {l : Line} {m : LineN} {box : Float} {v : N} (a : OofAxis) → InBlock l m → Box box v → Aligned (alignIn l box (startEdge a)) (alignN m v (startOf (a .reversed)))
-  unfolding startEdge
+  start-exact : {l : Line} {m : LineN} {box : Float} {v : N} (a : OofAxis) → InBlock l m → Box box v → Aligned (alignIn l box (startEdge (a .reversed))) (alignN m v (startOf (a .reversed)))
   start-exact a h b = align-exact (startOf (a .reversed)) h b
 
   -- ---- kept within the limit
@@ -113,7 +112,7 @@ module _ (L A S : ℕ) (room : 10 * L + 6 * A + S < 16777216) where
   self-exact Unsafe a k h hw b = align-exact k h b
   self-exact Safe {l} {m} {box} {ω} {v} a k h hw b = rw (lt-exact (span-of h) b) (go (ltN (spanN m) v))
     where
-      go : (t : Bool) → Aligned (alignIn l box (cond t (startEdge a) k)) (alignN m v (cond t (startOf (a .reversed)) k))
+      go : (t : Bool) → Aligned (alignIn l box (cond t (startEdge (a .reversed)) k)) (alignN m v (cond t (startOf (a .reversed)) k))
       go true = start-exact a h b
       go false = align-exact k h b
   self-exact Default a k h hw b =

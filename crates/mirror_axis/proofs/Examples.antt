@@ -21,7 +21,7 @@ use Rattle.tree.specs.declared.layout.AxisStaticEdge.the-variants.{Start, Cente
 use Rattle.oof_axis.specs.declared.OofAlignment.{OofAlignment}
 use Rattle.oof_axis.specs.declared.OofAlignment.the-variants as align
 use Rattle.oof_axis.specs.declared.OofAxis.{OofAxis}
-use Rattle.oof_axis.specs.Axis.{startEdge, endEdge, alignIn, centeredBlock, staticBlock, insetBlock, weakerEdge, closedUp, repaired, block, bothInsets, stretchFit, halves, filledMargins, margins, isNormal, alignEdge, limit, keptWithin, selfAligned, staticAligned, positionIn, position, placement}
+use Rattle.oof_axis.specs.Axis.{alignIn, centeredBlock, staticBlock, insetBlock, startIsWeaker, repaired, block, bothInsets, stretchFit, halves, filledMargins, margins, isNormal, alignEdge, limit, keptWithin, selfAligned, staticAligned, positionIn, position, placement}
 use Rattle.exact.specs.Integer.{N, zeroN}
 use Rattle.exact.specs.Value.{AddUp, Quarters}
 use Rattle.exact.proofs.Laws.{one-total}
@@ -75,7 +75,7 @@ both a size = placement a size .position to placement (image a) size .position
 -- each pair and its size make 100. The last box is larger than its block, of 60
 examples : both filled (px 100) ∷ both scrolling (px 101) ∷ both centered (px 30) ∷ both centered (px 80) ∷ []
     ≡ (px 10 to neg (px 10)) ∷ (half 59 to neg (half 61)) ∷ (px 55 to px 15) ∷ (px 20 to 0f) ∷ []
-unfolding add sub mul div neg lt le eq isNan ofBits ofInt zeroOf before larger smaller magnitude present unwrapOr startEdge endEdge alignIn centeredBlock staticBlock insetBlock weakerEdge closedUp repaired block bothInsets stretchFit halves filledMargins margins isNormal alignEdge limit keptWithin selfAligned staticAligned positionIn position placement image exchanged reflected reflectedPlace otherAlign otherEdge
+unfolding add sub mul div neg lt le eq isNan ofBits ofInt zeroOf before larger smaller magnitude present unwrapOr alignIn centeredBlock staticBlock insetBlock startIsWeaker repaired block bothInsets stretchFit halves filledMargins margins isNormal alignEdge limit keptWithin selfAligned staticAligned positionIn position placement image exchanged reflected reflectedPlace otherAlign otherEdge
 examples = refl
 
 -- the hypotheses can be met
@@ -101,11 +101,11 @@ abbrev narrow : OofAxis
 narrow = axisOf 0f None None None None (quarter to quarter) Center align.Normal Default false false
 
 spaces : stretchFit narrow ∷ stretchFit (image narrow) ∷ [] ≡ half 1 ∷ 0f ∷ []
-unfolding add sub mul div neg lt le eq isNan ofBits ofInt zeroOf before larger smaller magnitude present unwrapOr startEdge endEdge alignIn centeredBlock staticBlock insetBlock weakerEdge closedUp repaired block bothInsets stretchFit halves filledMargins margins isNormal alignEdge limit keptWithin selfAligned staticAligned positionIn position placement image exchanged reflected reflectedPlace otherAlign otherEdge
+unfolding add sub mul div neg lt le eq isNan ofBits ofInt zeroOf before larger smaller magnitude present unwrapOr alignIn centeredBlock staticBlock insetBlock startIsWeaker repaired block bothInsets stretchFit halves filledMargins margins isNormal alignEdge limit keptWithin selfAligned staticAligned positionIn position placement image exchanged reflected reflectedPlace otherAlign otherEdge
 spaces = refl
 
 not-mirrored : (size size' : Float) → Mirrored narrow (image narrow) size size' → ⊥
-unfolding add sub mul div neg lt le eq isNan ofBits ofInt zeroOf before larger smaller magnitude present unwrapOr startEdge endEdge alignIn centeredBlock staticBlock insetBlock weakerEdge closedUp repaired block bothInsets stretchFit halves filledMargins margins isNormal alignEdge limit keptWithin selfAligned staticAligned positionIn position placement image exchanged reflected reflectedPlace otherAlign otherEdge
+unfolding add sub mul div neg lt le eq isNan ofBits ofInt zeroOf before larger smaller magnitude present unwrapOr alignIn centeredBlock staticBlock insetBlock startIsWeaker repaired block bothInsets stretchFit halves filledMargins margins isNormal alignEdge limit keptWithin selfAligned staticAligned positionIn position placement image exchanged reflected reflectedPlace otherAlign otherEdge
 not-mirrored size size' h = false≢true (h .stretchFit)
 
 -- ---- the room
@@ -118,7 +118,7 @@ abbrev far : OofAxis
 far = axisOf quarter None None None None (high to high) Start align.Normal Default false false
 
 ends : block far .start ∷ block (image far) .end ∷ [] ≡ high ∷ neg high ∷ []
-unfolding add sub mul div neg lt le eq isNan sum round units odd size span climb ofBits ofInt zeroOf before larger smaller magnitude present unwrapOr startEdge endEdge alignIn centeredBlock staticBlock insetBlock weakerEdge closedUp repaired block bothInsets stretchFit halves filledMargins margins isNormal alignEdge limit keptWithin selfAligned staticAligned positionIn position placement image exchanged reflected reflectedPlace otherAlign otherEdge
+unfolding add sub mul div neg lt le eq isNan sum round units odd size span climb ofBits ofInt zeroOf before larger smaller magnitude present unwrapOr alignIn centeredBlock staticBlock insetBlock startIsWeaker repaired block bothInsets stretchFit halves filledMargins margins isNormal alignEdge limit keptWithin selfAligned staticAligned positionIn position placement image exchanged reflected reflectedPlace otherAlign otherEdge
 ends = refl
 
 -- they add up to 0, not to the width

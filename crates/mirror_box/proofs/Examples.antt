@@ -32,7 +32,7 @@ use Rattle.tree.specs.declared.layout.AxisStaticEdge.{AxisStaticEdge}
 use Rattle.tree.specs.declared.layout.AxisStaticEdge.the-variants.{Start, Center}
 use Rattle.tree.specs.declared.layout.AxisStaticPosition.{AxisStaticPosition}
 use Rattle.tree.specs.declared.layout.OofCandidate.{OofCandidate}
-use Rattle.oof_axis.specs.Axis.{fromResolved, startEdge, endEdge, alignIn, centeredBlock, staticBlock, insetBlock, weakerEdge, closedUp, repaired, block, bothInsets, stretchFit, stretching, stretches, isStretch, halves, filledMargins, margins, isNormal, alignEdge, limit, keptWithin, selfAligned, staticAligned, positionIn, position, placement}
+use Rattle.oof_axis.specs.Axis.{fromResolved, alignIn, centeredBlock, staticBlock, insetBlock, startIsWeaker, repaired, block, bothInsets, stretchFit, stretching, stretches, isStretch, halves, filledMargins, margins, isNormal, alignEdge, limit, keptWithin, selfAligned, staticAligned, positionIn, position, placement}
 use Rattle.oof_resolve.specs.Resolved.{ofWidth, ofEachAxis, lessOffset, horizontal, vertical, paddingOrBorder, styleSize, minSize, lessMargins, spaceFor, resolvedBox}
 use Rattle.oof_resolve.specs.declared.ContainingBlock.{ContainingBlock}
 use Rattle.common.specs.SizingKeyword.{byKeyword, ofResolved, keywordOf, absoluteStretch, ifAbsent, keywordsOf}
@@ -46,8 +46,8 @@ use Rattle.oof_box.specs.declared.question.FillReply.the-variants as fill
 use Rattle.oof_box.specs.declared.question.Replies.{Replies}
 use Rattle.exact.specs.Value.{Quarter}
 use Rattle.mirror_axis.specs.Image.{reflected, reflectedPlace, otherAlign, otherEdge}
-use Rattle.mirror_box.specs.Image.{otherDirection, exchangedLengths, imageBlock, imageStyle, edgeSum, imageCandidate}
-use Rattle.mirror_box.specs.Quarter.{QuarterBlock, QuarterCandidate}
+use Rattle.mirror_box.specs.Image.{otherDirection, exchangedLengths, imageContainer, imageStyle, edgeSum, imageCandidate}
+use Rattle.mirror_box.specs.Quarter.{QuarterContainer, QuarterCandidate}
 use Rattle.mirror_box.specs.Mirrored.{MirroredBox}
 use Rattle.mirror_box.proofs.Law.{lays-out-mirrored, image-is-exact}
 
@@ -85,8 +85,8 @@ w by h = record { width = w; height = h }
 
 -- ---- boxes
 
-abbrev blockOf : Float → Float → Direction → ContainingBlock
-blockOf w off d =
+abbrev containerOf : Float → Float → Direction → ContainingBlock
+containerOf w off d =
     record {
       area = record { size = record { width = w; height = whole 50 }; offset = record { x = off; y = 0f } };
       direction = d;
@@ -132,7 +132,7 @@ abbrev laid : ContainingBlock → Style → OofCandidate → Replies → OofBoxL
 laid b s c r = layoutAfter b s c r zeroRect
 
 abbrev laidImage : ContainingBlock → Style → OofCandidate → Replies → OofBoxLayout
-laidImage b s c r = layoutAfter (imageBlock b) (imageStyle s) (imageCandidate (b .area) c) r zeroRect
+laidImage b s c r = layoutAfter (imageContainer b) (imageStyle s) (imageCandidate (b .area) c) r zeroRect
 
 -- x, x of the image, width, and its width
 abbrev both : ContainingBlock → Style → OofCandidate → Replies → Rect
@@ -150,7 +150,7 @@ row x x' w = record { left = x; right = x'; top = w; bottom = w }
 -- ---- an area 100 wide at 8
 
 abbrev panel : ContainingBlock
-panel = blockOf (whole 100) (whole 8) Ltr
+panel = containerOf (whole 100) (whole 8) Ltr
 
 -- insets 10, 20; auto margins; measured for min-content
 abbrev filled : Style
@@ -167,7 +167,7 @@ static = styleOf (across auto auto) none none none (px 30 by px 20) None keyword
 -- ---- an area a quarter pixel wide at 0, where not all holds
 
 abbrev narrow : ContainingBlock
-narrow = blockOf (quarters 1) 0f Ltr
+narrow = containerOf (quarters 1) 0f Ltr
 
 -- the left border is 5 percent of the width
 abbrev percentage : Style
@@ -199,7 +199,7 @@ computed :
     × (eq (leftmost (laid narrow measured (candidateAt 0f Start) (replied tenth))) (leftmost (laidImage narrow measured (candidateAt 0f Start) (replied tenth))) ≡ false)
     × (laid panel filled (candidateAt 0f Start) noReplies .layout .padding ≡ record { left = whole 3; right = 0f; top = 0f; bottom = 0f })
     × (laidImage panel filled (candidateAt 0f Start) noReplies .layout .padding ≡ record { left = 0f; right = whole 3; top = 0f; bottom = 0f })
-unfolding add sub mul div neg lt le eq isNan ofBits ofInt zeroOf before larger smaller magnitude present orElse unwrapOr map mapAdd mapLarger atMost atLeast clamped mapClamped rectOrZero sumX sumY sums rectSum smallerSize definite bothPresent firstSize filledSize addedSize raisedSize clampedSize clampedFloats completed withRatio byTag resolved maybeResolved resolvedRect resolvedSize selfRelative clampedSpace clampedSpaces definiteSpaces fromResolved startEdge endEdge alignIn centeredBlock staticBlock insetBlock weakerEdge closedUp repaired block bothInsets stretchFit stretching stretches isStretch halves filledMargins margins isNormal alignEdge limit keptWithin selfAligned staticAligned positionIn position placement ofWidth ofEachAxis lessOffset horizontal vertical paddingOrBorder styleSize minSize lessMargins spaceFor resolvedBox byKeyword ofResolved keywordOf absoluteStretch ifAbsent keywordsOf propagates reach placedAt contribution keywordStretch sizeKeywords settled ignoresRatio stretchRatio widened heightened raisedMin stretched finalSize scrollbarOf layoutOf fromOrigin boxLayout knownBy stretchedBy sizeBy layoutAfter otherDirection exchangedLengths imageBlock imageStyle edgeSum imageCandidate reflected reflectedPlace otherAlign otherEdge
+unfolding add sub mul div neg lt le eq isNan ofBits ofInt zeroOf before larger smaller magnitude present orElse unwrapOr map mapAdd mapLarger atMost atLeast clamped mapClamped rectOrZero sumX sumY sums rectSum smallerSize definite bothPresent firstSize filledSize addedSize raisedSize clampedSize clampedFloats completed withRatio byTag resolved maybeResolved resolvedRect resolvedSize selfRelative clampedSpace clampedSpaces definiteSpaces fromResolved alignIn centeredBlock staticBlock insetBlock startIsWeaker repaired block bothInsets stretchFit stretching stretches isStretch halves filledMargins margins isNormal alignEdge limit keptWithin selfAligned staticAligned positionIn position placement ofWidth ofEachAxis lessOffset horizontal vertical paddingOrBorder styleSize minSize lessMargins spaceFor resolvedBox byKeyword ofResolved keywordOf absoluteStretch ifAbsent keywordsOf propagates reach placedAt contribution keywordStretch sizeKeywords settled ignoresRatio stretchRatio widened heightened raisedMin stretched finalSize scrollbarOf layoutOf fromOrigin boxLayout knownBy stretchedBy sizeBy layoutAfter otherDirection exchangedLengths imageContainer imageStyle edgeSum imageCandidate reflected reflectedPlace otherAlign otherEdge
 computed = (refl, refl, refl, refl, refl, refl)
 
 -- ---- the hypotheses can be met
@@ -211,7 +211,7 @@ met : MirroredBox (panel .area) (laid panel filled (candidateAt 0f Start) (repli
 unfolding ofBits ofInt eq
 met =
     let zero : Quarter 0f = exactly 0 tt (refl, refl) in
-    let hb : QuarterBlock panel = record { width = exactly 400 tt (refl, refl); notZero = false≢true; offset = exactly 32 tt (refl, refl) } in
+    let hb : QuarterContainer panel = record { width = exactly 400 tt (refl, refl); notZero = false≢true; offset = exactly 32 tt (refl, refl) } in
     let hc : QuarterCandidate (candidateAt 0f Start) = record { start = zero; end = zero } in
     lays-out-mirrored panel filled (candidateAt 0f Start) (imageCandidate (panel .area) (candidateAt 0f Start)) (replied (quarters 121)) zeroRect hb
     (record {

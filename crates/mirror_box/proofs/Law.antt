@@ -8,7 +8,7 @@ use Rattle.oof_place.specs.Placing.{boxLayout}
 use Rattle.oof_box.specs.Cut.{askedAfter, layoutAfter}
 use Rattle.exact.proofs.Quarters.{units, quarters-exact}
 use Rattle.mirror_axis.specs.Image.{reflected, reflectedPlace}
-use Rattle.mirror_box.specs.Image.{otherDirection, exchangedLengths, edgeSum, imageBlock, imageStyle, imageCandidate}
+use Rattle.mirror_box.specs.Image.{otherDirection, exchangedLengths, edgeSum, imageContainer, imageStyle, imageCandidate}
 use Rattle.mirror_box.specs.Law.{AsksMirrored, LaysOutMirrored, UnionsMirrored, ImageIsExact, TwiceIsOnce}
 use Rattle.mirror_box.proofs.Reflect.{edges, edges-total, mirrored-total}
 use Rattle.mirror_box.proofs.Resolve.{resolved-shared}
@@ -21,25 +21,25 @@ use Rattle.mirror_box.proofs.Union as union
 
 pub asks-mirrored : AsksMirrored
 unfolding askedAfter
-asks-mirrored block style candidate candidate' r hb hs hc hi q =
-    let box = resolvedBox block style candidate in
-    let box' = resolvedBox (imageBlock block) (imageStyle style) candidate' in
-    let h = resolved-shared block style candidate candidate' hb hs hc hi in
+asks-mirrored container style candidate candidate' r hb hs hc hi q =
+    let box = resolvedBox container style candidate in
+    let box' = resolvedBox (imageContainer container) (imageStyle style) candidate' in
+    let h = resolved-shared container style candidate candidate' hb hs hc hi in
     asked-of style hs box box' h (keywords-shared style hs box box' h) (sym (hi .node)) r q
 
 pub lays-out-mirrored : LaysOutMirrored
-unfolding layoutAfter boxLayout resolvedBox horizontal imageBlock imageStyle
-lays-out-mirrored block style candidate candidate' r overflow hb hs hc hi q qo =
-    let box = resolvedBox block style candidate in
-    let box' = resolvedBox (imageBlock block) (imageStyle style) candidate' in
-    let h = resolved-shared block style candidate candidate' hb hs hc hi in
+unfolding layoutAfter boxLayout resolvedBox horizontal imageContainer imageStyle
+lays-out-mirrored container style candidate candidate' r overflow hb hs hc hi q qo =
+    let box = resolvedBox container style candidate in
+    let box' = resolvedBox (imageContainer container) (imageStyle style) candidate' in
+    let h = resolved-shared container style candidate candidate' hb hs hc hi in
     let size = size-by style hs box box' h (keywords-shared style hs box box' h) r q in
     record {
-      layout = layout-mirrored block hb style candidate candidate' hi box box' h refl _ _ size overflow;
+      layout = layout-mirrored container hb style candidate candidate' hi box box' h refl _ _ size overflow;
       contribution =
-          contribution-same (origin-x block hb style candidate candidate' hi box box' h refl _ _ size overflow)
-          (origin-y block hb style candidate candidate' hi box box' h refl _ _ size overflow) size overflow qo (style .overflow) (style .contain)
-          (anyScrollContainer (block .overflow));
+          contribution-same (origin-x container hb style candidate candidate' hi box box' h refl _ _ size overflow)
+          (origin-y container hb style candidate candidate' hi box box' h refl _ _ size overflow) size overflow qo (style .overflow) (style .contain)
+          (anyScrollContainer (container .overflow));
     }
 
 pub unions-mirrored : UnionsMirrored
@@ -47,7 +47,7 @@ unions-mirrored = union.unions-mirrored
 
 pub image-is-exact : ImageIsExact
 unfolding imageCandidate edgeSum reflected reflectedPlace
-image-is-exact block candidate hb hc =
+image-is-exact container candidate hb hc =
     let total = edges-total (quarters-exact (hb .offset)) (quarters-exact (hb .width)) in
     let sum = edges (units (hb .offset)) (units (hb .width)) in
     record {
@@ -66,5 +66,5 @@ other-twice Ltr = refl
 other-twice Rtl = refl
 
 pub twice-is-once : TwiceIsOnce
-unfolding imageBlock imageStyle exchangedLengths
-twice-is-once block style = (rw other-twice, rw other-twice)
+unfolding imageContainer imageStyle exchangedLengths
+twice-is-once container style = (rw other-twice, rw other-twice)

@@ -27,8 +27,8 @@ use Rattle.exact.proofs.Sum.{add-exact, sub-exact}
 use Rattle.exact.proofs.Quarters.{units, quarters-exact}
 use Rattle.exact.proofs.Same.{Same, same, equal}
 use Rattle.mirror_axis.proofs.Facing.{Filled, start-is-end, end-is-start, positions}
-use Rattle.mirror_box.specs.Image.{otherDirection, imageBlock, imageStyle}
-use Rattle.mirror_box.specs.Quarter.{QuarterBlock}
+use Rattle.mirror_box.specs.Image.{otherDirection, imageContainer, imageStyle}
+use Rattle.mirror_box.specs.Quarter.{QuarterContainer}
 use Rattle.mirror_box.specs.Mirrored.{CandidateImage, MirroredLayout}
 use Rattle.mirror_box.proofs.Bounds.{lengthBound, staticBound, fitBound, placeBound, originBound}
 use Rattle.mirror_box.proofs.Reflect.{edges, edges-total}
@@ -67,9 +67,9 @@ module _ {off w s s' p p' : Float} {ω : N} (qo : Quarter off) (hw : Exact 4 len
 
 -- ---- layouts
 
-module _ (block : ContainingBlock) (hb : QuarterBlock block) (style : Style) (candidate candidate' : OofCandidate) (hi : CandidateImage (block .area) candidate candidate')
-    (box box' : ResolvedBox) (h : BoxShared box box') (width : box .horizontal .size ≡ block .area .size .width) (size size' : Size) (hs : SizeShared fitBound size size') where
-  wide : Exact 4 lengthBound (block .area .size .width) (h .faces .α .size)
+module _ (container : ContainingBlock) (hb : QuarterContainer container) (style : Style) (candidate candidate' : OofCandidate) (hi : CandidateImage (container .area) candidate candidate')
+    (box box' : ResolvedBox) (h : BoxShared box box') (width : box .horizontal .size ≡ container .area .size .width) (size size' : Size) (hs : SizeShared fitBound size size') where
+  wide : Exact 4 lengthBound (container .area .size .width) (h .faces .α .size)
   wide = subst (λ (x : Float). Exact 4 lengthBound x (h .faces .α .size)) width (h .faces .left .size)
 
   places : Filled placeBound (h .faces .α .size) (hs .width .a) (placement (box .horizontal) (size .width) .position) (placement (box' .horizontal) (size' .width) .position)
@@ -79,8 +79,8 @@ module _ (block : ContainingBlock) (hb : QuarterBlock block) (style : Style) (ca
   downward : placement (box .vertical) (size .height) ≡ placement (box' .vertical) (size' .height)
   downward = ap₂ placement (h .vertical) (hs .height)
 
-  pub layout-mirrored : (overflow : Rect) → MirroredLayout (block .area) (layoutOf block style candidate box size overflow) (layoutOf (imageBlock block) (imageStyle style) candidate' box' size' overflow)
-  unfolding layoutOf imageBlock imageStyle
+  pub layout-mirrored : (overflow : Rect) → MirroredLayout (container .area) (layoutOf container style candidate box size overflow) (layoutOf (imageContainer container) (imageStyle style) candidate' box' size' overflow)
+  unfolding layoutOf imageContainer imageStyle
   layout-mirrored overflow =
       record {
         order = sym (hi .order);
@@ -88,7 +88,7 @@ module _ (block : ContainingBlock) (hb : QuarterBlock block) (style : Style) (ca
         overflow = refl;
         scrollbar = refl;
         x = (edges (units (hb .offset)) (h .faces .α .size), x-total (hb .offset) wide (hs .width) places, edges-total (quarters-exact (hb .offset)) wide);
-        y = ap (λ (p : AxisPlacement). p .position ⊕ block .area .offset .y) downward;
+        y = ap (λ (p : AxisPlacement). p .position ⊕ container .area .offset .y) downward;
         padding = h .padding;
         border = h .border;
         marginLeft = equal (start-is-end lengthBound staticBound fitBound (lit< tt) (box .horizontal) (box' .horizontal) (h .faces) (size .width) (size' .width) (hs .width));
@@ -99,12 +99,12 @@ module _ (block : ContainingBlock) (hb : QuarterBlock block) (style : Style) (ca
 
   -- ---- the location from the scroll origin
 
-  pub origin-x : (overflow : Rect) → Same 1 originBound (fromOrigin block (layoutOf block style candidate box size overflow .location) size .x)
-      (fromOrigin (imageBlock block) (layoutOf (imageBlock block) (imageStyle style) candidate' box' size' overflow .location) size' .x)
-  unfolding fromOrigin layoutOf imageBlock
-  origin-x overflow = origin-same (hb .offset) wide (hs .width) places (block .direction)
+  pub origin-x : (overflow : Rect) → Same 1 originBound (fromOrigin container (layoutOf container style candidate box size overflow .location) size .x)
+      (fromOrigin (imageContainer container) (layoutOf (imageContainer container) (imageStyle style) candidate' box' size' overflow .location) size' .x)
+  unfolding fromOrigin layoutOf imageContainer
+  origin-x overflow = origin-same (hb .offset) wide (hs .width) places (container .direction)
 
-  pub origin-y : (overflow : Rect) → fromOrigin block (layoutOf block style candidate box size overflow .location) size .y
-      ≡ fromOrigin (imageBlock block) (layoutOf (imageBlock block) (imageStyle style) candidate' box' size' overflow .location) size' .y
-  unfolding fromOrigin imageBlock
-  origin-y overflow = ap (λ (y : Float). y ⊖ block .area .offset .y) (layout-mirrored overflow .y)
+  pub origin-y : (overflow : Rect) → fromOrigin container (layoutOf container style candidate box size overflow .location) size .y
+      ≡ fromOrigin (imageContainer container) (layoutOf (imageContainer container) (imageStyle style) candidate' box' size' overflow .location) size' .y
+  unfolding fromOrigin imageContainer
+  origin-y overflow = ap (λ (y : Float). y ⊖ container .area .offset .y) (layout-mirrored overflow .y)

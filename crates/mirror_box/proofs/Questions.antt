@@ -12,7 +12,7 @@ use Rattle.common.specs.declared.sizing_keyword.SizingKeywordResolution.{Sizing
 use Rattle.common.specs.declared.sizing_keyword.SizingKeywordResolution.the-variants.{NoKeyword, Exact, Measure}
 use Rattle.common.specs.declared.sizing_keyword.SizingKeywords.{SizingKeywords}
 use Rattle.oof_resolve.specs.declared.ResolvedBox.{ResolvedBox}
-use Rattle.oof_box.specs.Cut.{bothAsked, widthAsked, heightAsked, keywordAsked, isFilled, isFirst, orLater, sizeAsked, askedOf}
+use Rattle.oof_box.specs.Cut.{bothAsked, widthAsked, heightAsked, keywordAsked, fillGiven, isFirst, orLater, sizeAsked, askedOf}
 use Rattle.oof_box.specs.declared.dialogue.KeywordQuestion.{KeywordQuestion}
 use Rattle.oof_box.specs.declared.dialogue.KeywordQuestion.the-variants as asks
 use Rattle.oof_box.specs.declared.question.Asked.{Asked}
@@ -94,7 +94,7 @@ module _ (style : Style) (hs : QuarterStyle style) (box box' : ResolvedBox) (h :
   unfolding sizeAsked
   size-asked =
       let at = stretched-by style hs box box' h k r q in
-      pick SameAsked (ap (λ (t : Bool). isFilled (r .fill) || t) (both-present (at .known)))
+      pick SameAsked (ap (λ (t : Bool). fillGiven (r .fill) || t) (both-present (at .known)))
       (record {
         stage = refl;
         question = layOut (record { node = n; size = size-told (final-size style hs box box' h k r q at); space = space-told (h .space) });

@@ -32,8 +32,8 @@ use Rattle.exact.proofs.Same.{Same, MaybeSame, quarters-same, zero-same, add-sa
 use Rattle.mirror_axis.specs.Image.{otherAlign}
 use Rattle.mirror_axis.proofs.Opposite.{Opposite, opposite-faces}
 use Rattle.mirror_axis.proofs.Facing.{Facing, stretch-shared}
-use Rattle.mirror_box.specs.Image.{otherDirection, exchangedLengths, exchangedRect, imageBlock, imageStyle}
-use Rattle.mirror_box.specs.Quarter.{QuarterLength, QuarterBlock, QuarterStyle, QuarterCandidate}
+use Rattle.mirror_box.specs.Image.{otherDirection, exchangedLengths, exchangedRect, imageContainer, imageStyle}
+use Rattle.mirror_box.specs.Quarter.{QuarterLength, QuarterContainer, QuarterStyle, QuarterCandidate}
 use Rattle.mirror_box.specs.Mirrored.{CandidateImage}
 use Rattle.mirror_box.proofs.Bounds.{lengthBound, staticBound, edgesBound, sizeBound, fitBound}
 use Rattle.mirror_box.proofs.Lengths.{length-same}
@@ -76,18 +76,18 @@ pub record BoxShared (box box' : ResolvedBox) : Type 0 where
   pub fit : SizeShared fitBound (box .fit) (box' .fit)
   pub space : SpaceShared fitBound (box .space) (box' .space)
 
-module _ (block : ContainingBlock) (style : Style) (candidate candidate' : OofCandidate) (hb : QuarterBlock block) (hs : QuarterStyle style) (hc : QuarterCandidate candidate)
-    (hi : CandidateImage (block .area) candidate candidate') where
+module _ (container : ContainingBlock) (style : Style) (candidate candidate' : OofCandidate) (hb : QuarterContainer container) (hs : QuarterStyle style) (hc : QuarterCandidate candidate)
+    (hi : CandidateImage (container .area) candidate candidate') where
   abbrev area : Size
-  area = block .area .size
+  area = container .area .size
 
   -- ---- step 1
 
   sides : (l : CompactLength) → QuarterLength l → MaybeSame 4 lengthBound (maybeResolved field.InsetOrMargin l (area .width)) (maybeResolved field.InsetOrMargin l (area .width))
   sides l = length-same field.InsetOrMargin l (area .width)
 
-  pub horizontal-opposite : Opposite lengthBound staticBound (horizontal block style candidate) (horizontal (imageBlock block) (imageStyle style) candidate')
-  unfolding horizontal lessOffset ofEachAxis ofWidth resolvedRect selfRelative imageBlock imageStyle exchangedLengths otherAlign
+  pub horizontal-opposite : Opposite lengthBound staticBound (horizontal container style candidate) (horizontal (imageContainer container) (imageStyle style) candidate')
+  unfolding horizontal lessOffset ofEachAxis ofWidth resolvedRect selfRelative imageContainer imageStyle exchangedLengths otherAlign
   horizontal-opposite =
       record {
         size = record { a = units (hb .width); l = quarters-exact (hb .width); r = quarters-exact (hb .width) };
@@ -99,15 +99,15 @@ module _ (block : ContainingBlock) (style : Style) (candidate candidate' : OofCa
         areaEnd = mirrored-across (hb .offset) (hb .width) (hc .end) (candidate' .place .x .area .start) (hi .end .0) (hi .end .1) (hi .end .2);
         keyword = ap (λ (s : AxisStaticAlign). s .keyword) (hi .align);
         placeSafety = ap (λ (s : AxisStaticAlign). s .safety) (hi .align);
-        alignment = ap (λ (t : Bool). fromResolved (keywordRelative (style .justify .keyword) t)) (differs-other (style .direction) (block .direction));
+        alignment = ap (λ (t : Bool). fromResolved (keywordRelative (style .justify .keyword) t)) (differs-other (style .direction) (container .direction));
         safety = refl;
         inline = refl;
-        reversed = rtl-other (block .direction);
+        reversed = rtl-other (container .direction);
         scrolls = refl;
       }
 
-  pub vertical-same : vertical block style candidate ≡ vertical (imageBlock block) (imageStyle style) candidate'
-  unfolding vertical ofEachAxis ofWidth resolvedRect selfRelative imageBlock imageStyle exchangedLengths
+  pub vertical-same : vertical container style candidate ≡ vertical (imageContainer container) (imageStyle style) candidate'
+  unfolding vertical ofEachAxis ofWidth resolvedRect selfRelative imageContainer imageStyle exchangedLengths
   vertical-same = rw (hi .y)
 
   -- padding, or border: left and right are exchanged
@@ -147,18 +147,18 @@ module _ (block : ContainingBlock) (style : Style) (candidate candidate' : OofCa
 
   -- ---- step 3
 
-  faces : Facing lengthBound staticBound (horizontal block style candidate) (horizontal (imageBlock block) (imageStyle style) candidate')
+  faces : Facing lengthBound staticBound (horizontal container style candidate) (horizontal (imageContainer container) (imageStyle style) candidate')
   unfolding horizontal
-  faces = opposite-faces lengthBound staticBound (horizontal block style candidate) (horizontal (imageBlock block) (imageStyle style) candidate') horizontal-opposite (hb .notZero)
+  faces = opposite-faces lengthBound staticBound (horizontal container style candidate) (horizontal (imageContainer container) (imageStyle style) candidate') horizontal-opposite (hb .notZero)
 
-  fit-shared : SizeShared fitBound (record { width = stretchFit (horizontal block style candidate); height = stretchFit (vertical block style candidate) })
+  fit-shared : SizeShared fitBound (record { width = stretchFit (horizontal container style candidate); height = stretchFit (vertical container style candidate) })
       (record {
-        width = stretchFit (horizontal (imageBlock block) (imageStyle style) candidate');
-        height = stretchFit (vertical (imageBlock block) (imageStyle style) candidate');
+        width = stretchFit (horizontal (imageContainer container) (imageStyle style) candidate');
+        height = stretchFit (vertical (imageContainer container) (imageStyle style) candidate');
       })
   fit-shared =
       record {
-        width = stretch-shared lengthBound staticBound (lit< tt) (horizontal block style candidate) (horizontal (imageBlock block) (imageStyle style) candidate') faces;
+        width = stretch-shared lengthBound staticBound (lit< tt) (horizontal container style candidate) (horizontal (imageContainer container) (imageStyle style) candidate') faces;
         height = ap stretchFit vertical-same;
       }
 
@@ -180,8 +180,8 @@ module _ (block : ContainingBlock) (style : Style) (candidate candidate' : OofCa
 
   -- ---- all of it
 
-  pub resolved-shared : BoxShared (resolvedBox block style candidate) (resolvedBox (imageBlock block) (imageStyle style) candidate')
-  unfolding resolvedBox horizontal imageBlock imageStyle
+  pub resolved-shared : BoxShared (resolvedBox container style candidate) (resolvedBox (imageContainer container) (imageStyle style) candidate')
+  unfolding resolvedBox horizontal imageContainer imageStyle
   resolved-shared =
       let min = min-shared _ _ edges-shared in
       let max = size-shared field.MinOrMax (style .max) (hs .max) _ _ edges-shared in

@@ -25,8 +25,8 @@ unfoldable pub exchangedRect : Rect → Rect
 exchangedRect r = record { left = r .right; right = r .left; top = r .top; bottom = r .bottom }
 
 -- the area, its offset and the overflow stay
-unfoldable pub imageBlock : ContainingBlock → ContainingBlock
-imageBlock b = record { area = b .area; direction = otherDirection (b .direction); overflow = b .overflow }
+unfoldable pub imageContainer : ContainingBlock → ContainingBlock
+imageContainer b = record { area = b .area; direction = otherDirection (b .direction); overflow = b .overflow }
 
 -- the alignment keywords stay: they speak of start and end
 unfoldable pub imageStyle : Style → Style

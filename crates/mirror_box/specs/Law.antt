@@ -7,24 +7,24 @@ use Rattle.tree.specs.declared.layout.OofCandidate.{OofCandidate}
 use Rattle.oof_resolve.specs.declared.ContainingBlock.{ContainingBlock}
 use Rattle.oof_box.specs.Cut.{askedAfter, layoutAfter}
 use Rattle.oof_box.specs.declared.question.Replies.{Replies}
-use Rattle.mirror_box.specs.Image.{imageBlock, imageStyle, imageCandidate}
-use Rattle.mirror_box.specs.Quarter.{QuarterBlock, QuarterStyle, QuarterCandidate, QuarterReplies, QuarterOverflow}
+use Rattle.mirror_box.specs.Image.{imageContainer, imageStyle, imageCandidate}
+use Rattle.mirror_box.specs.Quarter.{QuarterContainer, QuarterStyle, QuarterCandidate, QuarterReplies, QuarterOverflow}
 use Rattle.mirror_box.specs.Mirrored.{CandidateImage, SameAsked, SameRect, MirroredBox}
 
 -- Whatever was replied so far, a box and its mirror image are at the same stage and ask the same question.
 abbrev pub AsksMirrored : Type 0
 AsksMirrored =
-    (block : ContainingBlock) (style : Style) (candidate candidate' : OofCandidate) (replies : Replies)
-    → QuarterBlock block → QuarterStyle style → QuarterCandidate candidate → CandidateImage (block .area) candidate candidate' → QuarterReplies replies
-    → SameAsked (askedAfter block style candidate replies) (askedAfter (imageBlock block) (imageStyle style) candidate' replies)
+    (container : ContainingBlock) (style : Style) (candidate candidate' : OofCandidate) (replies : Replies)
+    → QuarterContainer container → QuarterStyle style → QuarterCandidate candidate → CandidateImage (container .area) candidate candidate' → QuarterReplies replies
+    → SameAsked (askedAfter container style candidate replies) (askedAfter (imageContainer container) (imageStyle style) candidate' replies)
 
 -- Laid out, with the same rectangle in reply, their layouts are mirrored, and they add the same to the overflow.
 abbrev pub LaysOutMirrored : Type 0
 LaysOutMirrored =
-    (block : ContainingBlock) (style : Style) (candidate candidate' : OofCandidate) (replies : Replies) (overflow : Rect)
-    → QuarterBlock block → QuarterStyle style → QuarterCandidate candidate → CandidateImage (block .area) candidate candidate' → QuarterReplies replies
+    (container : ContainingBlock) (style : Style) (candidate candidate' : OofCandidate) (replies : Replies) (overflow : Rect)
+    → QuarterContainer container → QuarterStyle style → QuarterCandidate candidate → CandidateImage (container .area) candidate candidate' → QuarterReplies replies
     → QuarterOverflow overflow
-    → MirroredBox (block .area) (layoutAfter block style candidate replies overflow) (layoutAfter (imageBlock block) (imageStyle style) candidate' replies overflow)
+    → MirroredBox (container .area) (layoutAfter container style candidate replies overflow) (layoutAfter (imageContainer container) (imageStyle style) candidate' replies overflow)
 
 -- The union of what any number of boxes add stays the same.
 abbrev pub UnionsMirrored : Type 0
@@ -33,9 +33,9 @@ UnionsMirrored = (r r' s s' : Rect) → SameRect r r' → SameRect s s' → Same
 -- The image as document 01 writes it, by rounded operations, is exact.
 abbrev pub ImageIsExact : Type 0
 ImageIsExact =
-    (block : ContainingBlock) (candidate : OofCandidate)
-    → QuarterBlock block → QuarterCandidate candidate → CandidateImage (block .area) candidate (imageCandidate (block .area) candidate)
+    (container : ContainingBlock) (candidate : OofCandidate)
+    → QuarterContainer container → QuarterCandidate candidate → CandidateImage (container .area) candidate (imageCandidate (container .area) candidate)
 
 -- The image of the image is the thing itself.
 abbrev pub TwiceIsOnce : Type 0
-TwiceIsOnce = (block : ContainingBlock) (style : Style) → (imageBlock (imageBlock block) ≡ block) × (imageStyle (imageStyle style) ≡ style)
+TwiceIsOnce = (container : ContainingBlock) (style : Style) → (imageContainer (imageContainer container) ≡ container) × (imageStyle (imageStyle style) ≡ style)

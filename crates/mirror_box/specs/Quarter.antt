@@ -45,7 +45,7 @@ pub record QuarterSides (r : LengthRect) : Type 0 where
 
 -- ---- block, style, candidate
 
-pub record QuarterBlock (b : ContainingBlock) : Type 0 where
+pub record QuarterContainer (b : ContainingBlock) : Type 0 where
   pub width : Quarter (b .area .size .width)
   pub notZero : b .area .size .width ≐ 0f → ⊥
   pub offset : Quarter (b .area .offset .x)

@@ -18,13 +18,13 @@ use Rattle.tree.specs.declared.layout.AxisStaticEdge.the-variants.{Start, Cente
 use Rattle.oof_axis.specs.declared.OofAlignment.{OofAlignment}
 use Rattle.oof_axis.specs.declared.OofAlignment.the-variants as align
 use Rattle.oof_axis.specs.declared.OofAxis.{OofAxis}
-use Rattle.oof_axis.specs.Axis.{startEdge, endEdge, alignIn, staticBlock, insetBlock, weakerEdge, closedUp, repaired, block, bothInsets, halves, filledMargins, margins, isNormal, alignEdge, limit, keptWithin, selfAligned, staticAligned, positionIn, position, placement, stretching, stretches, stretchFit}
+use Rattle.oof_axis.specs.Axis.{alignIn, staticBlock, insetBlock, startIsWeaker, repaired, block, bothInsets, halves, filledMargins, margins, isNormal, alignEdge, limit, keptWithin, selfAligned, staticAligned, positionIn, position, placement, stretching, stretches, stretchFit}
 use Rattle.oof_axis.specs.Laws.{NoInset, TwoInsets, Aligned, marginBox, StartInsetHeld, EndInsetHeld, StartInsetBlock, EndInsetBlock, BlockIs, BlockBetweenInsets, BlockFromStaticStart, BlockToStaticEnd, BlockInOrder, GivenMarginStays, AutoMarginsAreZero, AutoMarginsAreEqual, NegativeSpaceGoesToTheEnd, LoneAutoMarginTakesTheRest, AutoMarginBeginsWithBlock, Overflows, OverflowIsReachable, AtStart, AtEnd, AtCenter, AsTold, FitsAsTold, UnsafeAsTold, NormalAtStart, SafeOverflowAtStart, StaticAsTold, StaticEdgeHeld, StaticSafeAtStart, stretchesAs, StretchesBetweenInsets, StretchFitIsASize, withFallback, FallbackUnread}
 
 -- ---- insets
 
 pub start-inset-held : StartInsetHeld
-unfolding placement position positionIn margins bothInsets block repaired weakerEdge insetBlock closedUp present
+unfolding placement position positionIn margins bothInsets block repaired startIsWeaker insetBlock present
 start-inset-held a x size p q = rw (p, q) (go (lt (a .size) x))
   where
     go : (b : Bool) → cond b (x to x) (x to a .size) .start ⊕ orZero (a .margin .start) ≡ x ⊕ orZero (a .margin .start)
@@ -32,7 +32,7 @@ start-inset-held a x size p q = rw (p, q) (go (lt (a .size) x))
     go false = refl
 
 pub end-inset-held : EndInsetHeld
-unfolding placement position positionIn margins bothInsets block repaired weakerEdge insetBlock closedUp present
+unfolding placement position positionIn margins bothInsets block repaired startIsWeaker insetBlock present
 end-inset-held a y size p q = rw (p, q) (go (lt (a .size ⊖ y) 0f))
   where
     go : (b : Bool) → cond b (a .size ⊖ y to a .size ⊖ y) (0f to a .size ⊖ y) .end ⊖ size ⊖ orZero (a .margin .end) ≡ a .size ⊖ y ⊖ size ⊖ orZero (a .margin .end)
@@ -40,25 +40,25 @@ end-inset-held a y size p q = rw (p, q) (go (lt (a .size ⊖ y) 0f))
     go false = refl
 
 pub start-inset-block : StartInsetBlock
-unfolding block repaired weakerEdge insetBlock closedUp
+unfolding block repaired startIsWeaker insetBlock
 start-inset-block a x p q = (λ h. rw (p, q, h) refl, λ h. rw (p, q, h) refl)
 
 pub end-inset-block : EndInsetBlock
-unfolding block repaired weakerEdge insetBlock closedUp
+unfolding block repaired startIsWeaker insetBlock
 end-inset-block a y p q = (λ h. rw (p, q, h) refl, λ h. rw (p, q, h) refl)
 
 pub block-between-insets : BlockBetweenInsets
-unfolding block repaired weakerEdge insetBlock closedUp endEdge
+unfolding block repaired startIsWeaker insetBlock
 block-between-insets a x y p q =
     record { inOrder = λ h. rw (p, q, h) refl; rightGivesWay = λ h r. rw (p, q, h, r) refl; leftGivesWay = λ h r. rw (p, q, h, r) refl }
 
 pub block-from-static-start : BlockFromStaticStart
-unfolding block repaired weakerEdge insetBlock closedUp endEdge staticBlock
+unfolding block repaired startIsWeaker insetBlock staticBlock
 block-from-static-start a n k =
     record { inOrder = λ h. rw (n .start, n .end, k, h) refl; rightGivesWay = λ h r. rw (n .start, n .end, k, h, r) refl; leftGivesWay = λ h r. rw (n .start, n .end, k, h, r) refl }
 
 pub block-to-static-end : BlockToStaticEnd
-unfolding block repaired weakerEdge insetBlock closedUp endEdge staticBlock
+unfolding block repaired startIsWeaker insetBlock staticBlock
 block-to-static-end a n k =
     record { inOrder = λ h. rw (n .start, n .end, k, h) refl; rightGivesWay = λ h r. rw (n .start, n .end, k, h, r) refl; leftGivesWay = λ h r. rw (n .start, n .end, k, h, r) refl }
 
@@ -72,7 +72,6 @@ not-below-itself x = go (lt x x) refl
     go false e = refl
 
 closed-in-order : (w : AxisStaticEdge) (l : Line) → lt (closedUp w l .end) (closedUp w l .start) ≡ false
-unfolding closedUp
 closed-in-order Start l = not-below-itself (l .end)
 closed-in-order Center l = not-below-itself (l .start)
 closed-in-order End l = not-below-itself (l .start)
@@ -87,7 +86,7 @@ repaired-in-order w l = go (lt (l .end) (l .start)) refl
 
 pub block-in-order : BlockInOrder
 unfolding block
-block-in-order a = repaired-in-order (weakerEdge (a .inset .start) (a .inset .end) a) (insetBlock (a .inset .start) (a .inset .end) a)
+block-in-order a = repaired-in-order (startIsWeaker (a .inset .start) (a .inset .end) a) (insetBlock (a .inset .start) (a .inset .end) a)
 
 -- ---- margins
 
@@ -196,12 +195,12 @@ aligned-position a size h =
 abbrev InBlock : AxisStaticEdge → OofAxis → Float → Type 0
 InBlock k a size = placement a size .position ≡ alignIn (block a) (marginBox a size) k ⊕ orZero (a .margin .start)
 
-at-start : (a : OofAxis) (size : Float) → InBlock (startEdge a) a size → AtStart a size
-unfolding startEdge alignIn
+at-start : (a : OofAxis) (size : Float) → InBlock (startEdge (a .reversed)) a size → AtStart a size
+unfolding alignIn
 at-start a size h = (λ r. rw h (rw r refl), λ r. rw h (rw r refl))
 
-at-end : (a : OofAxis) (size : Float) → InBlock (endEdge a) a size → AtEnd a size
-unfolding endEdge alignIn
+at-end : (a : OofAxis) (size : Float) → InBlock (endEdge (a .reversed)) a size → AtEnd a size
+unfolding alignIn
 at-end a size h = (λ r. rw h (rw r refl), λ r. rw h (rw r refl))
 
 as-told : (k : OofAlignment) (a : OofAxis) (size : Float) → InBlock (alignEdge k a) a size → AsTold k a size
@@ -219,19 +218,19 @@ fits-not-over x y h = go (lt y x) refl
     go true e = absurd (not-above y x e h)
     go false e = refl
 
-fits-aligned : (s : AlignmentSafety) (a : OofAxis) (l : Line) (box : Float) (k : AxisStaticEdge) → le box (span l) ≡ true → selfAligned s a l box k ≡ alignIn l box k
+fits-aligned : (s : AlignmentSafety) (a : OofAxis) (l : Line) (outer : Float) (k : AxisStaticEdge) → le outer (span l) ≡ true → selfAligned s a l outer k ≡ alignIn l outer k
 unfolding selfAligned
-fits-aligned Unsafe a l box k h = refl
-fits-aligned Safe a l box k h = rw (fits-not-over box (span l) h) refl
-fits-aligned Default a l box k h = rw h refl
+fits-aligned Unsafe a l outer k h = refl
+fits-aligned Safe a l outer k h = rw (fits-not-over outer (span l) h) refl
+fits-aligned Default a l outer k h = rw h refl
 
 pub fits-as-told : FitsAsTold
 fits-as-told a size h f =
     as-told (a .alignment) a size (rw (aligned-position a size h, fits-aligned (a .safety) a (block a) (marginBox a size) (alignEdge (a .alignment) a) f) refl)
 
-unsafe-aligned : (s : AlignmentSafety) (a : OofAxis) (l : Line) (box : Float) (k : AxisStaticEdge) → s ≡ Unsafe → selfAligned s a l box k ≡ alignIn l box k
+unsafe-aligned : (s : AlignmentSafety) (a : OofAxis) (l : Line) (outer : Float) (k : AxisStaticEdge) → s ≡ Unsafe → selfAligned s a l outer k ≡ alignIn l outer k
 unfolding selfAligned
-unsafe-aligned s a l box k e = rw e refl
+unsafe-aligned s a l outer k e = rw e refl
 
 pub unsafe-as-told : UnsafeAsTold
 unsafe-as-told a size h u =
@@ -241,21 +240,21 @@ is-normal : (k : OofAlignment) → k ≡ align.Normal → isNormal k ≡ true
 unfolding isNormal
 is-normal k n = rw n refl
 
-normal-aligned : (s : AlignmentSafety) (a : OofAxis) (l : Line) (box : Float) → a .alignment ≡ align.Normal → selfAligned s a l box (startEdge a) ≡ alignIn l box (startEdge a)
+normal-aligned : (s : AlignmentSafety) (a : OofAxis) (l : Line) (outer : Float) → a .alignment ≡ align.Normal → selfAligned s a l outer (startEdge (a .reversed)) ≡ alignIn l outer (startEdge (a .reversed))
 unfolding selfAligned
-normal-aligned Unsafe a l box n = refl
-normal-aligned Safe a l box n = go (lt (span l) box)
+normal-aligned Unsafe a l outer n = refl
+normal-aligned Safe a l outer n = go (lt (span l) outer)
   where
-    go : (b : Bool) → alignIn l box (cond b (startEdge a) (startEdge a)) ≡ alignIn l box (startEdge a)
+    go : (b : Bool) → alignIn l outer (cond b (startEdge (a .reversed)) (startEdge (a .reversed))) ≡ alignIn l outer (startEdge (a .reversed))
     go true = refl
     go false = refl
-normal-aligned Default a l box n = go (le box (span l))
+normal-aligned Default a l outer n = go (le outer (span l))
   where
-    go : (b : Bool) → cond (b || isNormal (a .alignment)) (alignIn l box (startEdge a)) (keptWithin (limit a l) a l box (startEdge a)) ≡ alignIn l box (startEdge a)
+    go : (b : Bool) → cond (b || isNormal (a .alignment)) (alignIn l outer (startEdge (a .reversed))) (keptWithin (limit a l) a l outer (startEdge (a .reversed))) ≡ alignIn l outer (startEdge (a .reversed))
     go true = refl
     go false = rw (is-normal (a .alignment) n) refl
 
-normal-edge : (a : OofAxis) → a .alignment ≡ align.Normal → alignEdge (a .alignment) a ≡ startEdge a
+normal-edge : (a : OofAxis) → a .alignment ≡ align.Normal → alignEdge (a .alignment) a ≡ startEdge (a .reversed)
 unfolding alignEdge
 normal-edge a n = rw n refl
 
@@ -263,9 +262,9 @@ pub normal-at-start : NormalAtStart
 normal-at-start a size h n =
     at-start a size (rw (aligned-position a size h, normal-edge a n, normal-aligned (a .safety) a (block a) (marginBox a size) n) refl)
 
-safe-aligned : (s : AlignmentSafety) (a : OofAxis) (l : Line) (box : Float) (k : AxisStaticEdge) → s ≡ Safe → lt (span l) box ≡ true → selfAligned s a l box k ≡ alignIn l box (startEdge a)
+safe-aligned : (s : AlignmentSafety) (a : OofAxis) (l : Line) (outer : Float) (k : AxisStaticEdge) → s ≡ Safe → lt (span l) outer ≡ true → selfAligned s a l outer k ≡ alignIn l outer (startEdge (a .reversed))
 unfolding selfAligned
-safe-aligned s a l box k e o = rw (e, o) refl
+safe-aligned s a l outer k e o = rw (e, o) refl
 
 pub safe-overflow-at-start : SafeOverflowAtStart
 safe-overflow-at-start a size h s o =
@@ -298,17 +297,17 @@ limit-start a l r = go (a .scrolls)
     go true = rw r refl
     go false = refl
 
-kept-after : (a : OofAxis) (l lim : Line) (box : Float) (edge : AxisStaticEdge) → a .reversed ≡ false → isNan (lim .start) ≡ false → le (lim .start) (keptWithin lim a l box edge) ≡ true
-unfolding keptWithin startEdge alignIn
-kept-after a l lim box edge r n = go (le box (span lim))
+kept-after : (a : OofAxis) (l lim : Line) (outer : Float) (edge : AxisStaticEdge) → a .reversed ≡ false → isNan (lim .start) ≡ false → le (lim .start) (keptWithin lim a l outer edge) ≡ true
+unfolding keptWithin alignIn
+kept-after a l lim outer edge r n = go (le outer (span lim))
   where
-    go : (b : Bool) → le (lim .start) (cond b (larger (smaller (alignIn l box edge) (lim .end ⊖ box)) (lim .start)) (alignIn lim box (cond (a .reversed) End Start))) ≡ true
-    go true = larger-bounds (smaller (alignIn l box edge) (lim .end ⊖ box)) (lim .start) .1 n .1
+    go : (b : Bool) → le (lim .start) (cond b (larger (smaller (alignIn l outer edge) (lim .end ⊖ outer)) (lim .start)) (alignIn lim outer (cond (a .reversed) End Start))) ≡ true
+    go true = larger-bounds (smaller (alignIn l outer edge) (lim .end ⊖ outer)) (lim .start) .1 n .1
     go false = rw r (le-self (lim .start) n)
 
-kept-in-reach : (a : OofAxis) (l : Line) (box : Float) (edge : AxisStaticEdge) → a .reversed ≡ false → le (smaller (l .start) 0f) (keptWithin (limit a l) a l box edge) ≡ true
-kept-in-reach a l box edge r =
-    subst (λ (x : Float). le x (keptWithin (limit a l) a l box edge) ≡ true) (limit-start a l r) (kept-after a l (limit a l) box edge r (rw (limit-start a l r) (smaller-number (l .start))))
+kept-in-reach : (a : OofAxis) (l : Line) (outer : Float) (edge : AxisStaticEdge) → a .reversed ≡ false → le (smaller (l .start) 0f) (keptWithin (limit a l) a l outer edge) ≡ true
+kept-in-reach a l outer edge r =
+    subst (λ (x : Float). le x (keptWithin (limit a l) a l outer edge) ≡ true) (limit-start a l r) (kept-after a l (limit a l) outer edge r (rw (limit-start a l r) (smaller-number (l .start))))
 
 pub not-normal : (k : OofAlignment) → (k ≡ align.Normal → ⊥) → isNormal k ≡ false
 unfolding isNormal
@@ -318,9 +317,9 @@ not-normal align.Start n = refl
 not-normal align.Center n = refl
 not-normal align.End n = refl
 
-default-aligned : (s : AlignmentSafety) (a : OofAxis) (l : Line) (box : Float) (k : AxisStaticEdge) → s ≡ Default → le box (span l) ≡ false → isNormal (a .alignment) ≡ false → selfAligned s a l box k ≡ keptWithin (limit a l) a l box k
+default-aligned : (s : AlignmentSafety) (a : OofAxis) (l : Line) (outer : Float) (k : AxisStaticEdge) → s ≡ Default → le outer (span l) ≡ false → isNormal (a .alignment) ≡ false → selfAligned s a l outer k ≡ keptWithin (limit a l) a l outer k
 unfolding selfAligned
-default-aligned s a l box k e o n = rw (e, o, n) refl
+default-aligned s a l outer k e o n = rw (e, o, n) refl
 
 pub overflow-is-reachable : OverflowIsReachable
 overflow-is-reachable a size o r =
@@ -340,19 +339,19 @@ static-told Start a size h = h
 static-told Center a size h = h
 static-told End a size h = h
 
-static-aligned : (s : AlignmentSafety) (a : OofAxis) (l : Line) (box : Float) → (s ≡ Safe → lt (span l) box ≡ false) → staticAligned s a l box ≡ alignIn (a .place .area) box (a .place .align .keyword)
+static-aligned : (s : AlignmentSafety) (a : OofAxis) (l : Line) (outer : Float) → (s ≡ Safe → lt (span l) outer ≡ false) → staticAligned s a l outer ≡ alignIn (a .place .area) outer (a .place .align .keyword)
 unfolding staticAligned
-static-aligned Default a l box h = refl
-static-aligned Unsafe a l box h = refl
-static-aligned Safe a l box h = rw (h refl) refl
+static-aligned Default a l outer h = refl
+static-aligned Unsafe a l outer h = refl
+static-aligned Safe a l outer h = rw (h refl) refl
 
 pub static-edge-held : StaticEdgeHeld
 static-edge-held a size n h =
     static-told (a .place .align .keyword) a size (rw (static-position a size n, static-aligned (a .place .align .safety) a (block a) (marginBox a size) h) refl)
 
-static-safe : (s : AlignmentSafety) (a : OofAxis) (l : Line) (box : Float) → s ≡ Safe → lt (span l) box ≡ true → staticAligned s a l box ≡ alignIn l box (startEdge a)
+static-safe : (s : AlignmentSafety) (a : OofAxis) (l : Line) (outer : Float) → s ≡ Safe → lt (span l) outer ≡ true → staticAligned s a l outer ≡ alignIn l outer (startEdge (a .reversed))
 unfolding staticAligned
-static-safe s a l box e o = rw (e, o) refl
+static-safe s a l outer e o = rw (e, o) refl
 
 pub static-safe-at-start : StaticSafeAtStart
 static-safe-at-start a size n s o = at-start a size (rw (static-position a size n, static-safe (a .place .align .safety) a (block a) (marginBox a size) s o) refl)
@@ -366,8 +365,8 @@ same-inset-block (Some s) None a e = refl
 same-inset-block None (Some t) a e = refl
 same-inset-block None None a e = refl
 
-same-weaker-edge : (s t : MaybeF32) (a : OofAxis) (e : AxisStaticEdge) → weakerEdge s t (withFallback e a) ≡ weakerEdge s t a
-unfolding weakerEdge endEdge
+same-weaker-edge : (s t : MaybeF32) (a : OofAxis) (e : AxisStaticEdge) → startIsWeaker s t (withFallback e a) ≡ startIsWeaker s t a
+unfolding startIsWeaker
 same-weaker-edge (Some s) (Some t) a e = refl
 same-weaker-edge (Some s) None a e = refl
 same-weaker-edge None (Some t) a e = refl
@@ -389,24 +388,24 @@ unfolding margins bothInsets
 same-margins a e size = rw (same-block a e, same-filled (a .margin .start) (a .margin .end) (span (block a) ⊖ size) a e) refl
 
 same-edge : (k : OofAlignment) (a : OofAxis) (e : AxisStaticEdge) → alignEdge k (withFallback e a) ≡ alignEdge k a
-unfolding alignEdge startEdge endEdge
+unfolding alignEdge
 same-edge align.Normal a e = refl
 same-edge align.Stretch a e = refl
 same-edge align.Start a e = refl
 same-edge align.Center a e = refl
 same-edge align.End a e = refl
 
-same-aligned : (s : AlignmentSafety) (a : OofAxis) (e : AxisStaticEdge) (l : Line) (box : Float) (edge : AxisStaticEdge) → selfAligned s (withFallback e a) l box edge ≡ selfAligned s a l box edge
-unfolding selfAligned keptWithin limit startEdge
-same-aligned Default a e l box edge = refl
-same-aligned Unsafe a e l box edge = refl
-same-aligned Safe a e l box edge = refl
+same-aligned : (s : AlignmentSafety) (a : OofAxis) (e : AxisStaticEdge) (l : Line) (outer : Float) (edge : AxisStaticEdge) → selfAligned s (withFallback e a) l outer edge ≡ selfAligned s a l outer edge
+unfolding selfAligned keptWithin limit
+same-aligned Default a e l outer edge = refl
+same-aligned Unsafe a e l outer edge = refl
+same-aligned Safe a e l outer edge = refl
 
-same-static : (s : AlignmentSafety) (a : OofAxis) (e : AxisStaticEdge) (l : Line) (box : Float) → staticAligned s (withFallback e a) l box ≡ staticAligned s a l box
-unfolding staticAligned startEdge
-same-static Default a e l box = refl
-same-static Unsafe a e l box = refl
-same-static Safe a e l box = refl
+same-static : (s : AlignmentSafety) (a : OofAxis) (e : AxisStaticEdge) (l : Line) (outer : Float) → staticAligned s (withFallback e a) l outer ≡ staticAligned s a l outer
+unfolding staticAligned
+same-static Default a e l outer = refl
+same-static Unsafe a e l outer = refl
+same-static Safe a e l outer = refl
 
 same-position-in : (s t : MaybeF32) (a : OofAxis) (e : AxisStaticEdge) (l : Line) (size : Float) (m : Line) → positionIn s t (withFallback e a) l size m ≡ positionIn s t a l size m
 unfolding positionIn

@@ -42,10 +42,10 @@ fromResolved keyword.SelfEnd = align.End
 
 -- the containing block's start and end, as edges of the axis: exchanged in the inline axis of a right-to-left block
 unfoldable pub startEdge : OofAxis → AxisStaticEdge
-startEdge a = cond (a .reversed) End Start
+startEdge (a .reversed) = cond (a .reversed) End Start
 
 unfoldable pub endEdge : OofAxis → AxisStaticEdge
-endEdge a = cond (a .reversed) Start End
+endEdge (a .reversed) = cond (a .reversed) Start End
 
 -- where a box of a size begins that is aligned to an edge of a line
 unfoldable pub alignIn : Line → Float → AxisStaticEdge → Float
@@ -74,11 +74,11 @@ insetBlock None (Some end) a = 0f to a .size ⊖ end
 insetBlock None None a = staticBlock (a .place .align .keyword) (a .place .area) (a .size)
 
 -- the weaker edge, which gives way where insets leave a negative size: the free side with one inset, else the end edge by direction
-unfoldable pub weakerEdge : MaybeF32 → MaybeF32 → OofAxis → AxisStaticEdge
-weakerEdge (Some start) (Some end) a = endEdge a
-weakerEdge (Some start) None a = End
-weakerEdge None (Some end) a = Start
-weakerEdge None None a = endEdge a
+unfoldable pub startIsWeaker : MaybeF32 → MaybeF32 → OofAxis → AxisStaticEdge
+startIsWeaker (Some start) (Some end) a = endEdge (a .reversed)
+startIsWeaker (Some start) None a = End
+startIsWeaker None (Some end) a = Start
+startIsWeaker None None a = endEdge (a .reversed)
 
 -- an end below its start: the weaker edge moves to the other, so that the block's size is 0 (no axis has Center as its weaker edge)
 unfoldable pub closedUp : AxisStaticEdge → Line → Line
@@ -90,7 +90,7 @@ unfoldable pub repaired : AxisStaticEdge → Line → Line
 repaired weaker l = cond (lt (l .end) (l .start)) (closedUp weaker l) l
 
 unfoldable pub block : OofAxis → Line
-block a = repaired (weakerEdge (a .inset .start) (a .inset .end) a) (insetBlock (a .inset .start) (a .inset .end) a)
+block a = repaired (startIsWeaker (a .inset .start) (a .inset .end) a) (insetBlock (a .inset .start) (a .inset .end) a)
 
 -- ---- automatic sizes (css-position-3 #abspos-auto-size)
 
@@ -147,11 +147,11 @@ isNormal align.End = false
 
 -- normal and stretch align as start
 unfoldable pub alignEdge : OofAlignment → OofAxis → AxisStaticEdge
-alignEdge align.Normal a = startEdge a
-alignEdge align.Stretch a = startEdge a
-alignEdge align.Start a = startEdge a
+alignEdge align.Normal a = startEdge (a .reversed)
+alignEdge align.Stretch a = startEdge (a .reversed)
+alignEdge align.Start a = startEdge (a .reversed)
 alignEdge align.Center a = Center
-alignEdge align.End a = endEdge a
+alignEdge align.End a = endEdge (a .reversed)
 
 -- the overflow limit rectangle: the bounds of block and area; where the container scrolls in this axis, without an end (which is to
 -- the left in a right-to-left axis)
@@ -162,23 +162,23 @@ limit a l =
 
 -- as aligned in the block, but moved so far that it stays within the limit; what doesn't fit the limit stands at the limit's start
 unfoldable pub keptWithin : Line → OofAxis → Line → Float → AxisStaticEdge → Float
-keptWithin lim a l box edge =
-    cond (le box (span lim)) (larger (smaller (alignIn l box edge) (lim .end ⊖ box)) (lim .start)) (alignIn lim box (startEdge a))
+keptWithin lim a l outer edge =
+    cond (le outer (span lim)) (larger (smaller (alignIn l outer edge) (lim .end ⊖ outer)) (lim .start)) (alignIn lim outer (startEdge (a .reversed)))
 
--- both insets: the margin box (of size `box`) aligned in the block `l`. Unsafe: as told. Safe: at the start where it overflows. By
+-- both insets: the margin box (of size `outer`) aligned in the block `l`. Unsafe: as told. Safe: at the start where it overflows. By
 -- default as told where it fits or the alignment is normal, else kept within the limit.
 unfoldable pub selfAligned : AlignmentSafety → OofAxis → Line → Float → AxisStaticEdge → Float
-selfAligned Unsafe a l box edge = alignIn l box edge
-selfAligned Safe a l box edge = alignIn l box (cond (lt (span l) box) (startEdge a) edge)
-selfAligned Default a l box edge =
-    cond (le box (span l) || isNormal (a .alignment)) (alignIn l box edge) (keptWithin (limit a l) a l box edge)
+selfAligned Unsafe a l outer edge = alignIn l outer edge
+selfAligned Safe a l outer edge = alignIn l outer (cond (lt (span l) outer) (startEdge (a .reversed)) edge)
+selfAligned Default a l outer edge =
+    cond (le outer (span l) || isNormal (a .alignment)) (alignIn l outer edge) (keptWithin (limit a l) a l outer edge)
 
 -- no insets: the margin box aligned in the static area; a safe one that overflows the block stands at the block's start
 unfoldable pub staticAligned : AlignmentSafety → OofAxis → Line → Float → Float
-staticAligned Default a l box = alignIn (a .place .area) box (a .place .align .keyword)
-staticAligned Unsafe a l box = alignIn (a .place .area) box (a .place .align .keyword)
-staticAligned Safe a l box =
-    cond (lt (span l) box) (alignIn l box (startEdge a)) (alignIn (a .place .area) box (a .place .align .keyword))
+staticAligned Default a l outer = alignIn (a .place .area) outer (a .place .align .keyword)
+staticAligned Unsafe a l outer = alignIn (a .place .area) outer (a .place .align .keyword)
+staticAligned Safe a l outer =
+    cond (lt (span l) outer) (alignIn l outer (startEdge (a .reversed))) (alignIn (a .place .area) outer (a .place .align .keyword))
 
 -- one inset: at that inset's edge. Both insets and an auto margin: at the block's start, since margins fill the block
 unfoldable pub positionIn : MaybeF32 → MaybeF32 → OofAxis → Line → Float → Line → Float

@@ -16,17 +16,17 @@ use Rattle.tree.specs.declared.layout.AxisStaticPosition.{AxisStaticPosition}
 use Rattle.tree.specs.declared.layout.StaticPosition.{StaticPosition}
 use Rattle.oof_axis.specs.Axis.{alignIn}
 
--- the edge that a margin box (of size `box`) is aligned to: the fallback where the alignment is safe and the box overflows the area
+-- the edge that a margin box (of size `outer`) is aligned to: the fallback where the alignment is safe and the box overflows the area
 unfoldable pub offsetEdge : AlignmentSafety → AxisStaticPosition → Float → AxisStaticEdge
-offsetEdge Default p box = p .align .keyword
-offsetEdge Unsafe p box = p .align .keyword
-offsetEdge Safe p box = cond (lt (span (p .area)) box) (p .align .fallback) (p .align .keyword)
+offsetEdge Default p outer = p .align .keyword
+offsetEdge Unsafe p outer = p .align .keyword
+offsetEdge Safe p outer = cond (lt (span (p .area)) outer) (p .align .fallback) (p .align .keyword)
 
 -- one axis: where the border box of a size begins, its margins being `m`
 unfoldable pub axisOffset : AxisStaticPosition → Float → Line → Float
 axisOffset p size m =
-    let box = size ⊕ m .start ⊕ m .end in
-    alignIn (p .area) box (offsetEdge (p .align .safety) p box) ⊕ m .start
+    let outer = size ⊕ m .start ⊕ m .end in
+    alignIn (p .area) outer (offsetEdge (p .align .safety) p outer) ⊕ m .start
 
 unfoldable pub staticOffset : StaticPosition → Size → Rect → Point
 staticOffset p size m =

@@ -5,7 +5,7 @@ ghost use lib.Ieee.{lt};
 ghost use Rattle.util.specs.Number.{0f};
 ghost use Rattle.util.specs.Maybe.{present};
 ghost use Rattle.geometry.specs.Geometry.{span};
-ghost use Rattle.oof_axis.specs.Axis.{fromResolved, startEdge, endEdge, alignIn, centeredBlock, staticBlock, insetBlock, weakerEdge, closedUp, repaired, block, bothInsets, stretchFit, stretching, stretches, isStretch, halves, filledMargins, margins, isNormal, alignEdge, limit, keptWithin, selfAligned, staticAligned, position, placement};
+ghost use Rattle.oof_axis.specs.Axis.{fromResolved, alignIn, centeredBlock, staticBlock, insetBlock, startIsWeaker, repaired, block, bothInsets, stretchFit, stretching, stretches, isStretch, halves, filledMargins, margins, isNormal, alignEdge, limit, keptWithin, selfAligned, staticAligned, position, placement};
 ghost use Rattle.oof_axis.specs.StaticOffset.{offsetEdge, axisOffset, staticOffset};
 use geometry::Line;
 use geometry::MaybeLine;
@@ -245,7 +245,7 @@ fn repaired(weaker: AxisStaticEdge, raw: Line) -> Line
 impl OofAxis {
     // The containing block's start, as an edge of the axis.
     pub fn start_edge(self) -> AxisStaticEdge
-        ensures { λ r. ⌜ r ≡ startEdge self ⌝ }
+        ensures { λ r. ⌜ r ≡ startEdge (self .reversed) ⌝ }
     {
         if self.reversed {
             return AxisStaticEdge::End;
@@ -255,7 +255,7 @@ impl OofAxis {
 
     // The containing block's end, as an edge of the axis.
     pub fn end_edge(self) -> AxisStaticEdge
-        ensures { λ r. ⌜ r ≡ endEdge self ⌝ }
+        ensures { λ r. ⌜ r ≡ endEdge (self .reversed) ⌝ }
     {
         if self.reversed {
             return AxisStaticEdge::Start;
@@ -297,7 +297,7 @@ impl OofAxis {
 
     // The edge that gives way where the end is below the start.
     fn weaker_edge(self) -> AxisStaticEdge
-        ensures { λ r. ⌜ r ≡ weakerEdge (self .inset .start) (self .inset .end) self ⌝ }
+        ensures { λ r. ⌜ r ≡ startIsWeaker (self .inset .start) (self .inset .end) self ⌝ }
     {
         let inset = self.inset;
         let from = inset.start;

@@ -4,7 +4,7 @@ use mathlib.Core.Bool.{true}
 use lib.Ieee.{add, sub, mul, div, neg, lt, le, eq, isNan, sum, round, units, odd, size, span, climb, ofBits, toBits, ofFields, nanBits}
 use Rattle.util.specs.Order.{zeroOf, before, larger, smaller, magnitude}
 use Rattle.util.specs.Maybe.{present, unwrapOr}
-use Rattle.oof_axis.specs.Axis.{fromResolved, startEdge, endEdge, alignIn, centeredBlock, staticBlock, insetBlock, weakerEdge, closedUp, repaired, block, bothInsets, halves, filledMargins, margins, isNormal, alignEdge, limit, keptWithin, selfAligned, staticAligned, positionIn, position, placement}
+use Rattle.oof_axis.specs.Axis.{fromResolved, alignIn, centeredBlock, staticBlock, insetBlock, startIsWeaker, repaired, block, bothInsets, halves, filledMargins, margins, isNormal, alignEdge, limit, keptWithin, selfAligned, staticAligned, positionIn, position, placement}
 use Rattle.oof_axis.specs.StaticOffset.{offsetEdge, axisOffset, staticOffset}
 use Rattle.oof_axis_rows.specs.Sample.{word, float, maybe, flag, edgeOf, safetyOf, keywordFrom, keywordOf, staticOf, axisOf, same, found, agrees, allAgree, offsetOf, offsetAgrees, allOffsetsAgree}
 use Rattle.oof_axis_rows.specs.Quarter.{boxes as quarter-boxes}
@@ -14,5 +14,5 @@ use Rattle.oof_axis_rows.specs.Directed.{boxes as directed-boxes}
 use Rattle.oof_axis_rows.specs.Offsets.{offsets}
 
 samples-agree : (allAgree quarter-boxes ≡ true) × (allAgree typical-boxes ≡ true) × (allAgree wild-boxes ≡ true) × (allAgree directed-boxes ≡ true) × (allOffsetsAgree offsets ≡ true)
-unfolding quarter-boxes typical-boxes wild-boxes directed-boxes offsets add sub mul div neg lt le eq isNan sum round units odd size span climb ofBits toBits ofFields nanBits zeroOf before larger smaller magnitude present unwrapOr fromResolved startEdge endEdge alignIn centeredBlock staticBlock insetBlock weakerEdge closedUp repaired block bothInsets halves filledMargins margins isNormal alignEdge limit keptWithin selfAligned staticAligned positionIn position placement offsetEdge axisOffset staticOffset word float maybe flag edgeOf safetyOf keywordFrom keywordOf staticOf axisOf same found agrees allAgree offsetOf offsetAgrees allOffsetsAgree
+unfolding quarter-boxes typical-boxes wild-boxes directed-boxes offsets add sub mul div neg lt le eq isNan sum round units odd size span climb ofBits toBits ofFields nanBits zeroOf before larger smaller magnitude present unwrapOr fromResolved alignIn centeredBlock staticBlock insetBlock startIsWeaker repaired block bothInsets halves filledMargins margins isNormal alignEdge limit keptWithin selfAligned staticAligned positionIn position placement offsetEdge axisOffset staticOffset word float maybe flag edgeOf safetyOf keywordFrom keywordOf staticOf axisOf same found agrees allAgree offsetOf offsetAgrees allOffsetsAgree
 samples-agree = (refl, refl, refl, refl, refl)

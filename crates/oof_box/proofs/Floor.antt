@@ -63,10 +63,10 @@ min-down style box known e h = chosen e (λ s. s .min .height) (style .table) _ 
 
 pub size-law : SizeLaw
 unfolding layoutAfter boxLayout layoutOf sizeBy stretchedBy finalSize clampedFloats resolvedBox minSize raisedSize firstSize definite
-size-law block style candidate replies overflow =
-    let box = resolvedBox block style candidate in
-    let edges = sums (rectSum (box .padding) (box .border)) in
+size-law container style candidate replies overflow =
+    let box = resolvedBox container style candidate in
+    let paddingBorder = sums (rectSum (box .padding) (box .border)) in
     let known = knownBy style box (sizeKeywords style box) (replies .keyword) in (
-      clamped-above (edges .width) _ _ _ (min-across style box known (edges .width) (raised (edges .width) _)),
-      clamped-above (edges .height) _ _ _ (min-down style box known (edges .height) (raised (edges .height) _)),
+      clamped-above (paddingBorder .width) _ _ _ (min-across style box known (paddingBorder .width) (raised (paddingBorder .width) _)),
+      clamped-above (paddingBorder .height) _ _ _ (min-down style box known (paddingBorder .height) (raised (paddingBorder .height) _)),
     )

@@ -64,16 +64,16 @@ settled ratio box size = clampedSize (withRatio ratio size) (box .min) (box .max
 unfoldable pub widthAs : ℕ → SizingKeywordResolution → MaybeSize → Size → Talk MaybeF32
 widthAs node NoKeyword known stretch = done (known .width)
 widthAs node (Exact x) known stretch = done (Some x)
-widthAs node (Measure across) known stretch = do
-  width ← measureWidth (record { node = node; known = known; space = across and Definite (stretch .height) })
+widthAs node (Measure spaceX) known stretch = do
+  width ← measureWidth (record { node = node; known = known; space = spaceX and Definite (stretch .height) })
   done (Some width)
 
 -- the height; a width that is known is its space, else its stretch size
 unfoldable pub heightAs : ℕ → SizingKeywordResolution → MaybeSize → Size → Talk MaybeF32
 heightAs node NoKeyword known stretch = done (known .height)
 heightAs node (Exact x) known stretch = done (Some x)
-heightAs node (Measure down) known stretch = do
-  height ← measureHeight (record { node = node; known = known; space = Definite (unwrapOr (known .width) (stretch .width)) and down })
+heightAs node (Measure spaceY) known stretch = do
+  height ← measureHeight (record { node = node; known = known; space = Definite (unwrapOr (known .width) (stretch .width)) and spaceY })
   done (Some height)
 
 -- the width, then the height by what is then known
@@ -85,11 +85,11 @@ inTurn node wide tall known stretch = do
 
 -- two measured sides are one question
 unfoldable pub byKeywords : ℕ → SizingKeywordResolution → SizingKeywordResolution → MaybeSize → Size → Talk MaybeSize
-byKeywords node (Measure across) (Measure down) known stretch = do
-  size ← measureBoth (record { node = node; known = absentSize; space = across and down })
+byKeywords node (Measure spaceX) (Measure spaceY) known stretch = do
+  size ← measureBoth (record { node = node; known = absentSize; space = spaceX and spaceY })
   done (definite size)
-byKeywords node (Measure across) NoKeyword known stretch = inTurn node (Measure across) NoKeyword known stretch
-byKeywords node (Measure across) (Exact h) known stretch = inTurn node (Measure across) (Exact h) known stretch
+byKeywords node (Measure spaceX) NoKeyword known stretch = inTurn node (Measure spaceX) NoKeyword known stretch
+byKeywords node (Measure spaceX) (Exact h) known stretch = inTurn node (Measure spaceX) (Exact h) known stretch
 byKeywords node NoKeyword tall known stretch = inTurn node NoKeyword tall known stretch
 byKeywords node (Exact w) tall known stretch = inTurn node (Exact w) tall known stretch
 
@@ -107,19 +107,19 @@ keywordSizes node style box keywords =
 
 -- stretch said of both axes ignores the ratio
 unfoldable pub ignoresRatio : ResolvedBox → Bool → Bool → Bool
-ignoresRatio box across down = across && (down && (isStretch (box .horizontal) && isStretch (box .vertical)))
+ignoresRatio box stretchesX stretchesY = stretchesX && (stretchesY && (isStretch (box .horizontal) && isStretch (box .vertical)))
 
 unfoldable pub stretchRatio : Style → ResolvedBox → Bool → Bool → MaybeF32
-stretchRatio style box across down = cond (ignoresRatio box across down) None (style .ratio)
+stretchRatio style box stretchesX stretchesY = cond (ignoresRatio box stretchesX stretchesY) None (style .ratio)
 
 -- an absent width becomes the stretch-fit width; the ratio may then give the height
 unfoldable pub widened : MaybeF32 → ResolvedBox → Bool → MaybeSize → MaybeSize
-widened ratio box across known = cond across (settled ratio box (Some (box .fit .width) by known .height)) known
+widened ratio box stretchesX known = cond stretchesX (settled ratio box (Some (box .fit .width) by known .height)) known
 
 -- a height that is still absent becomes the stretch-fit height
 unfoldable pub heightened : MaybeF32 → ResolvedBox → Bool → MaybeSize → MaybeSize
-heightened ratio box down known =
-    cond (down && not (present (known .height))) (settled ratio box (known .width by Some (box .fit .height))) known
+heightened ratio box stretchesY known =
+    cond (stretchesY && not (present (known .height))) (settled ratio box (known .width by Some (box .fit .height))) known
 
 -- a table is never stretched directly: its min is raised to the stretch-fit size, and the table is measured
 unfoldable pub raisedMin : Bool → MaybeF32 → Float → MaybeF32
@@ -128,15 +128,15 @@ raisedMin stretches min fit = cond stretches (Some (larger (orZero min) fit)) mi
 unfoldable pub stretched : Style → ResolvedBox → MaybeSize → Stretched
 stretched style box known =
     let plain = not (style .replaced) && not (style .table) in
-    let across = not (present (known .width)) && stretches (box .horizontal) plain in
-    let down = not (present (known .height)) && stretches (box .vertical) plain in
-    let ratio = stretchRatio style box across down in
+    let stretchesX = not (present (known .width)) && stretches (box .horizontal) plain in
+    let stretchesY = not (present (known .height)) && stretches (box .vertical) plain in
+    let ratio = stretchRatio style box stretchesX stretchesY in
     cond (style .table)
     (record {
       known = known;
-      min = raisedMin across (box .min .width) (box .fit .width) by raisedMin down (box .min .height) (box .fit .height);
+      min = raisedMin stretchesX (box .min .width) (box .fit .width) by raisedMin stretchesY (box .min .height) (box .fit .height);
     })
-    (record { known = heightened ratio box down (widened ratio box across known); min = box .min })
+    (record { known = heightened ratio box stretchesY (widened ratio box stretchesX known); min = box .min })
 
 -- ---- step 6: if a side is still absent, measure both and fill only that side; clamp
 
@@ -156,10 +156,10 @@ pub record Placed : Type 0 where
   pub surfaced : List OofCandidate
 
 unfoldable pub placed : ContainingBlock → Style → OofCandidate → Talk Placed
-placed block style candidate =
+placed container style candidate =
     let node = candidate .node in
     -- 1, 2, 3. percentages and static areas; size, min and max; available space
-    let box = resolvedBox block style candidate in
+    let box = resolvedBox container style candidate in
     do
       -- 4. size keywords
       known ← keywordSizes node style box (sizeKeywords style box)
@@ -167,4 +167,4 @@ placed block style candidate =
       size ← measured node box (stretched style box known)
       -- 7. lay out; margins, location, overflow
       laid ← layOut (record { node = node; size = size; space = box .space })
-      done (record { outcome = boxLayout block style candidate box size (laid .overflow); surfaced = laid .surfaced })
+      done (record { outcome = boxLayout container style candidate box size (laid .overflow); surfaced = laid .surfaced })

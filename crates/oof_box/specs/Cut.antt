@@ -138,37 +138,37 @@ sizeBy style box keywords replies = finalSize box (stretchedBy style box keyword
 -- ---- questions
 
 abbrev pub bothInput : ℕ → AvailableSpace → AvailableSpace → MeasureInput
-bothInput node across down = record { node = node; known = absentSize; space = across and down }
+bothInput node spaceX spaceY = record { node = node; known = absentSize; space = spaceX and spaceY }
 
 abbrev pub bothAsked : ℕ → AvailableSpace → AvailableSpace → KeywordQuestion
-bothAsked node across down = asks.Ask (record { stage = KeywordBoth; question = question.MeasureBoth (bothInput node across down) })
+bothAsked node spaceX spaceY = asks.Ask (record { stage = KeywordBoth; question = question.MeasureBoth (bothInput node spaceX spaceY) })
 
 abbrev pub widthInput : ℕ → AvailableSpace → MaybeSize → Size → MeasureInput
-widthInput node across known stretch = record { node = node; known = known; space = across and Definite (stretch .height) }
+widthInput node spaceX known stretch = record { node = node; known = known; space = spaceX and Definite (stretch .height) }
 
 abbrev pub widthAsked : ℕ → AvailableSpace → MaybeSize → Size → KeywordQuestion
-widthAsked node across known stretch =
-    asks.Ask (record { stage = KeywordWidth; question = question.MeasureWidth (widthInput node across known stretch) })
+widthAsked node spaceX known stretch =
+    asks.Ask (record { stage = KeywordWidth; question = question.MeasureWidth (widthInput node spaceX known stretch) })
 
 abbrev pub heightInput : ℕ → MaybeF32 → AvailableSpace → MaybeSize → Size → MeasureInput
-heightInput node width down known stretch =
-    record { node = node; known = width by known .height; space = Definite (unwrapOr width (stretch .width)) and down }
+heightInput node width spaceY known stretch =
+    record { node = node; known = width by known .height; space = Definite (unwrapOr width (stretch .width)) and spaceY }
 
 abbrev pub heightAsked : ℕ → MaybeF32 → AvailableSpace → MaybeSize → Size → KeywordQuestion
-heightAsked node width down known stretch =
-    asks.Ask (record { stage = KeywordHeight; question = question.MeasureHeight (heightInput node width down known stretch) })
+heightAsked node width spaceY known stretch =
+    asks.Ask (record { stage = KeywordHeight; question = question.MeasureHeight (heightInput node width spaceY known stretch) })
 
 -- step 4: the question for size keywords, if a side is to be measured
 unfoldable pub keywordAsked : ℕ → SizingKeywordResolution → SizingKeywordResolution → MaybeSize → Size → KeywordQuestion
 keywordAsked node NoKeyword NoKeyword known stretch = asks.None
 keywordAsked node NoKeyword (Exact h) known stretch = asks.None
-keywordAsked node NoKeyword (Measure down) known stretch = heightAsked node (known .width) down known stretch
+keywordAsked node NoKeyword (Measure spaceY) known stretch = heightAsked node (known .width) spaceY known stretch
 keywordAsked node (Exact w) NoKeyword known stretch = asks.None
 keywordAsked node (Exact w) (Exact h) known stretch = asks.None
-keywordAsked node (Exact w) (Measure down) known stretch = heightAsked node (Some w) down known stretch
-keywordAsked node (Measure across) NoKeyword known stretch = widthAsked node across known stretch
-keywordAsked node (Measure across) (Exact h) known stretch = widthAsked node across known stretch
-keywordAsked node (Measure across) (Measure down) known stretch = bothAsked node across down
+keywordAsked node (Exact w) (Measure spaceY) known stretch = heightAsked node (Some w) spaceY known stretch
+keywordAsked node (Measure spaceX) NoKeyword known stretch = widthAsked node spaceX known stretch
+keywordAsked node (Measure spaceX) (Exact h) known stretch = widthAsked node spaceX known stretch
+keywordAsked node (Measure spaceX) (Measure spaceY) known stretch = bothAsked node spaceX spaceY
 
 abbrev pub fillAsked : ℕ → MaybeSize → AvailableSize → Asked
 fillAsked node known space = record { stage = Fill; question = question.MeasureBoth (record { node = node; known = known; space = space }) }
@@ -176,15 +176,15 @@ fillAsked node known space = record { stage = Fill; question = question.MeasureB
 abbrev pub layOutAsked : ℕ → Size → AvailableSize → Asked
 layOutAsked node size space = record { stage = LayOut; question = question.LayOut (record { node = node; size = size; space = space }) }
 
-abbrev pub isFilled : FillReply → Bool
-isFilled fill.None = false
-isFilled (fill.Both s) = true
+abbrev pub fillGiven : FillReply → Bool
+fillGiven fill.None = false
+fillGiven (fill.Both s) = true
 
 -- steps 5 and 6: measure what is still absent, once; else lay out
 unfoldable pub sizeAsked : ℕ → Style → ResolvedBox → SizingKeywords → Replies → Asked
 sizeAsked node style box keywords replies =
     let at = stretchedBy style box keywords replies in
-    cond (isFilled (replies .fill) || bothPresent (at .known))
+    cond (fillGiven (replies .fill) || bothPresent (at .known))
     (layOutAsked node (finalSize box at (measuredSize (replies .fill))) (box .space))
     (fillAsked node (at .known) (box .space))
 
@@ -209,12 +209,12 @@ askedOf node style box keywords replies =
     (sizeAsked node style box keywords replies)
 
 unfoldable pub askedAfter : ContainingBlock → Style → OofCandidate → Replies → Asked
-askedAfter block style candidate replies =
-    let box = resolvedBox block style candidate in
+askedAfter container style candidate replies =
+    let box = resolvedBox container style candidate in
     askedOf (candidate .node) style box (sizeKeywords style box) replies
 
 -- the layout after the replies kept, once the box is laid out
 unfoldable pub layoutAfter : ContainingBlock → Style → OofCandidate → Replies → Rect → OofBoxLayout
-layoutAfter block style candidate replies overflow =
-    let box = resolvedBox block style candidate in
-    boxLayout block style candidate box (sizeBy style box (sizeKeywords style box) replies) overflow
+layoutAfter container style candidate replies overflow =
+    let box = resolvedBox container style candidate in
+    boxLayout container style candidate box (sizeBy style box (sizeKeywords style box) replies) overflow

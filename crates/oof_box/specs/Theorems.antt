@@ -16,7 +16,7 @@ use Rattle.tree.specs.declared.layout.OofCandidate.{OofCandidate}
 use Rattle.oof_resolve.specs.declared.ContainingBlock.{ContainingBlock}
 use Rattle.oof_box.specs.Talk.{Talk, done, ask, ReplyTo, Laid}
 use Rattle.oof_box.specs.Box.{placed, Placed}
-use Rattle.oof_box.specs.Cut.{noReplies, taken, isFilled, askedAfter, layoutAfter}
+use Rattle.oof_box.specs.Cut.{noReplies, taken, fillGiven, askedAfter, layoutAfter}
 use Rattle.oof_box.specs.declared.question.LayoutInput.{LayoutInput}
 use Rattle.oof_box.specs.declared.question.Question.{Question}
 use Rattle.oof_box.specs.declared.question.Question.the-variants.{MeasureBoth, MeasureWidth, MeasureHeight, LayOut}
@@ -84,17 +84,17 @@ pub data Standing : Type 0 where
   finished : Placed → Standing
 
 abbrev pub onTaken : ContainingBlock → Style → OofCandidate → Stage → Replies → List OofCandidate → Taken → Standing
-onTaken block style candidate at replies surfaced taking.Wrong = waiting at replies
-onTaken block style candidate at replies surfaced (taking.Kept r) = waiting (askedAfter block style candidate r .stage) r
-onTaken block style candidate at replies surfaced (taking.Laid overflow) =
-    finished (record { outcome = layoutAfter block style candidate replies overflow; surfaced = surfaced })
+onTaken container style candidate at replies surfaced taking.Wrong = waiting at replies
+onTaken container style candidate at replies surfaced (taking.Kept r) = waiting (askedAfter container style candidate r .stage) r
+onTaken container style candidate at replies surfaced (taking.Laid overflow) =
+    finished (record { outcome = layoutAfter container style candidate replies overflow; surfaced = surfaced })
 
 abbrev pub step : ContainingBlock → Style → OofCandidate → Standing → Heard → Standing
-step block style candidate (waiting at replies) h = onTaken block style candidate at replies (h .surfaced) (taken replies at (h .reply))
-step block style candidate (finished p) h = finished p
+step container style candidate (waiting at replies) h = onTaken container style candidate at replies (h .surfaced) (taken replies at (h .reply))
+step container style candidate (finished p) h = finished p
 
 abbrev pub begun : ContainingBlock → Style → OofCandidate → Standing
-begun block style candidate = waiting (askedAfter block style candidate noReplies .stage) noReplies
+begun container style candidate = waiting (askedAfter container style candidate noReplies .stage) noReplies
 
 -- What the host sees: the open question, or the outcome.
 
@@ -107,24 +107,24 @@ seenOf (done p) = ended p
 seenOf (ask q next) = asked q
 
 abbrev pub seenBy : ContainingBlock → Style → OofCandidate → Standing → Seen
-seenBy block style candidate (waiting at replies) = asked (askedAfter block style candidate replies .question)
-seenBy block style candidate (finished p) = ended p
+seenBy container style candidate (waiting at replies) = asked (askedAfter container style candidate replies .question)
+seenBy container style candidate (finished p) = ended p
 
-abbrev pub CodeIsDefinition : Type 0
-CodeIsDefinition =
-    (block : ContainingBlock) (style : Style) (candidate : OofCandidate) (heard : List Heard)
-    → seenBy block style candidate (foldl (step block style candidate) (begun block style candidate) heard)
-    ≡ seenOf (foldl after (placed block style candidate) heard)
+abbrev pub CutIsDefinition : Type 0
+CutIsDefinition =
+    (container : ContainingBlock) (style : Style) (candidate : OofCandidate) (heard : List Heard)
+    → seenBy container style candidate (foldl (step container style candidate) (begun container style candidate) heard)
+    ≡ seenOf (foldl after (placed container style candidate) heard)
 
 -- ---- The final size: where padding plus border of an axis isn't NaN, the size is no NaN and at least that, whatever was replied, in
 -- whatever stage, by whatever state.
 
 abbrev pub SizeLaw : Type 0
 SizeLaw =
-    (block : ContainingBlock) (style : Style) (candidate : OofCandidate) (replies : Replies) (overflow : Rect)
-    → let l = layoutAfter block style candidate replies overflow .layout in
-    let edges = sums (rectSum (l .padding) (l .border)) in
-    AtOrAbove (edges .width) (l .size .width) × AtOrAbove (edges .height) (l .size .height)
+    (container : ContainingBlock) (style : Style) (candidate : OofCandidate) (replies : Replies) (overflow : Rect)
+    → let l = layoutAfter container style candidate replies overflow .layout in
+    let paddingBorder = sums (rectSum (l .padding) (l .border)) in
+    AtOrAbove (paddingBorder .width) (l .size .width) × AtOrAbove (paddingBorder .height) (l .size .height)
 
 -- ---- A box asks at most three questions: at most two to measure, then one to lay out, and no other.
 
@@ -144,7 +144,7 @@ pub data LaysOutWithin : ℕ → Talk Placed → Type 0 where
       → LaysOutWithin (suc n) (ask q next)
 
 abbrev pub ThreeQuestions : Type 0
-ThreeQuestions = (block : ContainingBlock) (style : Style) (candidate : OofCandidate) → LaysOutWithin 2 (placed block style candidate)
+ThreeQuestions = (container : ContainingBlock) (style : Style) (candidate : OofCandidate) → LaysOutWithin 2 (placed container style candidate)
 
 -- ---- Stages only move forward, whatever words the caller has rewritten since: after a kept keyword reply no keyword question comes,
 -- after a kept reply to step 6 only lay out.
@@ -156,14 +156,14 @@ isKeywordStage stage.KeywordHeight = true
 isKeywordStage stage.Fill = false
 isKeywordStage stage.LayOut = false
 
-abbrev pub isGiven : KeywordReply → Bool
-isGiven keyword.None = false
-isGiven (keyword.Both s) = true
-isGiven (keyword.Width w) = true
-isGiven (keyword.Height h) = true
+abbrev pub keywordGiven : KeywordReply → Bool
+keywordGiven keyword.None = false
+keywordGiven (keyword.Both s) = true
+keywordGiven (keyword.Width w) = true
+keywordGiven (keyword.Height h) = true
 
 abbrev pub StagesMoveForward : Type 0
 StagesMoveForward =
-    (block : ContainingBlock) (style : Style) (candidate : OofCandidate) (replies : Replies)
-    → (isGiven (replies .keyword) ≡ true → isKeywordStage (askedAfter block style candidate replies .stage) ≡ false)
-    × (isFilled (replies .fill) ≡ true → askedAfter block style candidate replies .stage ≡ stage.LayOut)
+    (container : ContainingBlock) (style : Style) (candidate : OofCandidate) (replies : Replies)
+    → (keywordGiven (replies .keyword) ≡ true → isKeywordStage (askedAfter container style candidate replies .stage) ≡ false)
+    × (fillGiven (replies .fill) ≡ true → askedAfter container style candidate replies .stage ≡ stage.LayOut)

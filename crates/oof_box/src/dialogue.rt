@@ -2,7 +2,7 @@
 ghost use mathlib.Core.Path.{_≡_};
 ghost use mathlib.Core.Bool.{_||_};
 ghost use Rattle.geometry.specs.Geometry.{bothPresent};
-ghost use Rattle.oof_box.specs.Cut.{bothAsked, widthAsked, heightAsked, keywordAsked, fillAsked, layOutAsked, isFilled, isFirst, sizeAsked, askedOf, askedAfter, layoutAfter};
+ghost use Rattle.oof_box.specs.Cut.{bothAsked, widthAsked, heightAsked, keywordAsked, fillAsked, layOutAsked, fillGiven, isFirst, sizeAsked, askedOf, askedAfter, layoutAfter};
 use crate::question::Asked;
 use crate::question::FillReply;
 use crate::question::KeywordReply;
@@ -175,7 +175,7 @@ fn lay_out_asked(node: u32, size: Size, space: AvailableSize) -> Asked
 }
 
 fn is_filled(reply: FillReply) -> bool
-    ensures { λ r. ⌜ r ≡ isFilled reply ⌝ }
+    ensures { λ r. ⌜ r ≡ fillGiven reply ⌝ }
 {
     match reply {
         FillReply::None => false,
@@ -185,7 +185,7 @@ fn is_filled(reply: FillReply) -> bool
 
 // Whether nothing is left to measure.
 fn is_sized(reply: FillReply, known: MaybeSize) -> bool
-    ensures { λ r. ⌜ r ≡ (isFilled reply || bothPresent known) ⌝ }
+    ensures { λ r. ⌜ r ≡ (fillGiven reply || bothPresent known) ⌝ }
 {
     is_filled(reply) || known.both_axis_defined()
 }
@@ -253,30 +253,30 @@ fn asked_of(
 
 // What a box asks, by the replies so far.
 pub fn next_question(
-    block: ContainingBlock,
+    container: ContainingBlock,
     style: Style,
     candidate: OofCandidate,
     replies: Replies,
 ) -> Asked
-    ensures { λ r. ⌜ r ≡ askedAfter block style candidate replies ⌝ }
+    ensures { λ r. ⌜ r ≡ askedAfter container style candidate replies ⌝ }
 {
-    let resolved = oof_resolve::resolve_box(block, style, candidate);
+    let resolved = oof_resolve::resolve_box(container, style, candidate);
     let keywords = sizing::size_keywords(style, resolved);
     asked_of(candidate.node, style, resolved, keywords, replies)
 }
 
 // The layout of a box that the host has laid out, with its overflow.
 pub fn layout_oof_box(
-    block: ContainingBlock,
+    container: ContainingBlock,
     style: Style,
     candidate: OofCandidate,
     replies: Replies,
     overflow: Rect,
 ) -> OofBoxLayout
-    ensures { λ r. ⌜ r ≡ layoutAfter block style candidate replies overflow ⌝ }
+    ensures { λ r. ⌜ r ≡ layoutAfter container style candidate replies overflow ⌝ }
 {
-    let resolved = oof_resolve::resolve_box(block, style, candidate);
+    let resolved = oof_resolve::resolve_box(container, style, candidate);
     let keywords = sizing::size_keywords(style, resolved);
     let size = sizing::final_size(style, resolved, keywords, replies);
-    oof_place::place(block, style, candidate, resolved, size, overflow)
+    oof_place::place(container, style, candidate, resolved, size, overflow)
 }

@@ -235,12 +235,12 @@ fn is_found(found: OofBoxLayout, w: &[u32; 127]) -> bool {
 pub(crate) fn agrees(w: &[u32; 127]) -> bool {
     let style = decode::style_at(w, 0);
     let candidate = candidate::candidate_at(w, 5);
-    let block = block_of(w);
+    let container = block_of(w);
     let mut replies = Replies::NONE;
     let mut path = w[86];
     let mut i: usize = 0;
     while i < 3 {
-        let asked = dialogue::next_question(block, style, candidate, replies);
+        let asked = dialogue::next_question(container, style, candidate, replies);
         let stage = asked.stage;
         if !is_recorded(asked, path % 8, w, 115 + 4 * i) {
             return false;
@@ -253,7 +253,13 @@ pub(crate) fn agrees(w: &[u32; 127]) -> bool {
                 replies = kept;
             }
             Taken::Laid(overflow) => {
-                let found = dialogue::layout_oof_box(block, style, candidate, replies, overflow);
+                let found = dialogue::layout_oof_box(
+                    container,
+                    style,
+                    candidate,
+                    replies,
+                    overflow,
+                );
                 return path < 8 && is_found(found, w);
             }
         }

@@ -310,7 +310,7 @@ fn style_of(
     }
 }
 
-fn block() -> ContainingBlock {
+fn container() -> ContainingBlock {
     block_of(Direction::Ltr, visible())
 }
 
@@ -342,7 +342,7 @@ fn candidate() -> OofCandidate {
 }
 
 fn print_width(row: &[u8], style: Style) {
-    let resolved = oof_resolve::resolve_box(block(), style, candidate());
+    let resolved = oof_resolve::resolve_box(container(), style, candidate());
     let keywords = sizing::size_keywords(style, resolved);
     let size = sizing::final_size(style, resolved, keywords, Replies::NONE);
     print(row);

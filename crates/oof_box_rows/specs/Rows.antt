@@ -66,8 +66,8 @@ boxOf left right width min max padding =
       contain = record { layout = false; paint = false };
     }
 
-unfoldable pub blockOf : Direction → Overflow → ContainingBlock
-blockOf direction overflow =
+unfoldable pub containerOf : Direction → Overflow → ContainingBlock
+containerOf direction overflow =
     record {
       area = record { size = record { width = px 100; height = px 100 }; offset = zeroPoint };
       direction = direction;
@@ -95,7 +95,7 @@ outcome right (done p) = p
 outcome right (ask q next) = outcome right (next (replied right q))
 
 unfoldable pub hasWidth : Style → ℕ → Bool
-hasWidth style w = eq (outcome 0 (placed (blockOf Ltr Visible) style candidate) .outcome .layout .size .width) (px w)
+hasWidth style w = eq (outcome 0 (placed (containerOf Ltr Visible) style candidate) .outcome .layout .size .width) (px w)
 
 unfoldable pub is : MaybeF32 → ℕ → Bool
 is None w = false
@@ -103,7 +103,7 @@ is (Some x) w = eq x (px w)
 
 -- min, as step 2 has it
 unfoldable pub hasMin : Style → ℕ → Bool
-hasMin style w = is (resolvedBox (blockOf Ltr Visible) style candidate .min .width) w
+hasMin style w = is (resolvedBox (containerOf Ltr Visible) style candidate .min .width) w
 
 -- 10: its size, min and max
 unfoldable pub clampedBox : Style
@@ -126,8 +126,8 @@ boxRows =
 -- ---- rows 12 and 13: what a box adds to the overflow. x counts from the container's start edge.
 
 unfoldable pub adds : ContainingBlock → Style → ℕ → Float → Float → Float → Bool
-adds block style right start end bottom =
-    let r = outcome right (placed block style candidate) .outcome .contribution in
+adds container style right start end bottom =
+    let r = outcome right (placed container style candidate) .outcome .contribution in
     eq (r .left) start && eq (r .right) end && eq (r .top) 0f && eq (r .bottom) bottom
 
 unfoldable pub flatBox : Style
@@ -143,14 +143,14 @@ outsideRight n = boxOf auto (length (neg (px n))) (length (px 40)) auto auto (le
 unfoldable pub overflowRows : List Bool
 overflowRows =
     -- 12: visible, size 0 by 10, child right 0, then 5
-    adds (blockOf Ltr Visible) flatBox 0 0f 0f 0f
-    ∷ adds (blockOf Ltr Visible) flatBox 5 0f (px 5) (px 10)
+    adds (containerOf Ltr Visible) flatBox 0 0f 0f 0f
+    ∷ adds (containerOf Ltr Visible) flatBox 5 0f (px 5) (px 10)
     -- 13: scrolling parent, width 40, at -40, then -39
-    ∷ adds (blockOf Ltr Scroll) (outside 40) 0 0f 0f 0f
-    ∷ adds (blockOf Ltr Scroll) (outside 39) 0 (neg (px 39)) (px 1) (px 10)
+    ∷ adds (containerOf Ltr Scroll) (outside 40) 0 0f 0f 0f
+    ∷ adds (containerOf Ltr Scroll) (outside 39) 0 (neg (px 39)) (px 1) (px 10)
     -- 13, right-to-left: so far past the right edge
-    ∷ adds (blockOf Rtl Scroll) (outsideRight 40) 0 0f 0f 0f
-    ∷ adds (blockOf Rtl Scroll) (outsideRight 39) 0 (neg (px 39)) (px 1) (px 10)
+    ∷ adds (containerOf Rtl Scroll) (outsideRight 40) 0 0f 0f 0f
+    ∷ adds (containerOf Rtl Scroll) (outsideRight 39) 0 (neg (px 39)) (px 1) (px 10)
     ∷ []
 
 -- the row set: 1 to 11 are the starred ones

@@ -34,8 +34,8 @@ pub record Sample : Type 0 where
   pub finish : List ℕ
 
 -- width, height, offset x and y, direction, claims (not read here), overflow x and y
-unfoldable pub blockOf : List ℕ → ContainingBlock
-blockOf w =
+unfoldable pub containerOf : List ℕ → ContainingBlock
+containerOf w =
     record {
       area = record { size = record { width = floatAt w 0; height = floatAt w 1 }; offset = record { x = floatAt w 2; y = floatAt w 3 } };
       direction = directionOf (getD w 4 0);
@@ -94,7 +94,7 @@ follows (ask q next) (e ∷ qs) (r ∷ rs) layout finish = same (questionWords q
 
 unfoldable pub agrees : Sample → Bool
 agrees s =
-    follows (placed (blockOf (s .area)) (styleAt (s .style) 0) (candidateOf (s .candidate))) (s .questions) (s .replies) (s .layout) (s .finish)
+    follows (placed (containerOf (s .area)) (styleAt (s .style) 0) (candidateOf (s .candidate))) (s .questions) (s .replies) (s .layout) (s .finish)
 
 unfoldable pub allAgree : List Sample → Bool
 allAgree [] = true

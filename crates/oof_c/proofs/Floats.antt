@@ -38,7 +38,7 @@ use Rattle.run.specs.Run.{takenIn, takenBy}
 use Rattle.run.specs.declared.Progress.{Progress}
 use Rattle.run.specs.declared.Progress.the-variants.{Finished, Asking}
 use Rattle.run.specs.declared.State.{State}
-use Rattle.oof_c.specs.StateWords.{at, floatAt, keywordOf, keywordWidth, keywordHeight, fillOf, fillSize, repliesOf, overflowIn, blockOf, openedOf, stateOf}
+use Rattle.oof_c.specs.StateWords.{at, floatAt, keywordOf, keywordWidth, keywordHeight, fillOf, fillSize, repliesOf, overflowIn, containerOf, openedOf, stateOf}
 use Rattle.oof_c.specs.Laws.{Floats, FitsReply}
 
 pub zero-fits : T (fits binary32 0f)
@@ -78,7 +78,7 @@ fill-fits kind x y f g = go (eqb kind 1)
 
 -- what words mean
 pub words-fit : (w : List ℕ) → Floats (stateOf w)
-unfolding stateOf repliesOf overflowIn openedOf blockOf
+unfolding stateOf repliesOf overflowIn openedOf containerOf
 words-fit w =
     let f : (k : ℕ) → T (fits binary32 (floatAt w k)) = λ k. ofBits-fits binary32 (at w k) in
     let both = keyword-fits (at w 1) (floatAt w 2) (floatAt w 3) (f 2) (f 3) in
@@ -171,7 +171,7 @@ contribution-fits location size own overflow contain scrolls =
     let y = placedAt (location .y) down in
     sums-fit location across down (le (across .end) 0f || le (down .end) 0f) (scrolls && (le (x .end) 0f || le (y .end) 0f))
 
-pub added-fits : (block : ContainingBlock) (style : Style) (candidate : OofCandidate) (replies : Replies) (overflow : Rect)
-    → FitsRect (layoutAfter block style candidate replies overflow .contribution)
+pub added-fits : (container : ContainingBlock) (style : Style) (candidate : OofCandidate) (replies : Replies) (overflow : Rect)
+    → FitsRect (layoutAfter container style candidate replies overflow .contribution)
 unfolding layoutAfter boxLayout
-added-fits block style candidate replies overflow = contribution-fits _ _ _ _ _ _
+added-fits container style candidate replies overflow = contribution-fits _ _ _ _ _ _

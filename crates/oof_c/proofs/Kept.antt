@@ -118,8 +118,8 @@ record Whole (s : State) : Type 0 where
 
 -- what the next box, or the finish, keeps
 record Ready (run : Opened) (c : Counts) (joined : Rect) : Type 0 where
-  size : FitsSize (run .block .area .size)
-  offset : FitsPoint (run .block .area .offset)
+  size : FitsSize (run .container .area .size)
+  offset : FitsPoint (run .container .area .offset)
   lengths : Lengths (run .extents)
   working : c .filled .working ≤ 4096
   unclaimed : c .filled .unclaimed ≤ 4096
@@ -261,7 +261,7 @@ laid-whole s overflow surfaced l f p =
     let n = counted l (s .counts) (p .counts) in
     let by = s .opened .claims in
     let box = boxAtHand (l .working) (s .counts) in
-    let placed = layoutAfter (s .opened .block) (styleAt (l .styles) (box .node)) box (s .replies) overflow in
+    let placed = layoutAfter (s .opened .container) (styleAt (l .styles) (box .node)) box (s .replies) overflow in
     let shift = By (placed .layout .location) in
     let held = found by l (s .counts .filled) surfaced (p .room) in
     let inside = kept-moved by true shift (candidatesIn surfaced) in
@@ -275,7 +275,7 @@ laid-whole s overflow surfaced l f p =
       unclaimed = rw outside (omega (arith, held .1, p .lent .unclaimed));
       begun = omega (arith, n .begun);
       answered = omega (arith, n .answered, n .begun, n .working, p .lent .working);
-      overflow = union-fits (s .overflow) (placed .contribution) (f .overflow) (added-fits (s .opened .block) (styleAt (l .styles) (box .node)) box (s .replies) overflow);
+      overflow = union-fits (s .overflow) (placed .contribution) (f .overflow) (added-fits (s .opened .container) (styleAt (l .styles) (box .node)) box (s .replies) overflow);
     })
 
 -- ---- an opening

@@ -32,7 +32,7 @@ use Rattle.run.specs.declared.Answer.{Answer}
 use Rattle.run.specs.declared.Answer.the-variants.{Ask, Finish, Refused}
 use Rattle.run.specs.declared.Progress.{Progress}
 use Rattle.run.specs.declared.Progress.the-variants.{Finished, Asking}
-use Rattle.oof_c.specs.StateWords.{countWord, progressOf, stageCode, progressCode, keywordOf, keywordKind, keywordWidth, keywordHeight, fillOf, fillKind, fillSize, claimsOf, claimsCode, repliesOf, countsOf, overflowIn, blockOf, extentsOf, openedOf, stateOf, openingCodes, stateWords}
+use Rattle.oof_c.specs.StateWords.{countWord, progressOf, stageCode, progressCode, keywordOf, keywordKind, keywordWidth, keywordHeight, fillOf, fillKind, fillSize, claimsOf, claimsCode, repliesOf, countsOf, overflowIn, containerOf, extentsOf, openedOf, stateOf, openingCodes, stateWords}
 use Rattle.oof_c.specs.Entry.{resultOf, stateLeft, answerLeft, Words, words, inWords, lentIn, openedInWords, repliedInWords}
 use Rattle.oof_c.specs.Laws.{InAWord, StateBack, ZeroState, RefusedOpeningCloses, NoReplyAfterRefusedOpening, RefusedReplyWritesNothing}
 
@@ -77,9 +77,9 @@ claims-back c =
     λ j. record { absolute = both .0 j; fixed = both .1 j }
 
 pub state-back : StateBack
-unfolding stateOf stateWords repliesOf countsOf overflowIn openedOf blockOf extentsOf openingCodes
+unfolding stateOf stateWords repliesOf countsOf overflowIn openedOf containerOf extentsOf openingCodes
 state-back s f n =
-    let area = s .opened .block .area in
+    let area = s .opened .container .area in
     λ j. record {
       progress = progress-back (s .progress) j;
       replies =
@@ -100,16 +100,16 @@ state-back s f n =
           };
       opened =
           record {
-            block =
+            container =
                 record {
                   area =
                       record {
                         size = size-back (area .size) (f .size) j;
                         offset = record { x = float-back (area .offset .x) (f .offset .0) j; y = float-back (area .offset .y) (f .offset .1) j };
                       };
-                  direction = direction-codes .0 (s .opened .block .direction) j;
+                  direction = direction-codes .0 (s .opened .container .direction) j;
                   overflow =
-                      record { x = overflow-codes .0 (s .opened .block .overflow .x) j; y = overflow-codes .0 (s .opened .block .overflow .y) j };
+                      record { x = overflow-codes .0 (s .opened .container .overflow .x) j; y = overflow-codes .0 (s .opened .container .overflow .y) j };
                 };
             claims = claims-back (s .opened .claims) j;
             extents =
@@ -123,7 +123,7 @@ state-back s f n =
     }
 
 pub zero-state : ZeroState
-unfolding stateOf repliesOf countsOf overflowIn openedOf blockOf extentsOf progressOf keywordOf fillOf claimsOf directionOf overflowOf closed
+unfolding stateOf repliesOf countsOf overflowIn openedOf containerOf extentsOf progressOf keywordOf fillOf claimsOf directionOf overflowOf closed
 zero-state = refl
 
 -- ---- a refusal

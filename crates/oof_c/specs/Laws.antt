@@ -26,8 +26,8 @@ pub record Floats (s : State) : Type 0 where
   pub keywordHeight : T (fits binary32 (keywordHeight (s .replies .keyword)))
   pub fill : FitsSize (fillSize (s .replies .fill))
   pub overflow : FitsRect (s .overflow)
-  pub size : FitsSize (s .opened .block .area .size)
-  pub offset : FitsPoint (s .opened .block .area .offset)
+  pub size : FitsSize (s .opened .container .area .size)
+  pub offset : FitsPoint (s .opened .container .area .offset)
 
 abbrev pub InAWord : ℕ → Type 0
 InAWord n = n < 4294967296

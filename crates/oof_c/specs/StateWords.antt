@@ -125,8 +125,8 @@ countsOf w = record { filled = record { working = at w 7; unclaimed = at w 8 }; 
 unfoldable pub overflowIn : List ℕ → Rect
 overflowIn w = record { left = floatAt w 11; right = floatAt w 12; top = floatAt w 13; bottom = floatAt w 14 }
 
-unfoldable pub blockOf : List ℕ → ContainingBlock
-blockOf w =
+unfoldable pub containerOf : List ℕ → ContainingBlock
+containerOf w =
     record {
       area =
           record { size = record { width = floatAt w 15; height = floatAt w 16 }; offset = record { x = floatAt w 17; y = floatAt w 18 } };
@@ -138,7 +138,7 @@ unfoldable pub extentsOf : List ℕ → Extents
 extentsOf w = record { styles = at w 23; layouts = at w 24; working = at w 25; unclaimed = at w 26 }
 
 unfoldable pub openedOf : List ℕ → Opened
-openedOf w = record { block = blockOf w; claims = claimsOf (at w 20); extents = extentsOf w }
+openedOf w = record { container = containerOf w; claims = claimsOf (at w 20); extents = extentsOf w }
 
 unfoldable pub stateOf : List ℕ → State
 stateOf w =
@@ -175,8 +175,8 @@ areaWords a = floatWord (a .size .width) ∷ floatWord (a .size .height) ∷ flo
 -- 19 to 22
 unfoldable pub openingCodes : Opened → List ℕ
 openingCodes run =
-    directionCode (run .block .direction) ∷ claimsCode (run .claims) ∷ overflowCode (run .block .overflow .x)
-    ∷ overflowCode (run .block .overflow .y)
+    directionCode (run .container .direction) ∷ claimsCode (run .claims) ∷ overflowCode (run .container .overflow .x)
+    ∷ overflowCode (run .container .overflow .y)
     ∷ []
 
 -- 23 to 26
@@ -188,6 +188,6 @@ stateWords s =
     (progressCode (s .progress) ∷ []) ++ keywordWords (s .replies .keyword) ++ fillWords (s .replies .fill)
     ++ countsWords (s .counts)
     ++ rectWords (s .overflow)
-    ++ areaWords (s .opened .block .area)
+    ++ areaWords (s .opened .container .area)
     ++ openingCodes (s .opened)
     ++ extentsWords (s .opened .extents)

@@ -1,6 +1,6 @@
 // The state of a run in 27 lent words, by the table of specs/StateWords.antt.
 ghost use mathlib.Core.Path.{_≡_};
-ghost use Rattle.oof_c.specs.StateWords.{countWord, progressOf, stageCode, progressCode, keywordOf, keywordKind, keywordWidth, keywordHeight, fillOf, fillKind, fillSize, repliesOf, countsOf, overflowIn, blockOf, claimsOf, claimsCode, extentsOf, openedOf, openingCodes, stateOf, stateWords};
+ghost use Rattle.oof_c.specs.StateWords.{countWord, progressOf, stageCode, progressCode, keywordOf, keywordKind, keywordWidth, keywordHeight, fillOf, fillKind, fillSize, repliesOf, countsOf, overflowIn, containerOf, claimsOf, claimsCode, extentsOf, openedOf, openingCodes, stateOf, stateWords};
 ghost use Rattle.style.specs.Codes.{directionCode, overflowCode};
 use geometry::Point;
 use geometry::Rect;
@@ -221,7 +221,7 @@ fn overflow_in(w: &[u32; STATE_WORDS]) -> Rect
 }
 
 fn block_of(w: &[u32; STATE_WORDS]) -> ContainingBlock
-    ensures { λ r. ⌜ r ≡ blockOf (now (w .entry)) ⌝ }
+    ensures { λ r. ⌜ r ≡ containerOf (now (w .entry)) ⌝ }
 {
     let size = Size {
         width: bits::from_word(w[15]),
@@ -270,7 +270,7 @@ fn opened_of(w: &[u32; STATE_WORDS]) -> Opened
     ensures { λ r. ⌜ r ≡ openedOf (now (w .entry)) ⌝ }
 {
     Opened {
-        block: block_of(w),
+        container: block_of(w),
         claims: claims_of(w[20]),
         extents: extents_of(w),
     }
@@ -295,9 +295,9 @@ pub fn state_of(w: &[u32; STATE_WORDS]) -> State
 fn opening_codes(run: Opened) -> [u32; 4]
     ensures { λ r. ⌜ r ≡ openingCodes run ⌝ }
 {
-    let block = run.block;
-    let direction = block.direction;
-    let overflow = block.overflow;
+    let container = run.container;
+    let direction = container.direction;
+    let overflow = container.overflow;
     let x = overflow.x;
     let y = overflow.y;
     let claims = run.claims;
@@ -336,10 +336,10 @@ pub fn state_words(s: State) -> [u32; STATE_WORDS]
         bits::to_word(s.overflow.right),
         bits::to_word(s.overflow.top),
         bits::to_word(s.overflow.bottom),
-        bits::to_word(run.block.area.size.width),
-        bits::to_word(run.block.area.size.height),
-        bits::to_word(run.block.area.offset.x),
-        bits::to_word(run.block.area.offset.y),
+        bits::to_word(run.container.area.size.width),
+        bits::to_word(run.container.area.size.height),
+        bits::to_word(run.container.area.offset.x),
+        bits::to_word(run.container.area.offset.y),
         codes[0],
         codes[1],
         codes[2],

@@ -24,33 +24,33 @@ scrollbarOf overflow width = cond (isScroll overflow) width 0f
 
 -- the bar of a vertical scroll takes width, that of a horizontal one height; the location includes the offset
 unfoldable pub layoutOf : ContainingBlock → Style → OofCandidate → ResolvedBox → Size → Rect → Layout
-layoutOf block style candidate box size overflow =
-    let across = placement (box .horizontal) (size .width) in
-    let down = placement (box .vertical) (size .height) in
+layoutOf container style candidate box size overflow =
+    let placedX = placement (box .horizontal) (size .width) in
+    let placedY = placement (box .vertical) (size .height) in
     record {
       order = candidate .order;
       size = size;
       overflow = overflow;
       scrollbar =
           record { width = scrollbarOf (style .overflow .y) (style .scrollbar); height = scrollbarOf (style .overflow .x) (style .scrollbar) };
-      location = record { x = across .position ⊕ block .area .offset .x; y = down .position ⊕ block .area .offset .y };
+      location = record { x = placedX .position ⊕ container .area .offset .x; y = placedY .position ⊕ container .area .offset .y };
       padding = box .padding;
       border = box .border;
-      margin = rectOf (across .margin) (down .margin);
+      margin = rectOf (placedX .margin) (placedY .margin);
     }
 
 -- the location from the container's scroll origin: from the area's top, and from its start edge by direction
 unfoldable pub fromOrigin : ContainingBlock → Point → Size → Point
-fromOrigin block location size =
-    let x = location .x ⊖ block .area .offset .x in
-    record { x = cond (isRtl (block .direction)) (block .area .size .width ⊖ x ⊖ size .width) x; y = location .y ⊖ block .area .offset .y }
+fromOrigin container location size =
+    let x = location .x ⊖ container .area .offset .x in
+    record { x = cond (isRtl (container .direction)) (container .area .size .width ⊖ x ⊖ size .width) x; y = location .y ⊖ container .area .offset .y }
 
 unfoldable pub boxLayout : ContainingBlock → Style → OofCandidate → ResolvedBox → Size → Rect → OofBoxLayout
-boxLayout block style candidate box size overflow =
-    let layout = layoutOf block style candidate box size overflow in
+boxLayout container style candidate box size overflow =
+    let layout = layoutOf container style candidate box size overflow in
     record {
       layout = layout;
       contribution =
-          contribution (fromOrigin block (layout .location) size) size overflow (style .overflow) (style .contain)
-          (anyScrollContainer (block .overflow));
+          contribution (fromOrigin container (layout .location) size) size overflow (style .overflow) (style .contain)
+          (anyScrollContainer (container .overflow));
     }

@@ -30,16 +30,16 @@ fn scrollbar_of(overflow: Overflow, width: f32) -> f32
 
 // The bar of a vertical scroll takes width, that of a horizontal one height. The location includes the offset.
 fn layout_of(
-    block: ContainingBlock,
+    container: ContainingBlock,
     style: Style,
     candidate: OofCandidate,
     resolved: ResolvedBox,
     size: Size,
     overflow: Rect,
 ) -> Layout
-    ensures { λ r. ⌜ r ≡ layoutOf block style candidate resolved size overflow ⌝ }
+    ensures { λ r. ⌜ r ≡ layoutOf container style candidate resolved size overflow ⌝ }
 {
-    let offset = block.area.offset;
+    let offset = container.area.offset;
     let horizontal = resolved.horizontal;
     let vertical = resolved.vertical;
     let padding = resolved.padding;
@@ -70,16 +70,16 @@ fn layout_of(
 }
 
 // The location from the scroll origin: the area's top, and its start edge by direction.
-fn from_origin(block: ContainingBlock, location: Point, size: Size) -> Point
-    ensures { λ r. ⌜ r ≡ fromOrigin block location size ⌝ }
+fn from_origin(container: ContainingBlock, location: Point, size: Size) -> Point
+    ensures { λ r. ⌜ r ≡ fromOrigin container location size ⌝ }
 {
-    let offset = block.area.offset;
-    let direction = block.direction;
+    let offset = container.area.offset;
+    let direction = container.direction;
     let x = location.x - offset.x;
     let y = location.y - offset.y;
     if direction.is_rtl() {
         return Point {
-            x: block.area.size.width - x - size.width,
+            x: container.area.size.width - x - size.width,
             y: y,
         };
     }
@@ -87,28 +87,28 @@ fn from_origin(block: ContainingBlock, location: Point, size: Size) -> Point
 }
 
 pub fn place(
-    block: ContainingBlock,
+    container: ContainingBlock,
     style: Style,
     candidate: OofCandidate,
     resolved: ResolvedBox,
     size: Size,
     overflow: Rect,
 ) -> OofBoxLayout
-    ensures { λ r. ⌜ r ≡ boxLayout block style candidate resolved size overflow ⌝ }
+    ensures { λ r. ⌜ r ≡ boxLayout container style candidate resolved size overflow ⌝ }
 {
     let clip = style.overflow;
     let contain = style.contain;
-    let container = block.overflow;
-    let layout = layout_of(block, style, candidate, resolved, size, overflow);
+    let parent_overflow = container.overflow;
+    let layout = layout_of(container, style, candidate, resolved, size, overflow);
     let location = layout.location;
-    let origin = from_origin(block, location, size);
+    let origin = from_origin(container, location, size);
     let added = scrollable_overflow::compute_scrollable_overflow_contribution(
         origin,
         size,
         overflow,
         clip,
         contain,
-        container.is_scroll_container(),
+        parent_overflow.is_scroll_container(),
     );
     OofBoxLayout {
         layout: layout,

@@ -70,14 +70,14 @@ fn less_offset(place: AxisStaticPosition, offset: f32) -> AxisStaticPosition
     }
 }
 
-fn horizontal_axis(block: ContainingBlock, style: Style, candidate: OofCandidate) -> OofAxis
-    ensures { λ r. ⌜ r ≡ horizontal block style candidate ⌝ }
+fn horizontal_axis(container: ContainingBlock, style: Style, candidate: OofCandidate) -> OofAxis
+    ensures { λ r. ⌜ r ≡ horizontal container style candidate ⌝ }
 {
-    let area = block.area;
+    let area = container.area;
     let size = area.size;
     let offset = area.offset;
-    let direction = block.direction;
-    let overflow = block.overflow;
+    let direction = container.direction;
+    let overflow = container.overflow;
     let scroll = overflow.x;
     let inset_style = style.inset;
     let margin_style = style.margin;
@@ -100,14 +100,14 @@ fn horizontal_axis(block: ContainingBlock, style: Style, candidate: OofCandidate
     }
 }
 
-fn vertical_axis(block: ContainingBlock, style: Style, candidate: OofCandidate) -> OofAxis
-    ensures { λ r. ⌜ r ≡ vertical block style candidate ⌝ }
+fn vertical_axis(container: ContainingBlock, style: Style, candidate: OofCandidate) -> OofAxis
+    ensures { λ r. ⌜ r ≡ vertical container style candidate ⌝ }
 {
-    let area = block.area;
+    let area = container.area;
     let size = area.size;
     let offset = area.offset;
-    let direction = block.direction;
-    let overflow = block.overflow;
+    let direction = container.direction;
+    let overflow = container.overflow;
     let scroll = overflow.y;
     let inset_style = style.inset;
     let margin_style = style.margin;
@@ -188,17 +188,17 @@ fn space_for(style: Style, area: Size, fit: Size) -> Size
 
 // ---- steps 1 to 3
 
-pub fn resolve_box(block: ContainingBlock, style: Style, candidate: OofCandidate) -> ResolvedBox
-    ensures { λ r. ⌜ r ≡ resolvedBox block style candidate ⌝ }
+pub fn resolve_box(container: ContainingBlock, style: Style, candidate: OofCandidate) -> ResolvedBox
+    ensures { λ r. ⌜ r ≡ resolvedBox container style candidate ⌝ }
 {
-    let area = block.area;
+    let area = container.area;
     let area_size = area.size;
     let size_style = style.size;
     let max_style = style.max;
     let padding_style = style.padding;
     let border_style = style.border;
-    let horizontal = horizontal_axis(block, style, candidate);
-    let vertical = vertical_axis(block, style, candidate);
+    let horizontal = horizontal_axis(container, style, candidate);
+    let vertical = vertical_axis(container, style, candidate);
     let padding = padding_or_border(padding_style, area_size);
     let border = padding_or_border(border_style, area_size);
     let edges = padding.add(border).sum_axes();

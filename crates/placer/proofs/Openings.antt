@@ -19,7 +19,7 @@ use Rattle.run.specs.declared.Step.{Step}
 use Rattle.run.specs.Call.{Lent, Outcome, outcome}
 use Rattle.run.proofs.Call.{outcome-is}
 use Rattle.run.specs.Refusals.{_when_else_, refused, listFull}
-use Rattle.run.specs.Run.{claimsOf, blockOf, extentsOf, noneFilled, openingVerdict, closed, begun, openedBy, opened, proceeding}
+use Rattle.run.specs.Run.{claimsOf, containerOf, extentsOf, noneFilled, openingVerdict, closed, begun, openedBy, opened, proceeding}
 use Rattle.placer_check.specs.Verdict.{thenRoom}
 use Rattle.placer_check.specs.declared.Verdict.the-variants.{Accepted}
 use Rattle.placer.specs.Entry.{AtHand, OpeningCleared}
@@ -60,7 +60,7 @@ module _ (o : Opening) (candidates : List ℕ) (l : Lent) where
       (rw (sym (ap (λ (x : Filled). x .working) (f .1))) more))
 
   pub swept-in : (after : Filled) (step : Step) (w u : List ℕ) → sweep.Leaves (Into after) w u sweeping
-      → step ≡ proceeding (l .styles) w (record { block = blockOf o; claims = claimsOf o; extents = extentsOf l }) (record { filled = after; begun = 0; answered = 0 }) zeroRect
+      → step ≡ proceeding (l .styles) w (record { container = containerOf o; claims = claimsOf o; extents = extentsOf l }) (record { filled = after; begun = 0; answered = 0 }) zeroRect
       → outcome step (l .layouts) w u ≡ begins
   unfolding begun _when_else_
   swept-in after step w u h s =

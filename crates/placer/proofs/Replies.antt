@@ -48,7 +48,7 @@ use Rattle.placer.proofs.Calls.{Passed, reply-passed, counted, none-ful
 
 module _ (s : State) (overflow : Rect) (surfaced : List ℕ) (l : Lent) where
   abbrev pub placing : OofBoxLayout
-  placing = layoutAfter (s .opened .block) (styleAt (l .styles) (boxAtHand (l .working) (s .counts) .node)) (boxAtHand (l .working) (s .counts)) (s .replies) overflow
+  placing = layoutAfter (s .opened .container) (styleAt (l .styles) (boxAtHand (l .working) (s .counts) .node)) (boxAtHand (l .working) (s .counts)) (s .replies) overflow
 
   abbrev pub shift : Shift
   shift = By (placing .layout .location)

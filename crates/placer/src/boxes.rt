@@ -77,10 +77,10 @@ pub fn ask(
     requires { ⌜ AtHand (now styles) (now working) (counts .begun) ⌝ }
     ensures { λ r. ⌜ r ≡ asking (now (styles .entry)) (now (working .entry)) run counts overflow replies ⌝ }
 {
-    let block = run.block;
+    let container = run.container;
     let candidate = box_at_hand(working, counts);
     let style = style_of(styles, candidate);
-    let next = dialogue::next_question(block, style, candidate, replies);
+    let next = dialogue::next_question(container, style, candidate, replies);
     let stage = next.stage;
     let question = next.question;
     let state = State {
@@ -164,14 +164,14 @@ pub fn settle(
 {
     let run = s.opened;
     let claims = run.claims;
-    let block = run.block;
+    let container = run.container;
     let counts = s.counts;
     let held = counts.filled;
     let replies = s.replies;
     let so_far = s.overflow;
     let candidate = box_at_hand(&working[..], counts);
     let style = style_of(styles, candidate);
-    let placed = dialogue::layout_oof_box(block, style, candidate, replies, overflow);
+    let placed = dialogue::layout_oof_box(container, style, candidate, replies, overflow);
     let laid = placed.layout;
     let location = laid.location;
     let added = placed.contribution;

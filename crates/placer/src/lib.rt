@@ -3,7 +3,7 @@
 ghost use mathlib.Core.Path.{_≡_};
 ghost use Rattle.run.specs.Call.{lent, atEntry, atExit};
 ghost use Rattle.run.specs.Refusals.{listFull};
-ghost use Rattle.run.specs.Run.{claimsOf, blockOf, extentsOf, noneFilled, closed, openedBy, opened, replied};
+ghost use Rattle.run.specs.Run.{claimsOf, containerOf, extentsOf, noneFilled, closed, openedBy, opened, replied};
 ghost use Rattle.placer_check.specs.Verdict.{thenRoom};
 ghost use Rattle.placer.specs.Entry.{OpeningCleared, passNeeded, overflowAfter};
 use geometry::Point;
@@ -39,7 +39,7 @@ mod boxes;
 // ---- an opening
 
 fn block_of(o: Opening) -> ContainingBlock
-    ensures { λ r. ⌜ r ≡ blockOf o ⌝ }
+    ensures { λ r. ⌜ r ≡ containerOf o ⌝ }
 {
     let area = o.area;
     let overflow = OverflowPoint {
@@ -97,13 +97,13 @@ const NO_CLAIMS: ContainingBlockClaims = ContainingBlockClaims {
 fn closed(styles: &[u32], layouts: &[u32], working: &[u32], unclaimed: &[u32]) -> State
     ensures { λ r. ⌜ r ≡ closed (atEntry styles layouts working unclaimed) ⌝ }
 {
-    let block = ContainingBlock {
+    let container = ContainingBlock {
         area: NO_AREA,
         direction: Direction::Ltr,
         overflow: NO_OVERFLOW,
     };
     let run = Opened {
-        block: block,
+        container: container,
         claims: NO_CLAIMS,
         extents: extents_of(styles, layouts, working, unclaimed),
     };
@@ -147,7 +147,7 @@ fn begin(
         Swept::Refused(refusal) => boxes::refuse(none, refusal),
         Swept::Into(filled) => {
             let run = Opened {
-                block: block_of(o),
+                container: block_of(o),
                 claims: claims,
                 extents: extents,
             };

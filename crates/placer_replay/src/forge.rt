@@ -55,10 +55,10 @@ fn with_extents(state: State, extents: Extents) -> State {
     let replies = state.replies;
     let counts = state.counts;
     let overflow = state.overflow;
-    let block = state.opened.block;
+    let container = state.opened.container;
     let claims = state.opened.claims;
     let opened = Opened {
-        block: block,
+        container: container,
         claims: claims,
         extents: extents,
     };

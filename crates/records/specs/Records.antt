@@ -33,19 +33,19 @@ written ws at (v ∷ vs) = written (set ws at v) (suc at) vs
 
 -- what a word of a record holds: a code below a limit, any whole number, or a float by its bits
 pub data Kind : Type 0 where
-  code : ℕ → Kind
+  below : ℕ → Kind
   whole : Kind
   float : Kind
 
 -- only a code can be wrong: one that is not below its limit
 unfoldable pub wrong : Kind → ℕ → Bool
-wrong (code limit) word = leb limit word
+wrong (below limit) word = leb limit word
 wrong whole word = false
 wrong float word = false
 
 -- as it is written: every NaN is 7FC00000
 unfoldable pub canonicalWord : Kind → ℕ → ℕ
-canonicalWord (code limit) word = word
+canonicalWord (below limit) word = word
 canonicalWord whole word = word
 canonicalWord float word = toBits binary32 (ofBits binary32 word)
 

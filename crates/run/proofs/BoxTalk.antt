@@ -11,7 +11,7 @@ use Rattle.oof_box.specs.Talk.{Talk, done, ask, ReplyTo}
 use Rattle.oof_box.specs.Box.{placed, Placed}
 use Rattle.oof_box.specs.Cut.{noReplies, taken, askedAfter, layoutAfter}
 use Rattle.oof_box.specs.Theorems.{Heard, replyTo, orStay, after, Standing, waiting, onTaken, step, begun, Seen, asked, ended, seenOf, seenBy}
-use Rattle.oof_box.proofs.Talks.{code-is-definition}
+use Rattle.oof_box.proofs.Talks.{cut-is-definition}
 use Rattle.oof_box.specs.declared.question.Question.{Question}
 use Rattle.oof_box.specs.declared.question.Replies.{Replies}
 use Rattle.oof_box.specs.declared.question.Taken.{Taken}
@@ -48,25 +48,25 @@ shows : (t : Talk Placed) → Shows t (seenOf t)
 shows (done p) = refl
 shows (ask q next) = asks next
 
-module _ (block : ContainingBlock) (style : Style) (candidate : OofCandidate) where
+module _ (container : ContainingBlock) (style : Style) (candidate : OofCandidate) where
   -- these replies are kept, and the box's dialogue is t
   pub record At (replies : Replies) (t : Talk Placed) : Type 0 where
     pub heard : List Heard
-    pub code : foldl (step block style candidate) (begun block style candidate) heard ≡ waiting (askedAfter block style candidate replies .stage) replies
-    pub talk : foldl after (placed block style candidate) heard ≡ t
+    pub code : foldl (step container style candidate) (begun container style candidate) heard ≡ waiting (askedAfter container style candidate replies .stage) replies
+    pub talk : foldl after (placed container style candidate) heard ≡ t
 
-  pub at-first : At noReplies (placed block style candidate)
+  pub at-first : At noReplies (placed container style candidate)
   at-first = record { heard = []; code = refl; talk = refl }
 
   -- the host sees as much of the one as of the other
   shows-at : (hs : List Heard) {x : Standing} {t : Talk Placed}
-      → foldl (step block style candidate) (begun block style candidate) hs ≡ x
-      → foldl after (placed block style candidate) hs ≡ t
-      → Shows t (seenBy block style candidate x)
+      → foldl (step container style candidate) (begun container style candidate) hs ≡ x
+      → foldl after (placed container style candidate) hs ≡ t
+      → Shows t (seenBy container style candidate x)
   shows-at hs {t = t} d e =
-      subst (Shows t) (sym (ap (seenBy block style candidate) (sym d) ∙ code-is-definition block style candidate hs ∙ ap seenOf e)) (shows t)
+      subst (Shows t) (sym (ap (seenBy container style candidate) (sym d) ∙ cut-is-definition container style candidate hs ∙ ap seenOf e)) (shows t)
 
-  pub asks-at : {replies : Replies} {t : Talk Placed} → At replies t → Asks (askedAfter block style candidate replies .question) t
+  pub asks-at : {replies : Replies} {t : Talk Placed} → At replies t → Asks (askedAfter container style candidate replies .question) t
   asks-at a = shows-at (a .heard) (a .code) (a .talk)
 
   -- one reply more
@@ -74,19 +74,19 @@ module _ (block : ContainingBlock) (style : Style) (candidate : OofCandidate) wh
   more f z bs b d e = foldl-append f z bs (b ∷ []) ∙ ap (λ x. f x b) d ∙ e
 
   code-more : {replies : Replies} {t : Talk Placed} {o : Taken} (h : Heard) (a : At replies t)
-      → taken replies (askedAfter block style candidate replies .stage) (h .reply) ≡ o
-      → foldl (step block style candidate) (begun block style candidate) (a .heard ++ (h ∷ []))
-      ≡ onTaken block style candidate (askedAfter block style candidate replies .stage) replies (h .surfaced) o
+      → taken replies (askedAfter container style candidate replies .stage) (h .reply) ≡ o
+      → foldl (step container style candidate) (begun container style candidate) (a .heard ++ (h ∷ []))
+      ≡ onTaken container style candidate (askedAfter container style candidate replies .stage) replies (h .surfaced) o
   code-more {replies} h a e =
-      more (step block style candidate) _ (a .heard) h (a .code)
-      (ap (onTaken block style candidate (askedAfter block style candidate replies .stage) replies (h .surfaced)) e)
+      more (step container style candidate) _ (a .heard) h (a .code)
+      (ap (onTaken container style candidate (askedAfter container style candidate replies .stage) replies (h .surfaced)) e)
 
   pub kept-at : {replies r : Replies} {t : Talk Placed} (h : Heard) → At replies t
-      → taken replies (askedAfter block style candidate replies .stage) (h .reply) ≡ Kept r
+      → taken replies (askedAfter container style candidate replies .stage) (h .reply) ≡ Kept r
       → At r (after t h)
   kept-at h a e = record { heard = a .heard ++ (h ∷ []); code = code-more h a e; talk = more after _ (a .heard) h (a .talk) refl }
 
   pub laid-at : {replies : Replies} {t : Talk Placed} {overflow : Rect} (h : Heard) → At replies t
-      → taken replies (askedAfter block style candidate replies .stage) (h .reply) ≡ Laid overflow
-      → after t h ≡ done (record { outcome = layoutAfter block style candidate replies overflow; surfaced = h .surfaced })
+      → taken replies (askedAfter container style candidate replies .stage) (h .reply) ≡ Laid overflow
+      → after t h ≡ done (record { outcome = layoutAfter container style candidate replies overflow; surfaced = h .surfaced })
   laid-at h a e = shows-at (a .heard ++ (h ∷ [])) (code-more h a e) (more after _ (a .heard) h (a .talk) refl)

@@ -15,7 +15,7 @@ use Rattle.style.proofs.Laws.{takes-its-tags}
 use Rattle.records.specs.Records.{room, good, goodRecords}
 use Rattle.tree_record.specs.Candidate.{axisKinds, candidateKinds}
 use Rattle.tree_record.proofs.Good.{good-axis, good-record}
-use Rattle.style_record.specs.Record.{Kind, tag, number, code, ratio, keyword, safety, contain, kindOf, item, items}
+use Rattle.style_record.specs.Record.{Kind, tag, number, upTo, ratio, keyword, safety, contain, kindOf, item, items}
 use Rattle.style_record.specs.Check.{safetyBreaks, breaksAs, breaksRule, breaks, checked}
 use Rattle.style_record.specs.declared.check.TableCheck.{TableCheck}
 use Rattle.style_record.specs.declared.check.TableCheck.the-variants.{Good, Bad}
@@ -159,7 +159,7 @@ word-decided : (kind : Kind) (before w : ℕ) → Decides (breaksAs kind before 
 unfolding breaksAs
 word-decided (tag field) before w = rw (takes-its-tags field w) (opposite (among-decided (tagsOf field) w))
 word-decided number before w = anything
-word-decided (code last) before w = above last w
+word-decided (upTo last) before w = above last w
 word-decided ratio before w = anything
 word-decided keyword before w = above 10 w
 word-decided safety before w = safety-decided before w

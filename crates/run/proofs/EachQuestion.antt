@@ -13,7 +13,7 @@ use Rattle.common.specs.declared.sizing_keyword.SizingKeywordResolution.the-var
 use Rattle.oof_resolve.specs.Resolved.{resolvedBox}
 use Rattle.oof_resolve.specs.declared.ContainingBlock.{ContainingBlock}
 use Rattle.oof_box.specs.Box.{keywordStretch, sizeKeywords}
-use Rattle.oof_box.specs.Cut.{isFilled, isFirst, stretchedBy, sizeBy, layOutAsked, keywordAsked, sizeAsked, orLater, askedOf, askedAfter}
+use Rattle.oof_box.specs.Cut.{fillGiven, isFirst, stretchedBy, sizeBy, layOutAsked, keywordAsked, sizeAsked, orLater, askedOf, askedAfter}
 use Rattle.oof_box.specs.declared.question.Asked.{Asked}
 use Rattle.oof_box.specs.declared.question.MeasureInput.{MeasureInput}
 use Rattle.oof_box.specs.declared.question.Question.the-variants.{MeasureBoth, MeasureWidth, MeasureHeight}
@@ -47,22 +47,22 @@ module _ (P : Asked → Type 0) (each : OfMeasures P) where
   after-keywords node (Measure across) (Measure down) known stretch later h = each .both _
 
   -- lay out tells the node of its box and the size that the replies kept come to
-  pub of-asked : (block : ContainingBlock) (style : Style) (candidate : OofCandidate) (replies : Replies)
-      → let box = resolvedBox block style candidate in
+  pub of-asked : (container : ContainingBlock) (style : Style) (candidate : OofCandidate) (replies : Replies)
+      → let box = resolvedBox container style candidate in
       ((space : AvailableSize) → P (layOutAsked (candidate .node) (sizeBy style box (sizeKeywords style box) replies) space))
-      → P (askedAfter block style candidate replies)
+      → P (askedAfter container style candidate replies)
   unfolding askedAfter askedOf sizeAsked sizeBy
-  of-asked block style candidate replies lays =
-      let box = resolvedBox block style candidate in
+  of-asked container style candidate replies lays =
+      let box = resolvedBox container style candidate in
       let keywords = sizeKeywords style box in
       let later = sizeAsked (candidate .node) style box keywords replies in
-      let h : P later = chosen (isFilled (replies .fill) || bothPresent (stretchedBy style box keywords replies .known)) _ _ (lays (box .space)) (each .fill _) in
+      let h : P later = chosen (fillGiven (replies .fill) || bothPresent (stretchedBy style box keywords replies .known)) _ _ (lays (box .space)) (each .fill _) in
       chosen (isFirst (replies .keyword) (replies .fill)) _ later
       (after-keywords (candidate .node) (keywords .width) (keywords .height) (box .size) (keywordStretch box) later h)
       h
 
 -- so the stage tells the kind
 pub stage-tells-kind : StageTellsKind
-stage-tells-kind block style candidate replies =
-    of-asked (λ a. kindOfQuestion (a .question) ≡ kindAt (a .stage)) (record { both = λ m. refl; width = λ m. refl; height = λ m. refl; fill = λ m. refl }) block style candidate replies
+stage-tells-kind container style candidate replies =
+    of-asked (λ a. kindOfQuestion (a .question) ≡ kindAt (a .stage)) (record { both = λ m. refl; width = λ m. refl; height = λ m. refl; fill = λ m. refl }) container style candidate replies
     (λ space. refl)

@@ -9,8 +9,8 @@ use mathlib.Core.Bool.{Bool, true, false}
 use mathlib.Core.List.{List, [], _∷_, foldl}
 use Rattle.util.proofs.Floats.{no}
 use Rattle.geometry.specs.declared.Rect.{Rect}
-use Rattle.oof_box.specs.Cut.{noReplies, taken, isFilled}
-use Rattle.oof_box.specs.Theorems.{isKeywordStage, isGiven}
+use Rattle.oof_box.specs.Cut.{noReplies, taken, fillGiven}
+use Rattle.oof_box.specs.Theorems.{isKeywordStage, keywordGiven}
 use Rattle.oof_box.proofs.Talks.{stages-move-forward}
 use Rattle.oof_box.specs.declared.question.Reply.{Reply}
 use Rattle.oof_box.specs.declared.question.Reply.the-variants as reply
@@ -38,10 +38,10 @@ one true = 1
 one false = 0
 
 abbrev pub kept : Replies → ℕ
-kept r = one (isGiven (r .keyword)) + one (isFilled (r .fill))
+kept r = one (keywordGiven (r .keyword)) + one (fillGiven (r .fill))
 
 pub at-most-two : (r : Replies) → kept r ≤ 2
-at-most-two r = go (isGiven (r .keyword)) (isFilled (r .fill))
+at-most-two r = go (keywordGiven (r .keyword)) (fillGiven (r .fill))
   where
     go : (a b : Bool) → one a + one b ≤ 2
     go true true = omega arith
@@ -51,7 +51,7 @@ at-most-two r = go (isGiven (r .keyword)) (isFilled (r .fill))
 
 -- the open question is behind no kept reply
 abbrev pub Forward : Stage → Replies → Type 0
-Forward stage r = (isGiven (r .keyword) ≡ true → isKeywordStage stage ≡ false) × (isFilled (r .fill) ≡ true → stage ≡ LayOut)
+Forward stage r = (keywordGiven (r .keyword) ≡ true → isKeywordStage stage ≡ false) × (fillGiven (r .fill) ≡ true → stage ≡ LayOut)
 
 isLayOut : Stage → Bool
 isLayOut KeywordBoth = false
@@ -61,18 +61,18 @@ isLayOut Fill = false
 isLayOut LayOut = true
 
 -- what a question asks for is not kept yet
-not-given : (stage : Stage) (r : Replies) → Forward stage r → isKeywordStage stage ≡ true → isGiven (r .keyword) ≡ false
-not-given stage r f k = go (isGiven (r .keyword)) refl
+not-given : (stage : Stage) (r : Replies) → Forward stage r → isKeywordStage stage ≡ true → keywordGiven (r .keyword) ≡ false
+not-given stage r f k = go (keywordGiven (r .keyword)) refl
   where
-    go : (b : Bool) → isGiven (r .keyword) ≡ b → b ≡ false
+    go : (b : Bool) → keywordGiven (r .keyword) ≡ b → b ≡ false
     go true e = no k (f .0 e)
     go false e = refl
 
-not-filled : (stage : Stage) (r : Replies) → Forward stage r → isLayOut stage ≡ false → isFilled (r .fill) ≡ false
+not-filled : (stage : Stage) (r : Replies) → Forward stage r → isLayOut stage ≡ false → fillGiven (r .fill) ≡ false
 unfolding isLayOut
-not-filled stage r f k = go (isFilled (r .fill)) refl
+not-filled stage r f k = go (fillGiven (r .fill)) refl
   where
-    go : (b : Bool) → isFilled (r .fill) ≡ b → b ≡ false
+    go : (b : Bool) → fillGiven (r .fill) ≡ b → b ≡ false
     go true e = no (ap isLayOut (f .1 e)) k
     go false e = refl
 
@@ -86,14 +86,14 @@ pub one-more : (r : Replies) (stage : Stage) (given : Reply) → Forward stage r
 unfolding taken isLayOut
 one-more r stage given f = go stage given (not-given stage r f) (not-filled stage r f)
   where
-    keyword : isGiven (r .keyword) ≡ false → 1 + one (isFilled (r .fill)) ≡ kept r + 1
+    keyword : keywordGiven (r .keyword) ≡ false → 1 + one (fillGiven (r .fill)) ≡ kept r + 1
     keyword e = rw e (omega arith)
 
-    filled : isFilled (r .fill) ≡ false → one (isGiven (r .keyword)) + 1 ≡ kept r + 1
+    filled : fillGiven (r .fill) ≡ false → one (keywordGiven (r .keyword)) + 1 ≡ kept r + 1
     filled e = rw e (omega arith)
 
-    go : (stage : Stage) (given : Reply) → (isKeywordStage stage ≡ true → isGiven (r .keyword) ≡ false)
-        → (isLayOut stage ≡ false → isFilled (r .fill) ≡ false)
+    go : (stage : Stage) (given : Reply) → (isKeywordStage stage ≡ true → keywordGiven (r .keyword) ≡ false)
+        → (isLayOut stage ≡ false → fillGiven (r .fill) ≡ false)
         → OneMore r (taken r stage given)
     go KeywordBoth (reply.Both s) g h = keyword (g refl)
     go KeywordBoth (reply.Width w) g h = tt

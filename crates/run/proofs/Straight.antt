@@ -36,7 +36,7 @@ use Rattle.run.specs.declared.Answer.the-variants.{Ask}
 use Rattle.run.specs.declared.Step.{Step}
 use Rattle.run.specs.Call.{Lent, Outcome}
 use Rattle.run.specs.Refusals.{accepted}
-use Rattle.run.specs.Run.{boxAtHand, asking, finishing, proceeding, claimsOf, blockOf, extentsOf, begun, opened, takenBy, replyVerdict, measuredOn, laidOut}
+use Rattle.run.specs.Run.{boxAtHand, asking, finishing, proceeding, claimsOf, containerOf, extentsOf, begun, opened, takenBy, replyVerdict, measuredOn, laidOut}
 use Rattle.run.specs.Conditions.{kindOfQuestion, kindAt}
 use Rattle.run.specs.Straight.{World, Box, atOpening, afterBox, Course, ended, during, boxes, straight}
 use Rattle.run.specs.Theorems.{laidCount, laidSoFar, Heard, next, Loan, own, other, Turn, nextWith, turned, Lends, AllLend, heeded, hearing, soFar, saidAfter, laidInto, claimedIn, begunIn, openIn, awaited, awaitedIn, Stands, called, heededIn, courseOf, StraightRun, hoisted, HoistedOrder}
@@ -50,7 +50,7 @@ module _ (o : Opening) (lent : Lent) where
   -- ---- what a call leaves, by the world that it has come to
 
   abbrev run : Opened
-  run = record { block = blockOf o; claims = claimsOf o; extents = extentsOf lent }
+  run = record { container = containerOf o; claims = claimsOf o; extents = extentsOf lent }
 
   abbrev style : ℕ → Style
   style = styleAt (lent .styles)
@@ -103,10 +103,10 @@ module _ (o : Opening) (lent : Lent) where
 
   -- its question
   abbrev questionOf : OofCandidate → Replies → Question
-  questionOf c replies = askedAfter (blockOf o) (style (c .node)) c replies .question
+  questionOf c replies = askedAfter (containerOf o) (style (c .node)) c replies .question
 
   abbrev stageOf : OofCandidate → Replies → Stage
-  stageOf c replies = askedAfter (blockOf o) (style (c .node)) c replies .stage
+  stageOf c replies = askedAfter (containerOf o) (style (c .node)) c replies .stage
 
   asked-at : {w : World} {c : OofCandidate} {rest : List OofCandidate} (replies : Replies) (answered : ℕ) → IsFirst w c rest
       → askingAt w replies answered .step .answer ≡ Ask (questionOf c replies)
@@ -118,7 +118,7 @@ module _ (o : Opening) (lent : Lent) where
   unfolding asking
   kind-at {c = c} replies answered f =
       ap (λ (c : OofCandidate). some (kindAt (stageOf c replies))) (box-at answered f)
-      ∙ ap some (sym (stage-tells-kind (blockOf o) (style (c .node)) c replies))
+      ∙ ap some (sym (stage-tells-kind (containerOf o) (style (c .node)) c replies))
 
   -- a reply is taken as it takes it
   taken-at : {w : World} {c : OofCandidate} {rest : List OofCandidate} (replies : Replies) (answered : ℕ) (given : Reply) → IsFirst w c rest
@@ -129,7 +129,7 @@ module _ (o : Opening) (lent : Lent) where
   -- what it comes to
   abbrev placedBy : OofCandidate → Replies → Rect → List ℕ → Placed
   placedBy c replies overflow surfaced =
-      record { outcome = layoutAfter (blockOf o) (style (c .node)) c replies overflow; surfaced = candidatesIn surfaced }
+      record { outcome = layoutAfter (containerOf o) (style (c .node)) c replies overflow; surfaced = candidatesIn surfaced }
 
   -- ---- a call on what the last one left
 
@@ -197,7 +197,7 @@ module _ (o : Opening) (lent : Lent) where
   -- ---- where a run stands
 
   abbrev boxesFrom : ℕ → World → List OofCandidate → Course
-  boxesFrom most w waiting = boxes most (blockOf o) (claimsOf o) style w waiting
+  boxesFrom most w waiting = boxes most (containerOf o) (claimsOf o) style w waiting
 
   -- the course after a box
   abbrev onward : ℕ → World → OofCandidate → List OofCandidate → Placed → Course
@@ -209,7 +209,7 @@ module _ (o : Opening) (lent : Lent) where
         (w : World) (c : OofCandidate) (rest : List OofCandidate) (most : ℕ) (replies : Replies) (t : Talk Placed)
         → IsFirst w c rest
         → most + suc (length (w .laid)) ≡ 4096
-        → At (blockOf o) (style (c .node)) c replies t
+        → At (containerOf o) (style (c .node)) c replies t
         → x ≡ askingAt w replies answered
         → course ≡ during w t (onward most w c rest)
         → Position answered x course
@@ -247,8 +247,8 @@ module _ (o : Opening) (lent : Lent) where
       go [] most e m (ends h d) = over w e s (ap (leaving w) d) (ap (boxesFrom most w) e ∙ none-left most)
       go (c ∷ rest) zero e m n = absurd (let r = s .room in let l = s .most in omega (arith, held (c ∷ rest) e))
       go (c ∷ rest) (suc most) e m (asks h d) =
-          waits w c rest most noReplies (placed (blockOf o) (style (c .node)) c) (record { waiting = e; sound = s }) (omega arith)
-          (at-first (blockOf o) (style (c .node)) c)
+          waits w c rest most noReplies (placed (containerOf o) (style (c .node)) c) (record { waiting = e; sound = s }) (omega arith)
+          (at-first (containerOf o) (style (c .node)) c)
           (ap (leaving w) d)
           (ap (boxesFrom (suc most) w) e)
       go (c ∷ rest) (suc most) e m (ends h d) = absurd (omega (arith, held (c ∷ rest) e))
@@ -258,7 +258,7 @@ module _ (o : Opening) (lent : Lent) where
   replied-on : (w : World) (c : OofCandidate) (rest : List OofCandidate) (most : ℕ) (replies : Replies) (t : Talk Placed) (answered : ℕ) (h : Heard)
       → IsFirst w c rest
       → most + suc (length (w .laid)) ≡ 4096
-      → At (blockOf o) (style (c .node)) c replies t
+      → At (containerOf o) (style (c .node)) c replies t
       → refusedIn (next (lent .styles) (askingAt w replies answered) h) ≡ false
       → Position (answered + 1) (next (lent .styles) (askingAt w replies answered) h) (hearing (during w t (onward most w c rest)) h)
   unfolding next during
@@ -269,19 +269,19 @@ module _ (o : Opening) (lent : Lent) where
       takes k = sym (taken-at replies answered (h .reply) f) ∙ k
 
       front : hearing (during w t (onward most w c rest)) h ≡ during w (after t (heardBy h)) (onward most w c rest)
-      front = hearing-during w (onward most w c rest) h (asks-at (blockOf o) (style (c .node)) c a)
+      front = hearing-during w (onward most w c rest) h (asks-at (containerOf o) (style (c .node)) c a)
 
       go : ReplyWay (askingAt w replies answered .step .state) (h .reply) (h .surfaced) (lentAt w)
           → Position (answered + 1) (next (lent .styles) (askingAt w replies answered) h) (hearing (during w t (onward most w c rest)) h)
       go (ReplyWay.turnedDown r x) = no (ap refusedIn x) n
       go (measures r v k x) =
-          waits w c rest most r (after t (heardBy h)) f m (kept-at (blockOf o) (style (c .node)) c (heardBy h) a (takes k))
+          waits w c rest most r (after t (heardBy h)) f m (kept-at (containerOf o) (style (c .node)) c (heardBy h) a (takes k))
           (x ∙ measured-at w replies r answered)
           front
       go (laysOut overflow v k x) =
           let p = placedBy c replies overflow (h .surfaced) in
           moved-to (x ∙ laid-out-at replies overflow (h .surfaced) answered f)
-          (front ∙ ap (λ (u : Talk Placed). during w u (onward most w c rest)) (laid-at (blockOf o) (style (c .node)) c (heardBy h) a (takes k)))
+          (front ∙ ap (λ (u : Talk Placed). during w u (onward most w c rest)) (laid-at (containerOf o) (style (c .node)) c (heardBy h) a (takes k)))
           (proceed (afterBox (claimsOf o) w c rest p) most (answered + 1)
           (after-sound (claimsOf o) (lent .working) p (h .surfaced) refl f (room-at w replies answered h _ v (takes k)))
           (ap (λ (n : ℕ). most + n) (laid-after (claimsOf o) w c rest p) ∙ m))
@@ -416,7 +416,7 @@ module _ (o : Opening) (lent : Lent) where
     where
       go : Position answered (p .last) course → Stands lent answered x course
       go (waits w c rest most replies t f m a d k) =
-          let says = says-asking w (onward most w c rest) answered (asks-at (blockOf o) (style (c .node)) c a) in
+          let says = says-asking w (onward most w c rest) answered (asks-at (containerOf o) (style (c .node)) c a) in
           let asked = asked-at replies answered f ∙ sym (says .2) in
           subst (Stands lent answered x) (sym k)
           (stands-at w answered (askingAt w replies answered .step) (p .same) (p .itself) d (ap (λ (n : ℕ). countsAt w n answered) (sym (says .1)))
@@ -455,7 +455,7 @@ at-last o candidates lent turns e l = go (opening-way o candidates lent)
     go (OpeningWay.turnedDown r x) = no (ap refusedIn x) e
     go (begins v x) =
         rw zero-add at
-        (all-calls o lent 0 (opened o candidates lent) (straight 4096 (blockOf o) (claimsOf o) (style o lent) (candidatesIn candidates)) turns l
+        (all-calls o lent 0 (opened o candidates lent) (straight 4096 (containerOf o) (claimsOf o) (style o lent) (candidatesIn candidates)) turns l
         (record {
           last = opened o candidates lent;
           position =
@@ -493,7 +493,7 @@ hoisted-order o candidates lent turns w e l d = go (p .position)
     go : Position o lent (length (heededIn o candidates lent turns)) (p .last) (courseOf o candidates lent turns)
         → hoisted (called o candidates lent turns) ≡ map (λ (b : Box). b .candidate .node) (w .laid)
     go (waits v c rest most replies t f m a x k) =
-        not-asking w v (onward o lent most v c rest) (asks-at (blockOf o) (style o lent (c .node)) c a) (subst (EndsIn w) k ending)
+        not-asking w v (onward o lent most v c rest) (asks-at (containerOf o) (style o lent (c .node)) c a) (subst (EndsIn w) k ending)
     go (over v f s x k) =
         ap hoisted (p .same) ∙ ap hoisted x ∙ ended-order o lent v (length (heededIn o candidates lent turns)) f s
         ∙ ap (λ (v : World). map (λ (b : Box). b .candidate .node) (v .laid)) (subst (EndsIn w) k ending)

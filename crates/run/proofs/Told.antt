@@ -44,16 +44,16 @@ Tells node size (MeasureWidth m) = Unit {0}
 Tells node size (MeasureHeight m) = Unit {0}
 Tells node size (LayOut l) = (node ≡ l .node) × (size ≡ l .size)
 
-pub asked-size : (block : ContainingBlock) (style : Style) (candidate : OofCandidate) (replies : Replies) (overflow : Rect) (input : LayoutInput)
-    → askedAfter block style candidate replies .question ≡ LayOut input
-    → (candidate .node ≡ input .node) × (layoutAfter block style candidate replies overflow .layout .size ≡ input .size)
+pub asked-size : (container : ContainingBlock) (style : Style) (candidate : OofCandidate) (replies : Replies) (overflow : Rect) (input : LayoutInput)
+    → askedAfter container style candidate replies .question ≡ LayOut input
+    → (candidate .node ≡ input .node) × (layoutAfter container style candidate replies overflow .layout .size ≡ input .size)
 unfolding layoutAfter boxLayout layoutOf
-asked-size block style candidate replies overflow input e =
-    let box = resolvedBox block style candidate in
+asked-size container style candidate replies overflow input e =
+    let box = resolvedBox container style candidate in
     subst (Tells (candidate .node) (sizeBy style box (sizeKeywords style box) replies)) e
     (of-asked (λ a. Tells (candidate .node) (sizeBy style box (sizeKeywords style box) replies) (a .question))
     (record { both = λ m. tt; width = λ m. tt; height = λ m. tt; fill = λ m. tt })
-    block style candidate replies
+    container style candidate replies
     (λ space. (refl, refl)))
 
 -- ---- what a call says is what it leaves open
@@ -109,7 +109,7 @@ questionIn (Refused r) other = other
 -- the question that is open is that of the box at hand
 open-question : (p : Progress) (styles working : List ℕ) (s : State) (q : Question) → openBy p styles working s ≡ Ask q
     → let box = boxAtHand working (s .counts) in
-    askedAfter (s .opened .block) (styleAt styles (box .node)) box (s .replies) .question ≡ q
+    askedAfter (s .opened .container) (styleAt styles (box .node)) box (s .replies) .question ≡ q
 open-question Finished styles working s q e = no {b = false} (ap isAsk e) refl
 open-question (Asking stage) styles working s q e = ap (λ (a : Answer). questionIn a q) e
 
@@ -134,8 +134,8 @@ lays-out styles o input overflow surfaced e n = go (reply-way s (LaidOut overflo
     go (ReplyWay.turnedDown r x) = no (ap refusedIn x) n
     go (measures replies v t x) = never-kept s overflow t
     go (laysOut rect v t x) =
-        let layout = layoutAfter (s .opened .block) (styleAt styles (box .node)) box (s .replies) rect .layout in
-        let told = asked-size (s .opened .block) (styleAt styles (box .node)) box (s .replies) rect input (open-question (s .progress) styles (o .working) s (LayOut input) e) in
+        let layout = layoutAfter (s .opened .container) (styleAt styles (box .node)) box (s .replies) rect .layout in
+        let told = asked-size (s .opened .container) (styleAt styles (box .node)) box (s .replies) rect input (open-question (s .progress) styles (o .working) s (LayOut input) e) in
         record {
           layout = layout;
           wrote = ap (λ (x : Outcome). x .layouts) x ∙ ap (λ (node : ℕ). written (o .layouts) (layoutWidth * node) (layoutWords layout)) (told .0);

@@ -9,7 +9,7 @@ use lib.ListN.{length, getD}
 use Rattle.style.specs.Laws.{tagsOf}
 use Rattle.style.specs.declared.alignment.AlignItems.{AlignItems}
 use Rattle.style.specs.declared.alignment.AlignItemsKeyword.the-variants as side
-use Rattle.style_record.specs.Record.{Kind, tag, number, code, ratio, keyword, safety, contain, kindOf, item, items}
+use Rattle.style_record.specs.Record.{Kind, tag, number, upTo, ratio, keyword, safety, contain, kindOf, item, items}
 use Rattle.sweep.specs.Laws.{Exceeds}
 use Rattle.sweep.specs.Sweep.{candidatesIn}
 use Rattle.oof_box.specs.declared.question.Question.{Question}
@@ -63,7 +63,7 @@ Among (x ∷ xs) w = (w ≡ x) ⊎ Among xs w
 abbrev pub Allowed : Kind → ℕ → ℕ → Type 0
 Allowed (tag field) before w = Among (tagsOf field) w
 Allowed number before w = Unit {0}
-Allowed (code last) before w = w ≤ last
+Allowed (upTo last) before w = w ≤ last
 Allowed ratio before w = Unit {0}
 Allowed keyword before w = w ≤ 10
 Allowed safety before w = (before ≡ 10) ⊎ (w ≤ 2)

@@ -49,7 +49,7 @@ boxAtHand working counts = candidateOf (recordAt candidateWidth working (counts 
 unfoldable pub asking : List ℕ → List ℕ → Opened → Counts → Rect → Replies → Step
 asking styles working run counts overflow replies =
     let box = boxAtHand working counts in
-    let next = askedAfter (run .block) (styleAt styles (box .node)) box replies in
+    let next = askedAfter (run .container) (styleAt styles (box .node)) box replies in
     record {
       state = record { progress = Asking (next .stage); replies = replies; counts = counts; overflow = overflow; opened = run };
       answer = Ask (next .question);
@@ -74,8 +74,8 @@ proceeding styles working run counts overflow =
 abbrev pub claimsOf : Opening → ContainingBlockClaims
 claimsOf o = record { absolute = bit0 (o .claims); fixed = bit1 (o .claims) }
 
-abbrev pub blockOf : Opening → ContainingBlock
-blockOf o =
+abbrev pub containerOf : Opening → ContainingBlock
+containerOf o =
     record {
       area = o .area;
       direction = directionOf (o .direction);
@@ -114,7 +114,7 @@ closed lent =
       overflow = zeroRect;
       opened =
           record {
-            block = record { area = record { size = zeroSize; offset = zeroPoint }; direction = Ltr; overflow = record { x = Visible; y = Visible } };
+            container = record { area = record { size = zeroSize; offset = zeroPoint }; direction = Ltr; overflow = record { x = Visible; y = Visible } };
             claims = record { absolute = false; fixed = false };
             extents = extentsOf lent;
           };
@@ -127,7 +127,7 @@ begun o candidates lent =
     let inside = claimed (claimsOf o) cs in
     let outside = others (claimsOf o) cs in
     let working = appended (lent .working) 0 inside in
-    let run : Opened = record { block = blockOf o; claims = claimsOf o; extents = extentsOf lent } in
+    let run : Opened = record { container = containerOf o; claims = claimsOf o; extents = extentsOf lent } in
     let counts : Counts = record { filled = record { working = length inside; unclaimed = length outside }; begun = 0; answered = 0 } in
     record {
       step = proceeding (lent .styles) working run counts zeroRect;
@@ -179,7 +179,7 @@ unfoldable pub laidOut : State → Rect → List ℕ → Lent → Outcome
 laidOut s overflow surfaced lent =
     let run = s .opened in
     let box = boxAtHand (lent .working) (s .counts) in
-    let placed = layoutAfter (run .block) (styleAt (lent .styles) (box .node)) box (s .replies) overflow in
+    let placed = layoutAfter (run .container) (styleAt (lent .styles) (box .node)) box (s .replies) overflow in
     let cs = map (moved (By (placed .layout .location))) (candidatesIn surfaced) in
     let inside = claimed (run .claims) cs in
     let outside = others (run .claims) cs in

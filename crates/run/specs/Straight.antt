@@ -55,11 +55,11 @@ during w (ask q reply) next = asks w q (λ r. during w (reply r) next)
 
 -- the boxes that wait, from the front; `most` bounds their number, since a host may surface ever more
 unfoldable pub boxes : ℕ → ContainingBlock → ContainingBlockClaims → (ℕ → Style) → World → List OofCandidate → Course
-boxes zero block by style w waiting = ended w
-boxes (suc most) block by style w [] = ended w
-boxes (suc most) block by style w (c ∷ rest) =
-    during w (placed block (style (c .node)) c) (λ p. let next = afterBox by w c rest p in boxes most block by style next (next .waiting))
+boxes zero container by style w waiting = ended w
+boxes (suc most) container by style w [] = ended w
+boxes (suc most) container by style w (c ∷ rest) =
+    during w (placed container (style (c .node)) c) (λ p. let next = afterBox by w c rest p in boxes most container by style next (next .waiting))
 
 -- a whole run
 unfoldable pub straight : ℕ → ContainingBlock → ContainingBlockClaims → (ℕ → Style) → List OofCandidate → Course
-straight most block by style cs = let w = atOpening by cs in boxes most block by style w (w .waiting)
+straight most container by style cs = let w = atOpening by cs in boxes most container by style w (w .waiting)

@@ -38,7 +38,7 @@ use Rattle.run.specs.declared.Answer.{Answer}
 use Rattle.run.specs.declared.Answer.the-variants.{Ask, Finish, Refused}
 use Rattle.run.specs.declared.Step.{Step}
 use Rattle.run.specs.Call.{Lent, Outcome, unwritten}
-use Rattle.run.specs.Run.{boxAtHand, opened, replied, closed, claimsOf, blockOf}
+use Rattle.run.specs.Run.{boxAtHand, opened, replied, closed, claimsOf, containerOf}
 use Rattle.run.specs.Conditions.{LengthsDiffer, SideIsUnresolved, FirstIs, NoneHolds, openingTests, replyTests, QuestionKind, kindOfQuestion, kindAt}
 use Rattle.run.specs.Straight.{World, Box, Course, ended, asks, straight}
 
@@ -79,8 +79,8 @@ UnresolvedExactly =
 -- the stage that a state keeps is of its question's kind
 abbrev pub StageTellsKind : Type 0
 StageTellsKind =
-    (block : ContainingBlock) (style : Style) (candidate : OofCandidate) (replies : Replies)
-    → let asked = askedAfter block style candidate replies in
+    (container : ContainingBlock) (style : Style) (candidate : OofCandidate) (replies : Replies)
+    → let asked = askedAfter container style candidate replies in
     kindOfQuestion (asked .question) ≡ kindAt (asked .stage)
 
 -- ---- A refused call writes no lent word and returns the state as it came; a refused opening, that of a finished run with all counts 0.
@@ -266,7 +266,7 @@ abbrev pub openBy : Progress → List ℕ → List ℕ → State → Answer
 openBy Finished styles working s = Finish (record { overflow = s .overflow; count = s .counts .answered })
 openBy (Asking stage) styles working s =
     let box = boxAtHand working (s .counts) in
-    Ask (askedAfter (s .opened .block) (styleAt styles (box .node)) box (s .replies) .question)
+    Ask (askedAfter (s .opened .container) (styleAt styles (box .node)) box (s .replies) .question)
 
 abbrev pub openIn : List ℕ → Outcome → Answer
 openIn styles o = openBy (o .step .state .progress) styles (o .working) (o .step .state)
@@ -306,7 +306,7 @@ heededIn o candidates lent turns = heeded (lent .styles) (opened o candidates le
 -- and where the straight run stands after these; 4,096 records are the most that a working list holds
 abbrev pub courseOf : Opening → List ℕ → Lent → List Turn → Course
 courseOf o candidates lent turns =
-    foldl hearing (straight 4096 (blockOf o) (claimsOf o) (styleAt (lent .styles)) (candidatesIn candidates)) (heededIn o candidates lent turns)
+    foldl hearing (straight 4096 (containerOf o) (claimsOf o) (styleAt (lent .styles)) (candidatesIn candidates)) (heededIn o candidates lent turns)
 
 abbrev pub StraightRun : Type 0
 StraightRun =

@@ -42,7 +42,7 @@ pub struct Extents {
 
 // What a run keeps from its opening.
 pub struct Opened {
-    pub block: ContainingBlock,
+    pub container: ContainingBlock,
     pub claims: ContainingBlockClaims,
     pub extents: Extents,
 }

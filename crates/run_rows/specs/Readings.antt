@@ -115,7 +115,7 @@ withExtents s styles =
       overflow = s .overflow;
       opened =
           record {
-            block = s .opened .block;
+            container = s .opened .container;
             claims = s .opened .claims;
             extents = record { styles = styles; layouts = e .layouts; working = e .working; unclaimed = e .unclaimed };
           };

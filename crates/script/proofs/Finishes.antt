@@ -29,7 +29,7 @@ use Rattle.common.specs.declared.sizing_keyword.SizingKeywordResolution.the-var
 use Rattle.oof_resolve.specs.Resolved.{resolvedBox}
 use Rattle.oof_resolve.specs.declared.ContainingBlock.{ContainingBlock}
 use Rattle.oof_box.specs.Box.{sizeKeywords, keywordStretch}
-use Rattle.oof_box.specs.Cut.{noReplies, taken, keywordAsked, sizeAsked, orLater, isFirst, isFilled, stretchedBy, askedOf, askedAfter}
+use Rattle.oof_box.specs.Cut.{noReplies, taken, keywordAsked, sizeAsked, orLater, isFirst, fillGiven, stretchedBy, askedOf, askedAfter}
 use Rattle.oof_box.specs.declared.question.Reply.{Reply}
 use Rattle.oof_box.specs.declared.question.Reply.the-variants.{Both, Width, Height, LaidOut}
 use Rattle.oof_box.specs.declared.question.Replies.{Replies}
@@ -47,7 +47,7 @@ use Rattle.run.specs.declared.Answer.{Answer}
 use Rattle.run.specs.declared.Answer.the-variants.{Ask, Finish, Refused}
 use Rattle.run.specs.Call.{Lent, Outcome}
 use Rattle.run.specs.Refusals.{Verdict, accepted, refused, _when_else_, ragged, badTable, badList, badSlices, otherLengths, lentBy, badStyle, badCandidate, badCandidates, listFull, wrongCounts}
-use Rattle.run.specs.Run.{boxAtHand, asking, finishing, proceeding, claimsOf, blockOf, extentsOf, openingVerdict, begun, opened, takenBy, isWrong, replyVerdict, measuredOn, laidOut, replied}
+use Rattle.run.specs.Run.{boxAtHand, asking, finishing, proceeding, claimsOf, containerOf, extentsOf, openingVerdict, begun, opened, takenBy, isWrong, replyVerdict, measuredOn, laidOut, replied}
 use Rattle.run.specs.Theorems.{askedAtOpening, oneIfAsked, isRefused, next}
 use Rattle.run.proofs.Ways.{NextWay, asks, ends, next-way, OpeningWay, begins, opening-way, passed, neither}
 use Rattle.run.proofs.Questions.{three-questions-a-box}
@@ -83,12 +83,12 @@ module _ (replies : List ℕ) where
   keyword-fits node (Measure across) (Exact h) known stretch later f = λ r. refl
   keyword-fits node (Measure across) (Measure down) known stretch later f = λ r. refl
 
-  asked-fits : (block : ContainingBlock) (style : Style) (candidate : OofCandidate) (kept : Replies) → Fits (askedAfter block style candidate kept)
+  asked-fits : (container : ContainingBlock) (style : Style) (candidate : OofCandidate) (kept : Replies) → Fits (askedAfter container style candidate kept)
   unfolding askedAfter askedOf sizeAsked taken
-  asked-fits block style candidate kept =
-      let box = resolvedBox block style candidate in
+  asked-fits container style candidate kept =
+      let box = resolvedBox container style candidate in
       let keywords = sizeKeywords style box in
-      let later : Fits (sizeAsked (candidate .node) style box keywords kept) = either (isFilled (kept .fill) || bothPresent (stretchedBy style box keywords kept .known)) _ _ (λ r. refl) (λ r. refl) in
+      let later : Fits (sizeAsked (candidate .node) style box keywords kept) = either (fillGiven (kept .fill) || bothPresent (stretchedBy style box keywords kept .known)) _ _ (λ r. refl) (λ r. refl) in
       either (isFirst (kept .keyword) (kept .fill)) _ _ (keyword-fits (candidate .node) (keywords .width) (keywords .height) (box .size) (keywordStretch box) _ later) later
 
 -- ---- an accepted opening
@@ -151,7 +151,7 @@ module _ (replies : List ℕ) (o : Opening) (candidates : List ℕ) (lent : Lent
   unclaimed = appended (lent .unclaimed) 0 (inList o candidates lent false)
 
   abbrev run : Opened
-  run = record { block = blockOf o; claims = claimsOf o; extents = extentsOf lent }
+  run = record { container = containerOf o; claims = claimsOf o; extents = extentsOf lent }
 
   abbrev filled : Filled
   filled = record { working = length (inList o candidates lent true); unclaimed = length (inList o candidates lent false) }
@@ -277,7 +277,7 @@ module _ (replies : List ℕ) (o : Opening) (candidates : List ℕ) (lent : Lent
     box = boxAtHand working (g .counts)
 
     abbrev asked : Asked
-    asked = askedAfter (run .block) (styleAt (lent .styles) (box .node)) box (g .kept)
+    asked = askedAfter (run .container) (styleAt (lent .styles) (box .node)) box (g .kept)
 
     abbrev state : State
     state = record { progress = Asking (asked .stage); replies = g .kept; counts = g .counts; overflow = g .overflow; opened = run }
@@ -297,7 +297,7 @@ module _ (replies : List ℕ) (o : Opening) (candidates : List ℕ) (lent : Lent
 
     right : isWrong (takenBy state given) ≡ false
     unfolding takenBy
-    right = asked-fits replies (run .block) (styleAt (lent .styles) (box .node)) box (g .kept) (g .kept)
+    right = asked-fits replies (run .container) (styleAt (lent .styles) (box .node)) box (g .kept) (g .kept)
 
     verdict : replyVerdict state given [] (lending (x .layouts)) ≡ accepted
     verdict = accepts (x .layouts) (g .layouts) (g .counts) (g .held) (g .first) (g .most) few (Asking (asked .stage)) (g .kept) (g .overflow) given right

@@ -89,12 +89,12 @@ maybeResolved f length basis = valueOf (resolved f length basis)
 
 -- four sides: left and right against one basis, top and bottom against another
 unfoldable pub resolvedRect : Field → LengthRect → Float → Float → MaybeRect
-resolvedRect f sides across down =
+resolvedRect f sides basisX basisY =
     record {
-      left = maybeResolved f (sides .left) across;
-      right = maybeResolved f (sides .right) across;
-      top = maybeResolved f (sides .top) down;
-      bottom = maybeResolved f (sides .bottom) down;
+      left = maybeResolved f (sides .left) basisX;
+      right = maybeResolved f (sides .right) basisX;
+      top = maybeResolved f (sides .top) basisY;
+      bottom = maybeResolved f (sides .bottom) basisY;
     }
 
 -- width and height, each against its own basis

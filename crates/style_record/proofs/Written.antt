@@ -22,11 +22,11 @@ use Rattle.style.specs.declared.alignment.AlignItems.{AlignItems}
 use Rattle.style.specs.declared.Style.{Style}
 use Rattle.style.specs.Codes.{sizingCode, overflowCode, directionCode, safetyCode, keywordCode, bitsCode, sizingOf, overflowOf, directionOf, safetyOf, keywordOf, alignmentOf, bit0, bit1, containOf}
 use Rattle.style.proofs.Laws.{sizing-codes, overflow-codes, direction-codes, safety-codes, keyword-codes, bits-codes}
-use Rattle.style_record.specs.Record.{code, styleWords, kindOf, codeKinds, lengthKinds, lengthField}
+use Rattle.style_record.specs.Record.{upTo, styleWords, kindOf, codeKinds, lengthKinds, lengthField}
 use Rattle.style_record.specs.Check.{safetyBreaks, breaksAs, breaksRule}
 use Rattle.style_record.specs.Decode.{floatAt, lengthAt, rectAt, sizeAt, alignAt, ratioAt, overflowAt, styleOf}
 use Rattle.style_record.specs.Encode.{lengthWordsOf, rectWordsOf, sizeWordsOf, presentCode, ratioBits, alignWordsOf, encoded, keptAs, keptFrom}
-use Rattle.style_record.specs.Laws.{RectFits, SizeFits, MaybeFits, StyleFits}
+use Rattle.style_record.specs.Laws.{FitsLengthRect, FitsLengthSize, FitsMaybe, FitsStyle}
 
 -- ---- a style, written and decoded
 
@@ -37,7 +37,7 @@ again l = record { tag = l .tag; value = ofBits binary32 (toBits binary32 (l .va
 length-back : (l : CompactLength) → T (fits binary32 (l .value)) → again l ≡ l
 length-back l f = λ j. record { tag = l .tag; value = ofBits-toBits binary32 (l .value) f j }
 
-rect-back : (r : LengthRect) → RectFits r → record { left = again (r .left); right = again (r .right); top = again (r .top); bottom = again (r .bottom) } ≡ r
+rect-back : (r : LengthRect) → FitsLengthRect r → record { left = again (r .left); right = again (r .right); top = again (r .top); bottom = again (r .bottom) } ≡ r
 rect-back r f =
     λ j. record {
       left = length-back (r .left) (f .left) j;
@@ -46,10 +46,10 @@ rect-back r f =
       bottom = length-back (r .bottom) (f .bottom) j;
     }
 
-size-back : (s : LengthSize) → SizeFits s → record { width = again (s .width); height = again (s .height) } ≡ s
+size-back : (s : LengthSize) → FitsLengthSize s → record { width = again (s .width); height = again (s .height) } ≡ s
 size-back s f = λ j. record { width = length-back (s .width) (f .width) j; height = length-back (s .height) (f .height) j }
 
-ratio-back : (m : MaybeF32) → MaybeFits m → cond (eqb (presentCode m) 0) None (Some (ofBits binary32 (ratioBits m))) ≡ m
+ratio-back : (m : MaybeF32) → FitsMaybe m → cond (eqb (presentCode m) 0) None (Some (ofBits binary32 (ratioBits m))) ≡ m
 unfolding presentCode ratioBits
 ratio-back None f = refl
 ratio-back (Some x) f = ap (λ (y : Float). Some y) (ofBits-toBits binary32 x f)
@@ -71,7 +71,7 @@ align-back : (a : AlignItems) → alignmentOf (keywordCode (a .keyword)) (safety
 unfolding alignmentOf
 align-back a = rw (present-keyword (a .keyword)) (λ j. record { keyword = keyword-codes .0 (a .keyword) j; safety = safety-codes .0 (a .safety) j })
 
-pub written-back : (y : Style) → StyleFits y → styleOf (λ k. getD (encoded y) k 0) ≡ y
+pub written-back : (y : Style) → FitsStyle y → styleOf (λ k. getD (encoded y) k 0) ≡ y
 unfolding styleOf floatAt lengthAt rectAt sizeAt alignAt ratioAt overflowAt containOf lengthWordsOf rectWordsOf sizeWordsOf alignWordsOf encoded
 written-back y f =
     λ j. record {
@@ -141,7 +141,7 @@ module _ (r : ℕ → ℕ) (good : (k : ℕ) → k < styleWords → breaksRule r
   unfolding breaksRule
   rule k h = good k h
 
-  code-word : (last k : ℕ) → k < styleWords → kindOf k ≡ code last → r k ≤ last
+  code-word : (last k : ℕ) → k < styleWords → kindOf k ≡ upTo last → r k ≤ last
   unfolding breaksAs
   code-word last k h e = at-most last (r k) (rw e at (rule k h))
 

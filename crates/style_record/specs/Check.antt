@@ -5,7 +5,7 @@ use mathlib.Core.Bool.{Bool, true, false, cond, not}
 use mathlib.Core.List.{List}
 use lib.Dec.{eqb, ltb}
 use Rattle.style.specs.Resolve.{takes}
-use Rattle.style_record.specs.Record.{Kind, tag, number, code, ratio, keyword, safety, contain, kindOf, styleWords, item, items}
+use Rattle.style_record.specs.Record.{Kind, tag, number, upTo, ratio, keyword, safety, contain, kindOf, styleWords, item, items}
 use Rattle.style_record.specs.declared.check.ItemCheck.{ItemCheck}
 use Rattle.style_record.specs.declared.check.ItemCheck.the-variants.{Good, Bad}
 use Rattle.style_record.specs.declared.check.TableCheck.{TableCheck}
@@ -19,7 +19,7 @@ safetyBreaks k w = cond (eqb k 10) false (ltb 2 w)
 unfoldable pub breaksAs : Kind → ℕ → ℕ → Bool
 breaksAs (tag f) before w = not (takes f w)
 breaksAs number before w = false
-breaksAs (code last) before w = ltb last w
+breaksAs (upTo last) before w = ltb last w
 breaksAs ratio before w = false
 breaksAs keyword before w = ltb 10 w
 breaksAs safety before w = safetyBreaks before w

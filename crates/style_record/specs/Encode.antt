@@ -12,7 +12,7 @@ use Rattle.style.specs.declared.compact_length.LengthSize.{LengthSize}
 use Rattle.style.specs.declared.alignment.AlignItems.{AlignItems}
 use Rattle.style.specs.declared.Style.{Style}
 use Rattle.style.specs.Codes.{sizingCode, overflowCode, directionCode, safetyCode, keywordCode, bitsCode}
-use Rattle.style_record.specs.Record.{Kind, tag, number, code, ratio, keyword, safety, contain, kindOf, styleWords, item}
+use Rattle.style_record.specs.Record.{Kind, tag, number, upTo, ratio, keyword, safety, contain, kindOf, styleWords, item}
 
 -- ---- a style's words
 
@@ -55,7 +55,7 @@ encoded y =
 unfoldable pub keptAs : Kind → ℕ → ℕ → ℕ
 keptAs (tag f) before w = w
 keptAs number before w = toBits binary32 (ofBits binary32 w)
-keptAs (code last) before w = w
+keptAs (upTo last) before w = w
 keptAs ratio before w = cond (eqb before 0) 0 (toBits binary32 (ofBits binary32 w))
 keptAs keyword before w = cond (eqb w 10) 0 w
 keptAs safety before w = cond (eqb before 10) 0 w

@@ -67,34 +67,34 @@ SomeIsFound = (s : List ℕ) (i k : ℕ) → i < items s → k < styleWords → 
 abbrev pub EachWordIsRead : Type 0
 EachWordIsRead = (s : List ℕ) (i : ℕ) → firstBroken s i ≡ Good → encoded (styleAt s i) ≡ kept s i
 
-pub record RectFits (r : LengthRect) : Type 0 where
+pub record FitsLengthRect (r : LengthRect) : Type 0 where
   pub left : T (fits binary32 (r .left .value))
   pub right : T (fits binary32 (r .right .value))
   pub top : T (fits binary32 (r .top .value))
   pub bottom : T (fits binary32 (r .bottom .value))
 
-pub record SizeFits (s : LengthSize) : Type 0 where
+pub record FitsLengthSize (s : LengthSize) : Type 0 where
   pub width : T (fits binary32 (s .width .value))
   pub height : T (fits binary32 (s .height .value))
 
-abbrev pub MaybeFits : MaybeF32 → Type 0
-MaybeFits None = Unit {0}
-MaybeFits (Some x) = T (fits binary32 x)
+abbrev pub FitsMaybe : MaybeF32 → Type 0
+FitsMaybe None = Unit {0}
+FitsMaybe (Some x) = T (fits binary32 x)
 
-pub record StyleFits (y : Style) : Type 0 where
-  pub inset : RectFits (y .inset)
-  pub margin : RectFits (y .margin)
-  pub padding : RectFits (y .padding)
-  pub border : RectFits (y .border)
-  pub size : SizeFits (y .size)
-  pub min : SizeFits (y .min)
-  pub max : SizeFits (y .max)
-  pub ratio : MaybeFits (y .ratio)
+pub record FitsStyle (y : Style) : Type 0 where
+  pub inset : FitsLengthRect (y .inset)
+  pub margin : FitsLengthRect (y .margin)
+  pub padding : FitsLengthRect (y .padding)
+  pub border : FitsLengthRect (y .border)
+  pub size : FitsLengthSize (y .size)
+  pub min : FitsLengthSize (y .min)
+  pub max : FitsLengthSize (y .max)
+  pub ratio : FitsMaybe (y .ratio)
   pub scrollbar : T (fits binary32 (y .scrollbar))
 
 -- a style, written and decoded
 abbrev pub EachFieldIsWritten : Type 0
-EachFieldIsWritten = (y : Style) → StyleFits y → styleOf (λ k. getD (encoded y) k 0) ≡ y
+EachFieldIsWritten = (y : Style) → FitsStyle y → styleOf (λ k. getD (encoded y) k 0) ≡ y
 
 -- nothing dropped, nothing exchanged
 abbrev pub DecodingIsExact : Type 0

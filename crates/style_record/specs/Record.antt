@@ -37,7 +37,7 @@ pub data Kind : Type 0 where
   -- a float by its bits
   number : Kind
   -- a code from 0 to the given one
-  code : ℕ → Kind
+  upTo : ℕ → Kind
   -- the ratio: a float, read where the word before it is not 0
   ratio : Kind
   -- an alignment keyword, 0 to 10, of which 10 is absent
@@ -63,19 +63,19 @@ lengthKinds f = tag f ∷ number ∷ []
 unfoldable pub codeKinds : List Kind
 codeKinds =
     -- ratio present, ratio
-    code 1 ∷ ratio
+    upTo 1 ∷ ratio
     -- box sizing, flags, direction
-    ∷ code 1
-    ∷ code 3
-    ∷ code 1
+    ∷ upTo 1
+    ∷ upTo 3
+    ∷ upTo 1
     -- justify, align
     ∷ keyword
     ∷ safety
     ∷ keyword
     ∷ safety
     -- overflow x, overflow y
-    ∷ code 3
-    ∷ code 3
+    ∷ upTo 3
+    ∷ upTo 3
     -- scrollbar width, contain
     ∷ number
     ∷ contain

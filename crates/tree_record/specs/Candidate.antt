@@ -4,7 +4,7 @@ use mathlib.Core.List.{List, [], _∷_, _++_}
 use lib.ListN.{getD}
 use lib.Ieee.{Float, ofBits, toBits, binary32}
 use Rattle.geometry.specs.Geometry.{_to_}
-use Rattle.records.specs.Records.{Kind, code, whole, float}
+use Rattle.records.specs.Records.{Kind, below, whole, float}
 use Rattle.style.specs.Codes.{safetyOf, safetyCode}
 use Rattle.tree.specs.declared.layout.AxisStaticPosition.{AxisStaticPosition}
 use Rattle.tree.specs.declared.layout.OofCandidate.{OofCandidate}
@@ -17,11 +17,11 @@ candidateWidth = 13
 
 -- area start, area end, edge, safety, fallback edge
 abbrev pub axisKinds : List Kind
-axisKinds = float ∷ float ∷ code 3 ∷ code 3 ∷ code 3 ∷ []
+axisKinds = float ∷ float ∷ below 3 ∷ below 3 ∷ below 3 ∷ []
 
 -- node, order, position, x, y
 abbrev pub candidateKinds : ℕ → List Kind
-candidateKinds n = code n ∷ whole ∷ code 5 ∷ (axisKinds ++ axisKinds)
+candidateKinds n = below n ∷ whole ∷ below 5 ∷ (axisKinds ++ axisKinds)
 
 -- ---- reading
 

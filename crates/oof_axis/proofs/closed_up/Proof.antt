@@ -1,4 +1,3 @@
-use Rattle.oof_axis.specs.Axis.{closedUp}
 use borrow.Author.Needs.{needs}
 use Rattle.oof_axis.proofs.closed_up.Statement.{statement}
 use Rattle.oof_axis.proofs.closed_up.Tie as tie
@@ -19,17 +18,14 @@ enum-told-3 c = search needs
 
 -- src/lib.rt:209:1
 returns : tie.Need-returns
-unfolding closedUp
 returns c = simp (c .enum-told .given .1)
 
 -- src/lib.rt:209:1
 returns-2 : tie.Need-returns-2
-unfolding closedUp
 returns-2 c = simp (c .enum-told2 .given .1)
 
 -- src/lib.rt:209:1
 returns-3 : tie.Need-returns-3
-unfolding closedUp
 returns-3 c = simp (c .enum-told3 .given .1)
 
 pub closed-up-spec : {M : Type 1} → statement M

@@ -1,4 +1,3 @@
-use Rattle.oof_axis.specs.Axis.{endEdge}
 use Rattle.oof_axis.proofs.OofAxis.end_edge.Statement.{statement}
 use Rattle.oof_axis.proofs.OofAxis.end_edge.Tie as tie
 use Rattle.oof_axis.proofs.OofAxis.end_edge.Reads as reads
@@ -6,12 +5,10 @@ use Rattle.oof_axis.proofs.OofAxis.end_edge.Lts as lts
 
 -- src/lib.rt:253:13
 returns : tie.Need-returns
-unfolding endEdge
 returns c = simp (c .if1 .taken)
 
 -- src/lib.rt:249:5
 returns-2 : tie.Need-returns-2
-unfolding endEdge
 returns-2 c = simp (c .if1 .left)
 
 pub end-edge-spec : {M : Type 1} → statement M

@@ -1,4 +1,3 @@
-use Rattle.oof_axis.specs.Axis.{startEdge}
 use Rattle.oof_axis.proofs.OofAxis.start_edge.Statement.{statement}
 use Rattle.oof_axis.proofs.OofAxis.start_edge.Tie as tie
 use Rattle.oof_axis.proofs.OofAxis.start_edge.Reads as reads
@@ -6,12 +5,10 @@ use Rattle.oof_axis.proofs.OofAxis.start_edge.Lts as lts
 
 -- src/lib.rt:243:13
 returns : tie.Need-returns
-unfolding startEdge
 returns c = simp (c .if1 .taken)
 
 -- src/lib.rt:239:5
 returns-2 : tie.Need-returns-2
-unfolding startEdge
 returns-2 c = simp (c .if1 .left)
 
 pub start-edge-spec : {M : Type 1} → statement M

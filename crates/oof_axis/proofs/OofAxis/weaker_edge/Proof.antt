@@ -1,4 +1,4 @@
-use Rattle.oof_axis.specs.Axis.{weakerEdge}
+use Rattle.oof_axis.specs.Axis.{startIsWeaker}
 use borrow.Author.Needs.{needs}
 use Rattle.oof_axis.proofs.OofAxis.weaker_edge.Statement.{statement}
 use Rattle.oof_axis.proofs.OofAxis.weaker_edge.Tie as tie
@@ -36,22 +36,22 @@ enum-told-6 c = search needs
 
 -- src/lib.rt:299:5
 returns : tie.Need-returns
-unfolding weakerEdge
+unfolding startIsWeaker
 returns c = simp (← c .before .before .before .before .end-edge .ensures, c .before .before .enum-told .given .1, c .enum-told2 .given .1)
 
 -- src/lib.rt:299:5
 returns-2 : tie.Need-returns-2
-unfolding weakerEdge
+unfolding startIsWeaker
 returns-2 c = simp (← c .before .before .before .before .end-edge .ensures, c .before .before .enum-told .given .1, c .enum-told3 .given .1)
 
 -- src/lib.rt:299:5
 returns-3 : tie.Need-returns-3
-unfolding weakerEdge
+unfolding startIsWeaker
 returns-3 c = simp (← c .before .before .before .before .end-edge .ensures, c .before .before .enum-told4 .given .1, c .enum-told5 .given .1)
 
 -- src/lib.rt:299:5
 returns-4 : tie.Need-returns-4
-unfolding weakerEdge
+unfolding startIsWeaker
 returns-4 c = simp (← c .before .before .before .before .end-edge .ensures, c .before .before .enum-told4 .given .1, c .enum-told6 .given .1)
 
 pub weaker-edge-spec : {M : Type 1} → statement M

@@ -15,10 +15,10 @@ use Rattle.style_record.proofs.decode.style_at.Reads as style-at-reads
 use Rattle.tree_record.proofs.candidate.candidate_at.Reads as candidate-at-reads
 
 abbrev Inv-loop : tie.InvT-loop
-Inv-loop w style candidate block replies₀ path₀ i₀ replies path i = i ≤ 3
+Inv-loop w style candidate container replies₀ path₀ i₀ replies path i = i ≤ 3
 
 abbrev μ-loop : tie.MeasureT-loop
-μ-loop w style candidate block replies₀ path₀ i₀ replies path i = 3 - i
+μ-loop w style candidate container replies₀ path₀ i₀ replies path i = 3 - i
 
 -- src/replay.rt:236:9
 style-at-requires : tie.Need-style-at-requires Inv-loop μ-loop

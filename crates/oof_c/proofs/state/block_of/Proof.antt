@@ -1,4 +1,4 @@
-use Rattle.oof_c.specs.StateWords.{blockOf}
+use Rattle.oof_c.specs.StateWords.{containerOf}
 use borrow.Author.Needs.{needs}
 use Rattle.oof_c.proofs.state.block_of.Statement.{statement}
 use Rattle.oof_c.proofs.state.block_of.Tie as tie
@@ -66,7 +66,7 @@ from-code-requires-3 c κs = search needs
 
 -- src/state.rt:223:1
 returns : tie.Need-returns
-unfolding blockOf
+unfolding containerOf
 returns c = simp (← c .before .before .before .before .before .before .before .before .before .before .before .before .from-word .ensures, ← c .before .before .before .before .before .before .before .before .before .before .from-word2 .ensures, ← c .before .before .before .before .before .before .before .before .from-word3 .ensures, ← c .before .before .before .before .before .before .from-word4 .ensures, ← c .before .before .before .before .from-code .ensures, ← c .before .before .from-code2 .ensures, ← c .from-code3 .ensures)
 
 pub block-of-spec : {M : Type 1} → statement M

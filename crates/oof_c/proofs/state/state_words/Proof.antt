@@ -189,10 +189,10 @@ returns c =
     ∷ floatWord (s .overflow .right)
     ∷ floatWord (s .overflow .top)
     ∷ floatWord (s .overflow .bottom)
-    ∷ floatWord (s .opened .block .area .size .width)
-    ∷ floatWord (s .opened .block .area .size .height)
-    ∷ floatWord (s .opened .block .area .offset .x)
-    ∷ floatWord (s .opened .block .area .offset .y)
+    ∷ floatWord (s .opened .container .area .size .width)
+    ∷ floatWord (s .opened .container .area .size .height)
+    ∷ floatWord (s .opened .container .area .offset .x)
+    ∷ floatWord (s .opened .container .area .offset .y)
     ∷ getD (c .before .before .before .before .before .before .before .before .before .before .before .before .before .before .before .before .before .before .before .before .before .before .before .before .before .opening-codes .ensures j) 0 0
     ∷ getD (c .before .before .before .before .before .before .before .before .before .before .before .before .before .before .before .before .before .before .before .before .before .before .before .before .before .opening-codes .ensures j) 1 0
     ∷ getD (c .before .before .before .before .before .before .before .before .before .before .before .before .before .before .before .before .before .before .before .before .before .before .before .before .before .opening-codes .ensures j) 2 0

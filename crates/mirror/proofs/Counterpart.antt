@@ -9,7 +9,7 @@ use borrow.Author.Tests.{ltb-true, ltb-false, leb-true, leb-false, eqb-true, eqb
 use Rattle.style.specs.declared.resolve.Field.{Field}
 use Rattle.style_record.specs.Record.{number, lengthKinds, lengthField, codeKinds, kindOf, styleWords}
 use Rattle.style_record.specs.Check.{breaksAs, breaksRule}
-use Rattle.mirror.specs.Image.{otherDirection, across, boxWords, directionWord, imageStyle}
+use Rattle.mirror.specs.Image.{otherDirection, counterpart, boxWords, directionWord, imageStyle}
 
 -- ---- places
 
@@ -19,8 +19,8 @@ pub data Place (k : ℕ) : ℕ → Type 0 where
   toRight : k < boxWords → k % 8 < 2 → Place k (k + 2)
   toLeft : k < boxWords → 2 ≤ k % 8 → k % 8 < 4 → Place k (k - 2)
 
-pub place : (k : ℕ) → Place k (across k)
-unfolding across
+pub place : (k : ℕ) → Place k (counterpart k)
+unfolding counterpart
 place k = go (leb boxWords k) (ltb (k % 8) 2) (ltb (k % 8) 4) refl refl refl
   where
     go : (b c d : Bool) → leb boxWords k ≡ b → ltb (k % 8) 2 ≡ c → ltb (k % 8) 4 ≡ d → Place k (cond b k (cond c (k + 2) (cond d (k - 2) k)))
@@ -29,8 +29,8 @@ place k = go (leb boxWords k) (ltb (k % 8) 2) (ltb (k % 8) 4) refl refl refl
     go false false true p q r = toLeft (leb-false boxWords k p) (ltb-false (k % 8) 2 q) (ltb-true (k % 8) 4 r)
     go false false false p q r = stays
 
-pub across-there : (k : ℕ) → k < styleWords → across k < styleWords
-across-there k h = go (across k) (place k)
+pub counterpart-there : (k : ℕ) → k < styleWords → counterpart k < styleWords
+counterpart-there k h = go (counterpart k) (place k)
   where
     go : (m : ℕ) → Place k m → m < styleWords
     go _ stays = h
@@ -38,24 +38,24 @@ across-there k h = go (across k) (place k)
     go _ (toLeft l p q) = omega arith
 
 module _ (k : ℕ) (l : k < boxWords) where
-  on-the-left : k % 8 < 2 → across k ≡ k + 2
-  unfolding across
+  on-the-left : k % 8 < 2 → counterpart k ≡ k + 2
+  unfolding counterpart
   on-the-left h = rw (lt-leb boxWords k l, lt-ltb (k % 8) 2 h) refl
 
-  on-the-right : 2 ≤ k % 8 → k % 8 < 4 → across k ≡ k - 2
-  unfolding across
+  on-the-right : 2 ≤ k % 8 → k % 8 < 4 → counterpart k ≡ k - 2
+  unfolding counterpart
   on-the-right h m = rw (lt-leb boxWords k l, le-ltb (k % 8) 2 h, lt-ltb (k % 8) 4 m) refl
 
 -- words after the sides stand across from themselves
-itself : (k : ℕ) → boxWords ≤ k → across k ≡ k
-unfolding across
+itself : (k : ℕ) → boxWords ≤ k → counterpart k ≡ k
+unfolding counterpart
 itself k l = rw (le-leb boxWords k l) refl
 
 -- and back
-pub across-twice : (k : ℕ) → across (across k) ≡ k
-across-twice k = go (across k) (place k) refl
+pub counterpart-twice : (k : ℕ) → counterpart (counterpart k) ≡ k
+counterpart-twice k = go (counterpart k) (place k) refl
   where
-    go : (m : ℕ) → Place k m → across k ≡ m → across m ≡ k
+    go : (m : ℕ) → Place k m → counterpart k ≡ m → counterpart m ≡ k
     go _ stays e = e
     go _ (toRight l p) e = on-the-right (k + 2) (omega arith) (omega arith) (omega arith) ∙ back k
       where
@@ -94,8 +94,8 @@ same-kind k m h l e p =
     ∙ rw (same-field (k / 2) (m / 2) e (omega arith), p) refl
     ∙ sym (length-kind m l)
 
-pub across-kind : (k : ℕ) → kindOf (across k) ≡ kindOf k
-across-kind k = go (across k) (place k)
+pub counterpart-kind : (k : ℕ) → kindOf (counterpart k) ≡ kindOf k
+counterpart-kind k = go (counterpart k) (place k)
   where
     go : (m : ℕ) → Place k m → kindOf m ≡ kindOf k
     go _ stays = refl
@@ -119,21 +119,21 @@ direction-code (suc (suc d)) = rw (ne-eqb (suc (suc d)) 0 (λ e. omega arith), n
 
 module _ (r : ℕ → ℕ) where
   -- words but for the direction's
-  pub moved : (k : ℕ) → (k ≡ directionWord → ⊥) → imageStyle r k ≡ r (across k)
+  pub moved : (k : ℕ) → (k ≡ directionWord → ⊥) → imageStyle r k ≡ r (counterpart k)
   unfolding imageStyle
   moved k h = rw (ne-eqb k directionWord h) refl
 
   kept : (k : ℕ) → boxWords ≤ k → (k ≡ directionWord → ⊥) → imageStyle r k ≡ r k
   kept k l h = moved k h ∙ ap r (itself k l)
 
-  of-lengths : (k : ℕ) → k < boxWords → breaksRule (imageStyle r) k ≡ breaksRule r (across k)
+  of-lengths : (k : ℕ) → k < boxWords → breaksRule (imageStyle r) k ≡ breaksRule r (counterpart k)
   unfolding breaksRule
   of-lengths k l =
-      rw (moved k (λ e. omega arith), across-kind k, length-kind k l)
-      (before-free (lengthField (k / 2)) (k % 2) (imageStyle r (k - 1)) (r (across k - 1)) (r (across k)))
+      rw (moved k (λ e. omega arith), counterpart-kind k, length-kind k l)
+      (before-free (lengthField (k / 2)) (k % 2) (imageStyle r (k - 1)) (r (counterpart k - 1)) (r (counterpart k)))
 
   after-sides : (k : ℕ) → boxWords ≤ k → breaksRule (imageStyle r) k ≡ breaksRule r k
-  unfolding breaksRule breaksAs kindOf lengthKinds codeKinds lengthField imageStyle across
+  unfolding breaksRule breaksAs kindOf lengthKinds codeKinds lengthField imageStyle counterpart
   after-sides k l = go (eqb k boxWords) (eqb k directionWord) (eqb k (directionWord + 1)) refl refl refl
     where
       go : (a b c : Bool) → eqb k boxWords ≡ a → eqb k directionWord ≡ b → eqb k (directionWord + 1) ≡ c → breaksRule (imageStyle r) k ≡ breaksRule r k
@@ -144,9 +144,9 @@ module _ (r : ℕ → ℕ) where
           ap (λ (w : ℕ). breaksAs (kindOf k) (imageStyle r (k - 1)) w) (kept k l (eqb-false k directionWord q))
           ∙ ap (λ (w : ℕ). breaksAs (kindOf k) w (r k)) (kept (k - 1) (omega (arith, eqb-false k boxWords p)) (λ e. eqb-false k (directionWord + 1) s (omega arith)))
 
-  pub image-breaks : (k : ℕ) → breaksRule (imageStyle r) k ≡ breaksRule r (across k)
+  pub image-breaks : (k : ℕ) → breaksRule (imageStyle r) k ≡ breaksRule r (counterpart k)
   image-breaks k = go (leb boxWords k) refl
     where
-      go : (b : Bool) → leb boxWords k ≡ b → breaksRule (imageStyle r) k ≡ breaksRule r (across k)
+      go : (b : Bool) → leb boxWords k ≡ b → breaksRule (imageStyle r) k ≡ breaksRule r (counterpart k)
       go true e = after-sides k (leb-true boxWords k e) ∙ ap (breaksRule r) (sym (itself k (leb-true boxWords k e)))
       go false e = of-lengths k (leb-false boxWords k e)
