@@ -1,12 +1,14 @@
 -- The block of an axis of whole quarter pixels is the integer block: no operation rounds. L and A bound lengths and static area, in
 -- sixteenths; the block is bounded by 3 L + 2 A. Assumes nothing.
 use mathlib.Core.Path.{_≡_, refl}
+use mathlib.Core.Bool.{Bool, true, false, cond}
 use Prim.Native.Nat.{ℕ, _+_, _*_, _≤_, _<_}
 use native.Mathlib.Omega.{arith}
 use lib.Ieee.{Float}
 use Rattle.util.specs.Maybe.{present}
 use Rattle.util.specs.declared.math.MaybeF32.{MaybeF32}
 use Rattle.util.specs.declared.math.MaybeF32.the-variants.{None, Some}
+use Rattle.geometry.specs.Geometry.{_to_}
 use Rattle.geometry.specs.declared.Line.{Line}
 use Rattle.tree.specs.declared.layout.AxisStaticEdge.{AxisStaticEdge}
 use Rattle.tree.specs.declared.layout.AxisStaticEdge.the-variants.{Start, Center, End}
@@ -20,7 +22,7 @@ use Rattle.exact.proofs.Double.{dbl-exact, half-exact}
 use Rattle.exact.proofs.Compare.{lt-exact, le-exact}
 use Rattle.exact.proofs.Order.{magnitude-exact}
 use Rattle.exact.proofs.Quarters.{MaybeExact}
-use Rattle.mirror_axis.proofs.Model.{LineN, AxisN, shape, centeredN, staticN, insetN, weakerOf, closedN, repairedN, blockN}
+use Rattle.mirror_axis.proofs.Model.{LineN, AxisN, shape, centeredN, staticN, insetN, endOf, weakerOf, closedN, repairedN, blockN}
 
 pub record LineExact (g b : ℕ) (l : Line) (m : LineN) : Type 0 where
   pub start : Exact g b (l .start) (m .start)
@@ -38,21 +40,31 @@ pub record ExactAxis (L A : ℕ) (a : OofAxis) (α : AxisN) : Type 0 where
   pub marginEnd : MaybeExact 4 L (a .margin .end) (α .margin .end)
   pub area : LineExact 4 A (a .place .area) (α .area)
 
-closed-exact : {b : ℕ} {l : Line} {m : LineN} (k : AxisStaticEdge) → LineExact 4 b l m → LineExact 4 b (closedUp k l) (closedN k m)
+-- the integer block names its weaker edge, the definition tells whether it is the start
+abbrev isStart : AxisStaticEdge → Bool
+isStart Start = true
+isStart Center = false
+isStart End = false
+
+closed-exact : {b : ℕ} {l : Line} {m : LineN} (k : AxisStaticEdge) → LineExact 4 b l m → LineExact 4 b (cond (isStart k) (l .end to l .end) (l .start to l .start)) (closedN k m)
 closed-exact Start h = record { start = h .end; end = h .end }
 closed-exact Center h = record { start = h .start; end = h .start }
 closed-exact End h = record { start = h .start; end = h .start }
 
-repaired-exact : {b : ℕ} {l : Line} {m : LineN} (k : AxisStaticEdge) → LineExact 4 b l m → LineExact 4 b (repaired k l) (repairedN k m)
+repaired-exact : {b : ℕ} {l : Line} {m : LineN} (k : AxisStaticEdge) → LineExact 4 b l m → LineExact 4 b (repaired (isStart k) l) (repairedN k m)
 unfolding repaired
 repaired-exact {b} k h = pick (LineExact 4 b) (lt-exact (h .end) (h .start)) (closed-exact k h) h
 
-pub weaker-is : (s e : MaybeF32) (a : OofAxis) → startIsWeaker s e a ≡ weakerOf (present s) (present e) (a .reversed)
+end-is : (r : Bool) → r ≡ isStart (endOf r)
+end-is true = refl
+end-is false = refl
+
+weaker-is : (s e : MaybeF32) (a : OofAxis) → startIsWeaker s e a ≡ isStart (weakerOf (present s) (present e) (a .reversed))
 unfolding startIsWeaker present
-weaker-is (Some x) (Some y) a = refl
+weaker-is (Some x) (Some y) a = end-is (a .reversed)
 weaker-is (Some x) None a = refl
 weaker-is None (Some y) a = refl
-weaker-is None None a = refl
+weaker-is None None a = end-is (a .reversed)
 
 module _ (L A : ℕ) (room : 10 * L + 6 * A < 16777216) where
   centered-exact : {c w : Float} {γ ω : N} → Exact 2 A c γ → Exact 4 L w ω → LineExact 4 (3 * L + 2 * A) (centeredBlock c w) (centeredN γ ω)

@@ -13,6 +13,7 @@ use Rattle.geometry.specs.Geometry.{_to_, span}
 use Rattle.geometry.specs.declared.Line.{Line}
 use Rattle.style.specs.declared.alignment.AlignmentSafety.{AlignmentSafety}
 use Rattle.style.specs.declared.alignment.AlignmentSafety.the-variants.{Default, Unsafe, Safe}
+use Rattle.tree.specs.Static.{startEdge, endEdge}
 use Rattle.tree.specs.declared.layout.AxisStaticEdge.{AxisStaticEdge}
 use Rattle.tree.specs.declared.layout.AxisStaticEdge.the-variants.{Start, Center, End}
 use Rattle.oof_axis.specs.declared.OofAlignment.{OofAlignment}
@@ -96,7 +97,10 @@ module _ (L A S : ℕ) (room : 10 * L + 6 * A + S < 16777216) where
 
   -- the limit, as its two flags say
   abbrev limitOf : Bool → Bool → Float → Line → Line
-  limitOf scrolls reversed w l = (cond (scrolls && reversed) (inf true) (smaller (l .start) 0f)) to (cond (scrolls && not reversed) (inf false) (larger (l .end) w))
+  limitOf scrolls reversed w l =
+      let start = smaller (l .start) 0f in
+      let end = larger (l .end) w in
+      cond scrolls (cond reversed (inf true to end) (start to inf false)) (start to end)
 
   limited-exact : {l : Line} {m : LineN} {w box : Float} {ω v : N} (scrolls reversed : Bool) (a : OofAxis) (k : AxisStaticEdge) → a .reversed ≡ reversed → InBlock l m → Exact 4 L w ω → Box box v
       → Aligned (keptWithin (limitOf scrolls reversed w l) a l box k) (limitedN scrolls reversed ω m v k)

@@ -13,6 +13,7 @@ use Rattle.geometry.specs.Geometry.{_to_, span}
 use Rattle.geometry.specs.declared.Line.{Line}
 use Rattle.style.specs.declared.alignment.AlignmentSafety.{AlignmentSafety}
 use Rattle.style.specs.declared.alignment.AlignmentSafety.the-variants.{Default, Unsafe, Safe}
+use Rattle.tree.specs.Static.{startEdge, endEdge}
 use Rattle.tree.specs.declared.layout.AxisStaticEdge.{AxisStaticEdge}
 use Rattle.tree.specs.declared.layout.AxisStaticEdge.the-variants.{Start, Center, End}
 use Rattle.oof_axis.specs.declared.OofAlignment.{OofAlignment}
@@ -71,18 +72,14 @@ not-below-itself x = go (lt x x) refl
     go true e = absurd (one-way x x e e)
     go false e = refl
 
-closed-in-order : (w : AxisStaticEdge) (l : Line) → lt (closedUp w l .end) (closedUp w l .start) ≡ false
-closed-in-order Start l = not-below-itself (l .end)
-closed-in-order Center l = not-below-itself (l .start)
-closed-in-order End l = not-below-itself (l .start)
-
-repaired-in-order : (w : AxisStaticEdge) (l : Line) → lt (repaired w l .end) (repaired w l .start) ≡ false
+repaired-in-order : (w : Bool) (l : Line) → lt (repaired w l .end) (repaired w l .start) ≡ false
 unfolding repaired
-repaired-in-order w l = go (lt (l .end) (l .start)) refl
+repaired-in-order w l = go (lt (l .end) (l .start)) refl w
   where
-    go : (b : Bool) → lt (l .end) (l .start) ≡ b → lt (cond b (closedUp w l) l .end) (cond b (closedUp w l) l .start) ≡ false
-    go true e = closed-in-order w l
-    go false e = e
+    go : (b : Bool) → lt (l .end) (l .start) ≡ b → (w : Bool) → let m = cond b (cond w (l .end to l .end) (l .start to l .start)) l in lt (m .end) (m .start) ≡ false
+    go true e true = not-below-itself (l .end)
+    go true e false = not-below-itself (l .start)
+    go false e w = e
 
 pub block-in-order : BlockInOrder
 unfolding block
@@ -293,7 +290,8 @@ limit-start : (a : OofAxis) (l : Line) → a .reversed ≡ false → limit a l .
 unfolding limit
 limit-start a l r = go (a .scrolls)
   where
-    go : (s : Bool) → cond (s && a .reversed) (inf true) (smaller (l .start) 0f) ≡ smaller (l .start) 0f
+    go : (s : Bool) → let low = smaller (l .start) 0f in let high = larger (l .end) (a .size) in
+        cond s (cond (a .reversed) (inf true to high) (low to inf false)) (low to high) .start ≡ low
     go true = rw r refl
     go false = refl
 
@@ -365,16 +363,16 @@ same-inset-block (Some s) None a e = refl
 same-inset-block None (Some t) a e = refl
 same-inset-block None None a e = refl
 
-same-weaker-edge : (s t : MaybeF32) (a : OofAxis) (e : AxisStaticEdge) → startIsWeaker s t (withFallback e a) ≡ startIsWeaker s t a
+same-weaker : (s t : MaybeF32) (a : OofAxis) (e : AxisStaticEdge) → startIsWeaker s t (withFallback e a) ≡ startIsWeaker s t a
 unfolding startIsWeaker
-same-weaker-edge (Some s) (Some t) a e = refl
-same-weaker-edge (Some s) None a e = refl
-same-weaker-edge None (Some t) a e = refl
-same-weaker-edge None None a e = refl
+same-weaker (Some s) (Some t) a e = refl
+same-weaker (Some s) None a e = refl
+same-weaker None (Some t) a e = refl
+same-weaker None None a e = refl
 
 same-block : (a : OofAxis) (e : AxisStaticEdge) → block (withFallback e a) ≡ block a
 unfolding block
-same-block a e = rw (same-weaker-edge (a .inset .start) (a .inset .end) a e, same-inset-block (a .inset .start) (a .inset .end) a e) refl
+same-block a e = rw (same-weaker (a .inset .start) (a .inset .end) a e, same-inset-block (a .inset .start) (a .inset .end) a e) refl
 
 same-filled : (s t : MaybeF32) (free : Float) (a : OofAxis) (e : AxisStaticEdge) → filledMargins s t free (withFallback e a) ≡ filledMargins s t free a
 unfolding filledMargins halves

@@ -1,8 +1,9 @@
 -- One axis of the absolute positioning layout model (css-position-3 #abspos-layout; `OofAxis` of the Rust). Positions count from the
 -- area's left or top edge. The area is the containing block that insets are resolved against (from 0 to the axis' size); "the block" is
--- the inset-modified containing block; a "box" of some size is a margin box. Edges are physical: Start is left or top, End is right
--- or bottom. The containing block's own start and end go by its direction: `startEdge`, `endEdge`. Assumes nothing.
-use mathlib.Core.Bool.{Bool, true, false, cond, not, _&&_, _||_}
+-- the inset-modified containing block. A bare `size` is a border box's, `outer` is CSS's outer size, that of a margin box. Edges are
+-- physical: Start is left or top, End is right or bottom. The containing block's own start and end go by its direction: `startEdge` and
+-- `endEdge` of tree/specs/Static.antt. Assumes nothing.
+use mathlib.Core.Bool.{Bool, true, false, cond, _&&_, _||_}
 use lib.Ieee.{Float, inf, lt, le}
 use Rattle.util.specs.Number.{_⊕_, _⊖_, _⊗_, _⊘_, 0f, 2f}
 use Rattle.util.specs.Order.{larger, smaller, magnitude}
@@ -15,6 +16,7 @@ use Rattle.style.specs.declared.alignment.AlignItemsKeyword.{AlignItemsKeyword}
 use Rattle.style.specs.declared.alignment.AlignItemsKeyword.the-variants as keyword
 use Rattle.style.specs.declared.alignment.AlignmentSafety.{AlignmentSafety}
 use Rattle.style.specs.declared.alignment.AlignmentSafety.the-variants.{Default, Unsafe, Safe}
+use Rattle.tree.specs.Static.{startEdge, endEdge}
 use Rattle.tree.specs.declared.layout.AxisStaticEdge.{AxisStaticEdge}
 use Rattle.tree.specs.declared.layout.AxisStaticEdge.the-variants.{Start, Center, End}
 use Rattle.oof_axis.specs.declared.OofAlignment.{OofAlignment}
@@ -40,31 +42,24 @@ fromResolved keyword.SelfEnd = align.End
 
 -- ---- edges
 
--- the containing block's start and end, as edges of the axis: exchanged in the inline axis of a right-to-left block
-unfoldable pub startEdge : OofAxis → AxisStaticEdge
-startEdge (a .reversed) = cond (a .reversed) End Start
-
-unfoldable pub endEdge : OofAxis → AxisStaticEdge
-endEdge (a .reversed) = cond (a .reversed) Start End
-
--- where a box of a size begins that is aligned to an edge of a line
+-- where a margin box begins that is aligned to an edge of a line
 unfoldable pub alignIn : Line → Float → AxisStaticEdge → Float
-alignIn l size Start = l .start
-alignIn l size Center = (l .start ⊕ l .end ⊖ size) ⊘ 2f
-alignIn l size End = l .end ⊖ size
+alignIn l outer Start = l .start
+alignIn l outer Center = (l .start ⊕ l .end ⊖ outer) ⊘ 2f
+alignIn l outer End = l .end ⊖ outer
 
 -- ---- the block: insets resolved (css-position-3 #resolving-insets)
 
 -- no insets, center: around the static center, up to the nearer edge of the area; at equal distance, from the start
 unfoldable pub centeredBlock : Float → Float → Line
-centeredBlock center size =
-    cond (le (magnitude center) (magnitude (size ⊖ center))) (0f to 2f ⊗ center) (size ⊖ 2f ⊗ (size ⊖ center) to size)
+centeredBlock center areaSize =
+    cond (le (magnitude center) (magnitude (areaSize ⊖ center))) (0f to 2f ⊗ center) (areaSize ⊖ 2f ⊗ (areaSize ⊖ center) to areaSize)
 
 -- no insets: from the static position's edge to the far edge of the area
 unfoldable pub staticBlock : AxisStaticEdge → Line → Float → Line
-staticBlock Start area size = area .start to size
-staticBlock Center area size = centeredBlock ((area .start ⊕ area .end) ⊘ 2f) size
-staticBlock End area size = 0f to area .end
+staticBlock Start static areaSize = static .start to areaSize
+staticBlock Center static areaSize = centeredBlock ((static .start ⊕ static .end) ⊘ 2f) areaSize
+staticBlock End static areaSize = 0f to static .end
 
 -- the block as the insets say; a lone auto inset is 0, two are resolved from the static position
 unfoldable pub insetBlock : MaybeF32 → MaybeF32 → OofAxis → Line
@@ -73,21 +68,17 @@ insetBlock (Some start) None a = start to a .size
 insetBlock None (Some end) a = 0f to a .size ⊖ end
 insetBlock None None a = staticBlock (a .place .align .keyword) (a .place .area) (a .size)
 
--- the weaker edge, which gives way where insets leave a negative size: the free side with one inset, else the end edge by direction
-unfoldable pub startIsWeaker : MaybeF32 → MaybeF32 → OofAxis → AxisStaticEdge
-startIsWeaker (Some start) (Some end) a = endEdge (a .reversed)
-startIsWeaker (Some start) None a = End
-startIsWeaker None (Some end) a = Start
-startIsWeaker None None a = endEdge (a .reversed)
+-- whether the start edge is the weaker one, which gives way where insets leave a negative size: the free side with one inset, else the end
+-- edge by direction
+unfoldable pub startIsWeaker : MaybeF32 → MaybeF32 → OofAxis → Bool
+startIsWeaker (Some start) (Some end) a = a .reversed
+startIsWeaker (Some start) None a = false
+startIsWeaker None (Some end) a = true
+startIsWeaker None None a = a .reversed
 
--- an end below its start: the weaker edge moves to the other, so that the block's size is 0 (no axis has Center as its weaker edge)
-unfoldable pub closedUp : AxisStaticEdge → Line → Line
-closedUp Start l = l .end to l .end
-closedUp Center l = l .start to l .start
-closedUp End l = l .start to l .start
-
-unfoldable pub repaired : AxisStaticEdge → Line → Line
-repaired weaker l = cond (lt (l .end) (l .start)) (closedUp weaker l) l
+-- an end below its start: the weaker edge moves to the other, so that the block's size is 0
+unfoldable pub repaired : Bool → Line → Line
+repaired startWeaker l = cond (lt (l .end) (l .start)) (cond startWeaker (l .end to l .end) (l .start to l .start)) l
 
 unfoldable pub block : OofAxis → Line
 block a = repaired (startIsWeaker (a .inset .start) (a .inset .end) a) (insetBlock (a .inset .start) (a .inset .end) a)
@@ -157,8 +148,9 @@ alignEdge align.End a = endEdge (a .reversed)
 -- the left in a right-to-left axis)
 unfoldable pub limit : OofAxis → Line → Line
 limit a l =
-    (cond (a .scrolls && a .reversed) (inf true) (smaller (l .start) 0f))
-    to (cond (a .scrolls && not (a .reversed)) (inf false) (larger (l .end) (a .size)))
+    let start = smaller (l .start) 0f in
+    let end = larger (l .end) (a .size) in
+    cond (a .scrolls) (cond (a .reversed) (inf true to end) (start to inf false)) (start to end)
 
 -- as aligned in the block, but moved so far that it stays within the limit; what doesn't fit the limit stands at the limit's start
 unfoldable pub keptWithin : Line → OofAxis → Line → Float → AxisStaticEdge → Float

@@ -5,6 +5,7 @@ ghost use lib.Ieee.{lt};
 ghost use Rattle.util.specs.Number.{0f};
 ghost use Rattle.util.specs.Maybe.{present};
 ghost use Rattle.geometry.specs.Geometry.{span};
+ghost use Rattle.tree.specs.Static.{startEdge, endEdge};
 ghost use Rattle.oof_axis.specs.Axis.{fromResolved, alignIn, centeredBlock, staticBlock, insetBlock, startIsWeaker, repaired, block, bothInsets, stretchFit, stretching, stretches, isStretch, halves, filledMargins, margins, isNormal, alignEdge, limit, keptWithin, selfAligned, staticAligned, position, placement};
 ghost use Rattle.oof_axis.specs.StaticOffset.{offsetEdge, axisOffset, staticOffset};
 use geometry::Line;
@@ -213,31 +214,21 @@ fn static_block(edge: AxisStaticEdge, area: Line, size: f32) -> Line
     }
 }
 
-// The weaker edge moved to the other.
-fn closed_up(weaker: AxisStaticEdge, raw: Line) -> Line
-    ensures { λ r. ⌜ r ≡ closedUp weaker raw ⌝ }
-{
-    match weaker {
-        AxisStaticEdge::Start => Line {
-            start: raw.end,
-            end: raw.end,
-        },
-        AxisStaticEdge::Center => Line {
-            start: raw.start,
-            end: raw.start,
-        },
-        AxisStaticEdge::End => Line {
-            start: raw.start,
-            end: raw.start,
-        },
-    }
-}
-
-fn repaired(weaker: AxisStaticEdge, raw: Line) -> Line
-    ensures { λ r. ⌜ r ≡ repaired weaker raw ⌝ }
+// An end below its start: the weaker edge moves to the other.
+fn repaired(startweaker: bool, raw: Line) -> Line
+    ensures { λ r. ⌜ r ≡ repaired startweaker raw ⌝ }
 {
     if raw.end < raw.start {
-        return closed_up(weaker, raw);
+        if startweaker {
+            return Line {
+                start: raw.end,
+                end: raw.end,
+            };
+        }
+        return Line {
+            start: raw.start,
+            end: raw.start,
+        };
     }
     raw
 }
@@ -295,22 +286,22 @@ impl OofAxis {
         }
     }
 
-    // The edge that gives way where the end is below the start.
-    fn weaker_edge(self) -> AxisStaticEdge
+    // Whether the start edge is the one that gives way where the end is below the start.
+    fn start_is_weaker(self) -> bool
         ensures { λ r. ⌜ r ≡ startIsWeaker (self .inset .start) (self .inset .end) self ⌝ }
     {
         let inset = self.inset;
         let from = inset.start;
         let to = inset.end;
-        let end = self.end_edge();
+        let start_is_end = self.reversed;
         match from {
             MaybeF32::Some(_) => match to {
-                MaybeF32::Some(_) => end,
-                MaybeF32::None => AxisStaticEdge::End,
+                MaybeF32::Some(_) => start_is_end,
+                MaybeF32::None => false,
             },
             MaybeF32::None => match to {
-                MaybeF32::Some(_) => AxisStaticEdge::Start,
-                MaybeF32::None => end,
+                MaybeF32::Some(_) => true,
+                MaybeF32::None => start_is_end,
             },
         }
     }
@@ -319,9 +310,9 @@ impl OofAxis {
     pub fn inset_modified_containing_block(self) -> Line
         ensures { λ r. ⌜ r ≡ block self ⌝ }
     {
-        let weaker = self.weaker_edge();
+        let startweaker = self.start_is_weaker();
         let raw = self.inset_block();
-        repaired(weaker, raw)
+        repaired(startweaker, raw)
     }
 
     // Its size: the space for the margin box.

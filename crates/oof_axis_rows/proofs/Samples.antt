@@ -6,7 +6,8 @@ use Rattle.util.specs.Order.{zeroOf, before, larger, smaller, magnitude}
 use Rattle.util.specs.Maybe.{present, unwrapOr}
 use Rattle.oof_axis.specs.Axis.{fromResolved, alignIn, centeredBlock, staticBlock, insetBlock, startIsWeaker, repaired, block, bothInsets, halves, filledMargins, margins, isNormal, alignEdge, limit, keptWithin, selfAligned, staticAligned, positionIn, position, placement}
 use Rattle.oof_axis.specs.StaticOffset.{offsetEdge, axisOffset, staticOffset}
-use Rattle.oof_axis_rows.specs.Sample.{word, float, maybe, flag, edgeOf, safetyOf, keywordFrom, keywordOf, staticOf, axisOf, same, found, agrees, allAgree, offsetOf, offsetAgrees, allOffsetsAgree}
+use Rattle.style.specs.Codes.{safetyOf}
+use Rattle.oof_axis_rows.specs.Sample.{word, float, maybe, flag, edgeOf, keywordFrom, keywordOf, staticOf, axisOf, same, found, agrees, allAgree, offsetOf, offsetAgrees, allOffsetsAgree}
 use Rattle.oof_axis_rows.specs.Quarter.{boxes as quarter-boxes}
 use Rattle.oof_axis_rows.specs.Typical.{boxes as typical-boxes}
 use Rattle.oof_axis_rows.specs.Wild.{boxes as wild-boxes}

@@ -12,8 +12,7 @@ use Rattle.geometry.specs.declared.Line.{Line}
 use Rattle.geometry.specs.declared.MaybeLine.{MaybeLine}
 use Rattle.style.specs.declared.alignment.AlignItemsKeyword.{AlignItemsKeyword}
 use Rattle.style.specs.declared.alignment.AlignItemsKeyword.the-variants as keyword
-use Rattle.style.specs.declared.alignment.AlignmentSafety.{AlignmentSafety}
-use Rattle.style.specs.declared.alignment.AlignmentSafety.the-variants.{Default, Unsafe, Safe}
+use Rattle.style.specs.Codes.{safetyOf}
 use Rattle.tree.specs.declared.layout.AxisStaticEdge.{AxisStaticEdge}
 use Rattle.tree.specs.declared.layout.AxisStaticEdge.the-variants.{Start, Center, End}
 use Rattle.tree.specs.declared.layout.AxisStaticPosition.{AxisStaticPosition}
@@ -46,9 +45,6 @@ flag w = eqb w 1
 -- codes, as document 01 numbers them
 unfoldable pub edgeOf : ℕ → AxisStaticEdge
 edgeOf w = cond (eqb w 0) Start (cond (eqb w 1) Center End)
-
-unfoldable pub safetyOf : ℕ → AlignmentSafety
-safetyOf w = cond (eqb w 0) Default (cond (eqb w 1) Unsafe Safe)
 
 unfoldable pub keywordFrom : List AlignItemsKeyword → ℕ → AlignItemsKeyword
 keywordFrom [] n = keyword.Normal

@@ -1,5 +1,5 @@
--- A style record decoded: each word at its index and by its meaning (document 01, "Style, 57 words"). Codes outside their lists are refused
--- before; here they are read as the last of the list. Assumes nothing.
+-- A style record decoded: each word at its index and by its meaning (document 01, "Style, 57 words"). What a word is read as that the
+-- check refuses, style/specs/Codes.antt says. Assumes nothing.
 use Prim.Native.Nat.{ℕ, _+_, _*_}
 use mathlib.Core.Bool.{Bool, true, false, cond}
 use mathlib.Core.List.{List}

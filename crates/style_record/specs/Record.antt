@@ -64,7 +64,7 @@ unfoldable pub codeKinds : List Kind
 codeKinds =
     -- ratio present, ratio
     upTo 1 ∷ ratio
-    -- box sizing, flags, direction
+    -- box sizing, flags (two bits), direction
     ∷ upTo 1
     ∷ upTo 3
     ∷ upTo 1

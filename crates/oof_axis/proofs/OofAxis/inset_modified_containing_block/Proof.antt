@@ -5,12 +5,12 @@ use Rattle.oof_axis.proofs.OofAxis.inset_modified_containing_block.Tie 
 use Rattle.oof_axis.proofs.OofAxis.inset_modified_containing_block.Reads as reads
 use Rattle.oof_axis.proofs.OofAxis.inset_modified_containing_block.Lts as lts
 use Rattle.oof_axis.proofs.OofAxis.inset_block.Reads as inset-block-reads
-use Rattle.oof_axis.proofs.OofAxis.weaker_edge.Reads as weaker-edge-reads
+use Rattle.oof_axis.proofs.OofAxis.start_is_weaker.Reads as start-is-weaker-reads
 use Rattle.oof_axis.proofs.repaired.Reads as repaired-reads
 
 -- src/lib.rt:313:13
-weaker-edge-requires : tie.Need-weaker-edge-requires
-weaker-edge-requires c κs = search needs
+start-is-weaker-requires : tie.Need-start-is-weaker-requires
+start-is-weaker-requires c κs = search needs
 
 -- src/lib.rt:314:13
 inset-block-requires : tie.Need-inset-block-requires
@@ -23,8 +23,8 @@ repaired-requires c κs = search needs
 -- src/lib.rt:310:5
 returns : tie.Need-returns
 unfolding block
-returns c = simp (← c .before .before .weaker-edge .ensures, ← c .before .inset-block .ensures, ← c .repaired .ensures)
+returns c = simp (← c .before .before .start-is-weaker .ensures, ← c .before .inset-block .ensures, ← c .repaired .ensures)
 
 pub inset-modified-containing-block-spec : {M : Type 1} → statement M
 inset-modified-containing-block-spec =
-    tie.close (tie.spec weaker-edge-requires inset-block-requires repaired-requires returns)
+    tie.close (tie.spec start-is-weaker-requires inset-block-requires repaired-requires returns)
