@@ -37,7 +37,7 @@ use Rattle.oof_resolve.specs.declared.ResolvedBox.{ResolvedBox}
 use Rattle.common.specs.ScrollableOverflow.{contribution}
 use Rattle.common.specs.declared.sizing_keyword.SizingKeywordResolution.the-variants.{NoKeyword}
 use Rattle.oof_box.specs.Talk.{Talk, done, ask, ReplyTo}
-use Rattle.oof_box.specs.Box.{Placed, placed, sizeKeywords}
+use Rattle.oof_box.specs.Box.{Placed, placed, sizeKeywords, settled}
 use Rattle.oof_box.specs.declared.question.MeasureInput.{MeasureInput}
 use Rattle.oof_box.specs.declared.question.Question.{Question}
 use Rattle.oof_box.specs.declared.question.Question.the-variants.{MeasureBoth}
@@ -165,6 +165,10 @@ TableIsMeasured =
 -- a clamp that is done changes nothing when done again
 abbrev pub ClampIsSettled : Type 0
 ClampIsSettled = (x : Float) (min max : MaybeF32) → clamped (clamped x min max) min max ≡ clamped x min max
+
+-- nor do ratio and clamp change the size that step 2 resolved
+abbrev pub SizeIsSettled : Type 0
+SizeIsSettled = (container : ContainingBlock) (style : Style) (candidate : OofCandidate) → let box = resolvedBox container style candidate in settled (style .ratio) box (box .size) ≡ box .size
 
 -- ---- percentages
 

@@ -22,10 +22,11 @@ propagates axis overflow contain = not (anyScrollContainer overflow) && not (con
 unfoldable pub reach : Bool → Float → Line → Line
 reach shows size own = cond shows (smaller 0f (own .start) to larger size (own .end)) (0f to size)
 
+-- counted from the parent's scroll origin; `movedBy` of geometry with the sum the other way round, as the Rust has it
 unfoldable pub placedAt : Float → Line → Line
 placedAt at l = at ⊕ l .start to at ⊕ l .end
 
--- zeros if either end extent is at most 0, or if the parent scrolls and right or bottom is at most 0. The location counts from the
+-- zeros if either end extent is at most 0, or if the parent scrolls, in either axis, and right or bottom is at most 0. The location counts from the
 -- parent's scroll origin, the box's own overflow from its start edge.
 unfoldable pub contribution : Point → Size → Rect → OverflowPoint → Contain → Bool → Rect
 contribution location size own overflow contain parentScrolls =

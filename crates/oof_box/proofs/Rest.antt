@@ -19,8 +19,8 @@ use Rattle.common.specs.declared.sizing_keyword.SizingKeywordResolution.{Sizing
 use Rattle.common.specs.declared.sizing_keyword.SizingKeywordResolution.the-variants.{NoKeyword, Exact, Measure}
 use Rattle.common.specs.declared.sizing_keyword.SizingKeywords.{SizingKeywords}
 use Rattle.oof_box.specs.Talk.{Talk, done, ask, _>>=_, layOut, Laid}
-use Rattle.oof_box.specs.Box.{_by_, _and_, keywordStretch, sizeKeywords, settled, widthAs, heightAs, inTurn, byKeywords, keywordSizes, stretched, finalSize, measured, placed, Placed}
-use Rattle.oof_box.specs.Cut.{knownBy, bothInput, widthInput, heightInput}
+use Rattle.oof_box.specs.Box.{_by_, _and_, keywordStretch, sizeKeywords, settled, bothInput, widthInput, heightInput, widthAs, heightAs, inTurn, byKeywords, keywordSizes, stretched, finalSize, measured, placed, Placed}
+use Rattle.oof_box.specs.Cut.{knownBy}
 use Rattle.oof_box.specs.declared.question.MeasureInput.{MeasureInput}
 use Rattle.oof_box.specs.declared.question.LayoutInput.{LayoutInput}
 use Rattle.oof_box.specs.declared.question.Question.{Question}
@@ -62,10 +62,10 @@ toKeywords container style candidate box NoKeyword (Exact h) = afterKeywords con
 toKeywords container style candidate box (Exact w) NoKeyword = afterKeywords container style candidate box (record { width = Exact w; height = NoKeyword }) keyword.None
 toKeywords container style candidate box (Exact w) (Exact h) = afterKeywords container style candidate box (record { width = Exact w; height = Exact h }) keyword.None
 toKeywords container style candidate box NoKeyword (Measure down) =
-    ask (question.MeasureHeight (heightInput (candidate .node) (box .size .width) down (box .size) (keywordStretch box)))
+    ask (question.MeasureHeight (heightInput (candidate .node) down (box .size) (keywordStretch box)))
     (λ h. afterKeywords container style candidate box (record { width = NoKeyword; height = Measure down }) (keyword.Height h))
 toKeywords container style candidate box (Exact w) (Measure down) =
-    ask (question.MeasureHeight (heightInput (candidate .node) (Some w) down (box .size) (keywordStretch box)))
+    ask (question.MeasureHeight (heightInput (candidate .node) down (Some w by box .size .height) (keywordStretch box)))
     (λ h. afterKeywords container style candidate box (record { width = Exact w; height = Measure down }) (keyword.Height h))
 toKeywords container style candidate box (Measure across) NoKeyword =
     ask (question.MeasureWidth (widthInput (candidate .node) across (box .size) (keywordStretch box)))
@@ -107,9 +107,9 @@ by-keywords container style candidate box NoKeyword (Exact h) = fills container 
 by-keywords container style candidate box (Exact w) NoKeyword = fills container style candidate box (settled (style .ratio) box (Some w by box .size .height))
 by-keywords container style candidate box (Exact w) (Exact h) = fills container style candidate box (settled (style .ratio) box (Some w by Some h))
 by-keywords container style candidate box NoKeyword (Measure down) =
-    ap (ask (question.MeasureHeight (heightInput (candidate .node) (box .size .width) down (box .size) (keywordStretch box)))) (fun-ext (λ h. fills container style candidate box (settled (style .ratio) box (box .size .width by Some h))))
+    ap (ask (question.MeasureHeight (heightInput (candidate .node) down (box .size) (keywordStretch box)))) (fun-ext (λ h. fills container style candidate box (settled (style .ratio) box (box .size .width by Some h))))
 by-keywords container style candidate box (Exact w) (Measure down) =
-    ap (ask (question.MeasureHeight (heightInput (candidate .node) (Some w) down (box .size) (keywordStretch box)))) (fun-ext (λ h. fills container style candidate box (settled (style .ratio) box (Some w by Some h))))
+    ap (ask (question.MeasureHeight (heightInput (candidate .node) down (Some w by box .size .height) (keywordStretch box)))) (fun-ext (λ h. fills container style candidate box (settled (style .ratio) box (Some w by Some h))))
 by-keywords container style candidate box (Measure across) NoKeyword =
     ap (ask (question.MeasureWidth (widthInput (candidate .node) across (box .size) (keywordStretch box)))) (fun-ext (λ w. fills container style candidate box (settled (style .ratio) box (Some w by box .size .height))))
 by-keywords container style candidate box (Measure across) (Exact h) =

@@ -24,6 +24,7 @@ use Rattle.common.specs.SizingKeyword.{absoluteStretch, keywordsOf}
 use Rattle.common.specs.declared.sizing_keyword.SizingKeywordResolution.{SizingKeywordResolution}
 use Rattle.common.specs.declared.sizing_keyword.SizingKeywordResolution.the-variants.{NoKeyword, Exact, Measure}
 use Rattle.common.specs.declared.sizing_keyword.SizingKeywords.{SizingKeywords}
+use Rattle.oof_box.specs.declared.question.MeasureInput.{MeasureInput}
 use Rattle.oof_box.specs.Talk.{Talk, done, _>>=_, measureBoth, measureWidth, measureHeight, layOut}
 use Rattle.oof_box.specs.declared.sizing.Stretched.{Stretched}
 use Rattle.oof_place.specs.Placing.{boxLayout}
@@ -56,24 +57,38 @@ isKeyword NoKeyword = false
 isKeyword (Exact x) = true
 isKeyword (Measure space) = true
 
+abbrev pub hasKeyword : SizingKeywords → Bool
+hasKeyword k = isKeyword (k .width) || isKeyword (k .height)
+
 -- ratio, then clamp
 unfoldable pub settled : MaybeF32 → ResolvedBox → MaybeSize → MaybeSize
 settled ratio box size = clampedSize (withRatio ratio size) (box .min) (box .max)
 
--- the width; a height that isn't known has its stretch size as space
+-- what is asked for two measured sides
+abbrev pub bothInput : ℕ → AvailableSpace → AvailableSpace → MeasureInput
+bothInput node spaceX spaceY = record { node = node; known = absentSize; space = spaceX and spaceY }
+
+-- for the width: a height that isn't known has its stretch size as space
+abbrev pub widthInput : ℕ → AvailableSpace → MaybeSize → Size → MeasureInput
+widthInput node spaceX known stretch = record { node = node; known = known; space = spaceX and Definite (stretch .height) }
+
+-- for the height: a width that is known is its space, else its stretch size
+abbrev pub heightInput : ℕ → AvailableSpace → MaybeSize → Size → MeasureInput
+heightInput node spaceY known stretch =
+    record { node = node; known = known; space = Definite (unwrapOr (known .width) (stretch .width)) and spaceY }
+
 unfoldable pub widthAs : ℕ → SizingKeywordResolution → MaybeSize → Size → Talk MaybeF32
 widthAs node NoKeyword known stretch = done (known .width)
 widthAs node (Exact x) known stretch = done (Some x)
 widthAs node (Measure spaceX) known stretch = do
-  width ← measureWidth (record { node = node; known = known; space = spaceX and Definite (stretch .height) })
+  width ← measureWidth (widthInput node spaceX known stretch)
   done (Some width)
 
--- the height; a width that is known is its space, else its stretch size
 unfoldable pub heightAs : ℕ → SizingKeywordResolution → MaybeSize → Size → Talk MaybeF32
 heightAs node NoKeyword known stretch = done (known .height)
 heightAs node (Exact x) known stretch = done (Some x)
 heightAs node (Measure spaceY) known stretch = do
-  height ← measureHeight (record { node = node; known = known; space = Definite (unwrapOr (known .width) (stretch .width)) and spaceY })
+  height ← measureHeight (heightInput node spaceY known stretch)
   done (Some height)
 
 -- the width, then the height by what is then known
@@ -83,10 +98,10 @@ inTurn node wide tall known stretch = do
   height ← heightAs node tall (width by known .height) stretch
   done (width by height)
 
--- two measured sides are one question
+-- two measured sides are one question; any others come in turn
 unfoldable pub byKeywords : ℕ → SizingKeywordResolution → SizingKeywordResolution → MaybeSize → Size → Talk MaybeSize
 byKeywords node (Measure spaceX) (Measure spaceY) known stretch = do
-  size ← measureBoth (record { node = node; known = absentSize; space = spaceX and spaceY })
+  size ← measureBoth (bothInput node spaceX spaceY)
   done (definite size)
 byKeywords node (Measure spaceX) NoKeyword known stretch = inTurn node (Measure spaceX) NoKeyword known stretch
 byKeywords node (Measure spaceX) (Exact h) known stretch = inTurn node (Measure spaceX) (Exact h) known stretch
@@ -94,10 +109,10 @@ byKeywords node NoKeyword tall known stretch = inTurn node NoKeyword tall known 
 byKeywords node (Exact w) tall known stretch = inTurn node (Exact w) tall known stretch
 
 -- an absent side with a keyword is filled; ratio and clamp follow. (The Rust applies both once more where only a known side has a
--- keyword: they change nothing there, since a ratio completes a lone side only, and a clamped size is clamped.)
+-- keyword: they change nothing there, by the law `SizeIsSettled` of box_laws.)
 unfoldable pub keywordSizes : ℕ → Style → ResolvedBox → SizingKeywords → Talk MaybeSize
 keywordSizes node style box keywords =
-    cond (isKeyword (keywords .width) || isKeyword (keywords .height))
+    cond (hasKeyword keywords)
     (do
       known ← byKeywords node (keywords .width) (keywords .height) (box .size) (keywordStretch box)
       done (settled (style .ratio) box known))

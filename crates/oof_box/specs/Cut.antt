@@ -23,7 +23,7 @@ use Rattle.oof_resolve.specs.declared.ResolvedBox.{ResolvedBox}
 use Rattle.common.specs.declared.sizing_keyword.SizingKeywordResolution.{SizingKeywordResolution}
 use Rattle.common.specs.declared.sizing_keyword.SizingKeywordResolution.the-variants.{NoKeyword, Exact, Measure}
 use Rattle.common.specs.declared.sizing_keyword.SizingKeywords.{SizingKeywords}
-use Rattle.oof_box.specs.Box.{_by_, _and_, keywordStretch, sizeKeywords, isKeyword, settled, stretched, finalSize}
+use Rattle.oof_box.specs.Box.{_by_, keywordStretch, sizeKeywords, hasKeyword, settled, bothInput, widthInput, heightInput, stretched, finalSize}
 use Rattle.oof_box.specs.declared.question.MeasureInput.{MeasureInput}
 use Rattle.oof_box.specs.declared.question.Question.{Question}
 use Rattle.oof_box.specs.declared.question.Question.the-variants as question
@@ -111,9 +111,6 @@ sideBy NoKeyword known measured = known
 sideBy (Exact x) known measured = Some x
 sideBy (Measure space) known measured = measured
 
-abbrev pub hasKeyword : SizingKeywords → Bool
-hasKeyword k = isKeyword (k .width) || isKeyword (k .height)
-
 -- step 4: known sizes by the reply for size keywords
 unfoldable pub knownBy : Style → ResolvedBox → SizingKeywords → KeywordReply → MaybeSize
 knownBy style box keywords reply =
@@ -137,26 +134,16 @@ sizeBy style box keywords replies = finalSize box (stretchedBy style box keyword
 
 -- ---- questions
 
-abbrev pub bothInput : ℕ → AvailableSpace → AvailableSpace → MeasureInput
-bothInput node spaceX spaceY = record { node = node; known = absentSize; space = spaceX and spaceY }
-
 abbrev pub bothAsked : ℕ → AvailableSpace → AvailableSpace → KeywordQuestion
 bothAsked node spaceX spaceY = asks.Ask (record { stage = KeywordBoth; question = question.MeasureBoth (bothInput node spaceX spaceY) })
-
-abbrev pub widthInput : ℕ → AvailableSpace → MaybeSize → Size → MeasureInput
-widthInput node spaceX known stretch = record { node = node; known = known; space = spaceX and Definite (stretch .height) }
 
 abbrev pub widthAsked : ℕ → AvailableSpace → MaybeSize → Size → KeywordQuestion
 widthAsked node spaceX known stretch =
     asks.Ask (record { stage = KeywordWidth; question = question.MeasureWidth (widthInput node spaceX known stretch) })
 
-abbrev pub heightInput : ℕ → MaybeF32 → AvailableSpace → MaybeSize → Size → MeasureInput
-heightInput node width spaceY known stretch =
-    record { node = node; known = width by known .height; space = Definite (unwrapOr width (stretch .width)) and spaceY }
-
 abbrev pub heightAsked : ℕ → MaybeF32 → AvailableSpace → MaybeSize → Size → KeywordQuestion
 heightAsked node width spaceY known stretch =
-    asks.Ask (record { stage = KeywordHeight; question = question.MeasureHeight (heightInput node width spaceY known stretch) })
+    asks.Ask (record { stage = KeywordHeight; question = question.MeasureHeight (heightInput node spaceY (width by known .height) stretch) })
 
 -- step 4: the question for size keywords, if a side is to be measured
 unfoldable pub keywordAsked : ℕ → SizingKeywordResolution → SizingKeywordResolution → MaybeSize → Size → KeywordQuestion

@@ -30,7 +30,8 @@ use Rattle.oof_box.specs.declared.question.KeywordReply.the-variants as 
 use Rattle.oof_box.specs.declared.question.Taken.{Taken}
 use Rattle.oof_box.specs.declared.question.Taken.the-variants as taking
 
--- ---- The code, fed any list of replies, gives the questions and the layout of the definition.
+-- ---- The definition in the code's cut (specs/Cut.antt), fed any list of replies, gives the questions and the layout of the definition read straight
+-- through (specs/Box.antt). The contracts say that the code is the cut.
 
 -- a reply as the host gives it: what it says, and the candidates lent with it, which only lay out reads
 pub record Heard : Type 0 where
@@ -77,7 +78,7 @@ abbrev pub after : {A : Type 0} → Talk A → Heard → Talk A
 after (done p) h = done p
 after (ask q next) h = orStay (replyTo q h) next (ask q next)
 
--- The code, fed replies: each is taken at the box's stage; one that is kept brings the next question, by all that is kept.
+-- The cut, fed replies: each is taken at the box's stage; one that is kept brings the next question, by all that is kept.
 
 pub data Standing : Type 0 where
   waiting : Stage → Replies → Standing
@@ -110,6 +111,7 @@ abbrev pub seenBy : ContainingBlock → Style → OofCandidate → Standing → 
 seenBy container style candidate (waiting at replies) = asked (askedAfter container style candidate replies .question)
 seenBy container style candidate (finished p) = ended p
 
+-- the two definitions are one
 abbrev pub CutIsDefinition : Type 0
 CutIsDefinition =
     (container : ContainingBlock) (style : Style) (candidate : OofCandidate) (heard : List Heard)
