@@ -1,6 +1,5 @@
 -- An opening, by the ways that the code goes. Assumes nothing.
 use Prim.Native.Nat.{ℕ, _+_, _<_}
-use native.Mathlib.Nat.{zero-add}
 use mathlib.Core.Bool.{true, false}
 use mathlib.Core.List.{List, map}
 use mathlib.Core.Path.{_≡_, refl, sym, ap, _∙_}
@@ -68,7 +67,7 @@ module _ (o : Opening) (candidates : List ℕ) (l : Lent) where
       let m = unmoved (candidatesIn candidates) in
       let ws : w ≡ appended (l .working) 0 (keep (claimsOf o) true (candidatesIn candidates)) = f .2 ∙ ap (λ (cs : List OofCandidate). appended (l .working) 0 (keep (claimsOf o) true cs)) m in
       let us : u ≡ appended (l .unclaimed) 0 (keep (claimsOf o) false (candidatesIn candidates)) = f .3 ∙ ap (λ (cs : List OofCandidate). appended (l .unclaimed) 0 (keep (claimsOf o) false cs)) m in
-      rw (f .0) (outcome-is (s ∙ rw (ws, f .1, zero-add, zero-add) refl) refl ws us)
+      rw (f .0) (outcome-is (s ∙ rw (ws, f .1) refl) refl ws us)
 
   pub accepted : (step : Step) (layouts w u : List ℕ) → OpeningCleared o candidates l → outcome step layouts w u ≡ begins
       → outcome step layouts w u ≡ opened o candidates l

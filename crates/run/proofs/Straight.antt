@@ -84,7 +84,7 @@ module _ (o : Opening) (lent : Lent) where
 
   begun-at : (candidates : List ℕ) → begun o candidates lent ≡ proceedingAt (atOpening (claimsOf o) (candidatesIn candidates)) 0
   unfolding begun atOpening laidInto
-  begun-at candidates = refl
+  begun-at candidates = rw (zero-add, zero-add) refl
 
   -- ---- the box at hand
 

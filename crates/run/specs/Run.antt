@@ -18,7 +18,7 @@ use Rattle.records.specs.Records.{recordAt, written}
 use Rattle.tree_record.specs.Candidate.{candidateWidth, candidateOf}
 use Rattle.tree_record.specs.Layout.{layoutWidth, layoutWords}
 use Rattle.style_record.specs.Decode.{styleAt}
-use Rattle.sweep.specs.Sweep.{candidatesIn, moved, claimed, others, appended}
+use Rattle.sweep.specs.Sweep.{candidatesIn, moved, sweptInto}
 use Rattle.sweep.specs.declared.Filled.{Filled}
 use Rattle.sweep.specs.declared.Shift.the-variants.{By}
 use Rattle.oof_resolve.specs.declared.ContainingBlock.{ContainingBlock}
@@ -123,17 +123,14 @@ closed lent =
 -- the candidates swept into both lists, then the first box; without one, a finish with zeros
 unfoldable pub begun : Opening → List ℕ → Lent → Outcome
 begun o candidates lent =
-    let cs = candidatesIn candidates in
-    let inside = claimed (claimsOf o) cs in
-    let outside = others (claimsOf o) cs in
-    let working = appended (lent .working) 0 inside in
+    let after = sweptInto (claimsOf o) (candidatesIn candidates) (lent .working) (lent .unclaimed) noneFilled in
     let run : Opened = record { container = containerOf o; claims = claimsOf o; extents = extentsOf lent } in
-    let counts : Counts = record { filled = record { working = length inside; unclaimed = length outside }; begun = 0; answered = 0 } in
+    let counts : Counts = record { filled = after .filled; begun = 0; answered = 0 } in
     record {
-      step = proceeding (lent .styles) working run counts zeroRect;
+      step = proceeding (lent .styles) (after .working) run counts zeroRect;
       layouts = lent .layouts;
-      working = working;
-      unclaimed = appended (lent .unclaimed) 0 outside;
+      working = after .working;
+      unclaimed = after .unclaimed;
     }
 
 abbrev pub openedBy : Verdict → Opening → List ℕ → Lent → Outcome
@@ -181,21 +178,13 @@ laidOut s overflow surfaced lent =
     let box = boxAtHand (lent .working) (s .counts) in
     let placed = layoutAfter (run .container) (styleAt (lent .styles) (box .node)) box (s .replies) overflow in
     let cs = map (moved (By (placed .layout .location))) (candidatesIn surfaced) in
-    let inside = claimed (run .claims) cs in
-    let outside = others (run .claims) cs in
-    let filled = s .counts .filled in
-    let working = appended (lent .working) (filled .working) inside in
-    let counts : Counts =
+    let after = sweptInto (run .claims) cs (lent .working) (lent .unclaimed) (s .counts .filled) in
+    let counts : Counts = record { filled = after .filled; begun = s .counts .begun; answered = s .counts .answered + 1 } in
     record {
-      filled = record { working = filled .working + length inside; unclaimed = filled .unclaimed + length outside };
-      begun = s .counts .begun;
-      answered = s .counts .answered + 1;
-    } in
-    record {
-      step = proceeding (lent .styles) working run counts (unionOf (s .overflow) (placed .contribution));
+      step = proceeding (lent .styles) (after .working) run counts (unionOf (s .overflow) (placed .contribution));
       layouts = written (lent .layouts) (layoutWidth * box .node) (layoutWords (placed .layout));
-      working = working;
-      unclaimed = appended (lent .unclaimed) (filled .unclaimed) outside;
+      working = after .working;
+      unclaimed = after .unclaimed;
     }
 
 -- a refused reply returns the state as it came

@@ -63,6 +63,23 @@ listWords (c ∷ cs) = candidateWords c ++ listWords cs
 abbrev pub appended : List ℕ → ℕ → List OofCandidate → List ℕ
 appended ws held cs = written ws (candidateWidth * held) (listWords cs)
 
+-- both lists after a sweep that has room, and how many records each then holds
+pub record Lists : Type 0 where
+  pub filled : Filled
+  pub working : List ℕ
+  pub unclaimed : List ℕ
+
+-- the claimed candidates behind the working records, the others behind the unclaimed ones
+abbrev pub sweptInto : ContainingBlockClaims → List OofCandidate → List ℕ → List ℕ → Filled → Lists
+sweptInto by cs working unclaimed filled =
+    let inside = claimed by cs in
+    let outside = others by cs in
+    record {
+      filled = record { working = filled .working + length inside; unclaimed = filled .unclaimed + length outside };
+      working = appended working (filled .working) inside;
+      unclaimed = appended unclaimed (filled .unclaimed) outside;
+    }
+
 -- what a sweep answers, and both lists after it
 pub record Outcome : Type 0 where
   pub answer : Swept
@@ -72,16 +89,11 @@ pub record Outcome : Type 0 where
 -- room is decided before a word is written
 unfoldable pub swept : ContainingBlockClaims → List OofCandidate → List ℕ → List ℕ → Filled → Outcome
 swept by cs working unclaimed filled =
-    let inside = claimed by cs in
-    let outside = others by cs in
+    let after = sweptInto by cs working unclaimed filled in
     cond
-    (room candidateWidth (length working) (filled .working) (length inside)
-    && room candidateWidth (length unclaimed) (filled .unclaimed) (length outside))
-    (record {
-      answer = Into (record { working = filled .working + length inside; unclaimed = filled .unclaimed + length outside });
-      working = appended working (filled .working) inside;
-      unclaimed = appended unclaimed (filled .unclaimed) outside;
-    })
+    (room candidateWidth (length working) (filled .working) (length (claimed by cs))
+    && room candidateWidth (length unclaimed) (filled .unclaimed) (length (others by cs)))
+    (record { answer = Into (after .filled); working = after .working; unclaimed = after .unclaimed })
     (record { answer = Refused ListFull; working = working; unclaimed = unclaimed })
 
 -- an answer and two lists are those of an outcome
