@@ -1,4 +1,5 @@
--- Demand 3. Take a run and its mirror image, and give both one list of replies, refused ones included. After the opening and after each
+-- The law of mirrored runs, of the definition. Demand 3 itself, of the entries, is `MirrorImage` of demands/specs/Demands.antt, and is proved from
+-- this. Take a run and its mirror image, and give both one list of replies, refused ones included. After the opening and after each
 -- reply, both have given the same answer, and each box laid out by then stands mirrored. `proofs/Mirror.antt` proves it.
 -- The list is `soFar ++ later`: `soFar` is empty after the opening, and any beginning of the list after a reply.
 -- Left-to-right isn't asked: the theorem holds for a run of either direction. Assumes nothing.

@@ -20,6 +20,7 @@ use Rattle.style.specs.declared.Contain.{Contain}
 use Rattle.style.specs.declared.OverflowPoint.{OverflowPoint}
 use Rattle.style.specs.declared.Style.{Style}
 use Rattle.tree.specs.declared.layout.OofCandidate.{OofCandidate}
+use Rattle.tree_record.specs.Candidate.{floatAt}
 use Rattle.tree_record.specs.Laws.{FitsSize, FitsRect}
 use Rattle.common.specs.ScrollableOverflow.{propagates, reach, placedAt, contribution}
 use Rattle.oof_resolve.specs.declared.ContainingBlock.{ContainingBlock}
@@ -38,7 +39,7 @@ use Rattle.run.specs.Run.{takenIn, takenBy}
 use Rattle.run.specs.declared.Progress.{Progress}
 use Rattle.run.specs.declared.Progress.the-variants.{Finished, Asking}
 use Rattle.run.specs.declared.State.{State}
-use Rattle.oof_c.specs.StateWords.{at, floatAt, keywordOf, keywordWidth, keywordHeight, fillOf, fillSize, repliesOf, overflowIn, containerOf, openedOf, stateOf}
+use Rattle.oof_c.specs.StateWords.{at, keywordOf, keywordWidth, keywordHeight, fillOf, fillSize, repliesOf, overflowIn, containerOf, openedOf, stateOf}
 use Rattle.oof_c.specs.Laws.{Floats, FitsReply}
 
 pub zero-fits : T (fits binary32 0f)

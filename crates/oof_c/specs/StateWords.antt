@@ -10,6 +10,7 @@ use Rattle.util.specs.Number.{0f}
 use Rattle.geometry.specs.Geometry.{zeroSize}
 use Rattle.geometry.specs.declared.Rect.{Rect}
 use Rattle.geometry.specs.declared.Size.{Size}
+use Rattle.tree_record.specs.Candidate.{floatAt}
 use Rattle.style.specs.Codes.{directionOf, directionCode, overflowOf, overflowCode, bit0, bit1, bitsCode}
 use Rattle.style.specs.declared.ContainingBlockClaims.{ContainingBlockClaims}
 use Rattle.tree.specs.declared.layout.OofPositioningArea.{OofPositioningArea}
@@ -30,12 +31,9 @@ use Rattle.run.specs.declared.State.{State}
 
 -- ---- words
 
--- word k, as a number and as a float
+-- word k as a number; as a float it is `floatAt` of tree_record/specs/Candidate.antt
 abbrev pub at : List ℕ → ℕ → ℕ
 at w k = getD w k 0
-
-abbrev pub floatAt : List ℕ → ℕ → Float
-floatAt w k = ofBits binary32 (at w k)
 
 -- the word of a float: every NaN is 7FC00000
 abbrev pub floatWord : Float → ℕ

@@ -1,4 +1,4 @@
--- What holds of every run, whatever the host does: statements. `proofs/` proves each, under its name in small letters. Assumes nothing.
+-- What holds of runs; each statement says what the host may do. `proofs/` proves each, under its name in small letters. Assumes nothing.
 use Prim.Native.Nat.{ℕ, _+_, _-_, _*_, _≤_}
 use mathlib.Core.Logic.{_↔_}
 use mathlib.Core.Path.{_≡_}
