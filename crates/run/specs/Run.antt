@@ -179,7 +179,12 @@ laidOut s overflow surfaced lent =
     let placed = layoutAfter (run .container) (styleAt (lent .styles) (box .node)) box (s .replies) overflow in
     let cs = map (moved (By (placed .layout .location))) (candidatesIn surfaced) in
     let after = sweptInto (run .claims) cs (lent .working) (lent .unclaimed) (s .counts .filled) in
-    let counts : Counts = record { filled = after .filled; begun = s .counts .begun; answered = s .counts .answered + 1 } in
+    let counts : Counts =
+    record {
+      filled = after .filled;
+      begun = s .counts .begun;
+      answered = s .counts .answered + 1;
+    } in
     record {
       step = proceeding (lent .styles) (after .working) run counts (unionOf (s .overflow) (placed .contribution));
       layouts = written (lent .layouts) (layoutWidth * box .node) (layoutWords (placed .layout));
