@@ -1,38 +1,37 @@
 -- The laws of `specs/Laws.antt`, by the integers of an axis. Assumes nothing.
 use mathlib.Core.Path.{_≡_, refl, sym, ap, subst, _∙_}
 use mathlib.Core.List.{List, [], _∷_}
-use mathlib.Core.Bool.{Bool, true, false, false≢true, cond, not, _&&_, _||_}
+use mathlib.Core.Bool.{Bool, true, false, cond, not, _&&_}
 use Prim.Native.Nat.{ℕ, _+_, _*_, _≤_, _<_}
 use native.Mathlib.Omega.{arith}
 use lib.Dec.{ltb→lt}
 use lib.Ieee.{Float, lt, le}
-use Rattle.util.specs.Number.{_⊕_, 0f}
-use Rattle.util.specs.Order.{larger, smaller}
+use Rattle.util.specs.Number.{0f}
 use Rattle.util.specs.Maybe.{present, orZero}
 use Rattle.util.specs.declared.math.MaybeF32.{MaybeF32}
 use Rattle.util.specs.declared.math.MaybeF32.the-variants.{None, Some}
 use Rattle.geometry.specs.Geometry.{_to_, span}
 use Rattle.style.specs.declared.alignment.AlignmentSafety.{AlignmentSafety}
-use Rattle.style.specs.declared.alignment.AlignmentSafety.the-variants.{Default, Unsafe, Safe}
+use Rattle.style.specs.declared.alignment.AlignmentSafety.the-variants.{Unsafe, Safe}
 use Rattle.tree.specs.declared.layout.AxisStaticEdge.{AxisStaticEdge}
-use Rattle.tree.specs.declared.layout.AxisStaticEdge.the-variants.{Start, Center, End}
+use Rattle.tree.specs.declared.layout.AxisStaticEdge.the-variants.{Center}
 use Rattle.oof_axis.specs.declared.OofAlignment.{OofAlignment}
 use Rattle.oof_axis.specs.declared.OofAlignment.the-variants as align
 use Rattle.oof_axis.specs.declared.OofAxis.{OofAxis}
-use Rattle.oof_axis.specs.Axis.{block, stretchFit, isNormal, placement}
+use Rattle.oof_axis.specs.Axis.{block, stretchFit, placement}
 use Rattle.exact.specs.Integer.{N, zeroN, addN, EqN}
-use Rattle.exact.proofs.Integers.{Multiple, subN, halfN, maxN, minN, ltN, leN, add-mult, sub-mult, even-of, half-twice}
+use Rattle.exact.proofs.Integers.{Multiple, subN, ltN, leN, add-mult, sub-mult, even-of, half-twice}
 use mathlib.Core.Logic.{_⊎_, inl, inr}
 use borrow.Author.Tests.{le-leb}
 use Rattle.exact.specs.Value.{_≐_, Total}
 use Rattle.exact.proofs.Exact.{Exact, sixteenths, widen, eighths, zero-exact}
 use Rattle.exact.proofs.Laws.{one-integer}
-use Rattle.exact.proofs.Sum.{add-exact, sub-exact}
+use Rattle.exact.proofs.Sum.{sub-exact}
 use Rattle.exact.proofs.Compare.{lt-exact, le-exact, same-number, same-integer}
 use Rattle.exact.proofs.Order.{larger-exact, smaller-exact}
 use Rattle.exact.proofs.Quarters.{MaybeExact, units, quarters-exact}
 use Rattle.mirror_axis.specs.Law.{Room}
-use Rattle.mirror_axis.proofs.Model.{LineN, _toN_, spanN, AxisN, Shape, shape, blockN, fills, orZeroN, marginsN, startOf, endOf, alignN, staticN, repairedN, staticPlaceN, stretchFitN, alignOf, limitN, limitedN, selfN, boxN, placeN}
+use Rattle.mirror_axis.proofs.Model.{LineN, _toN_, spanN, AxisN, shape, blockN, fills, orZeroN, marginsN, endOf, alignN, staticN, repairedN, staticPlaceN, stretchFitN, alignOf, limitN, limitedN, selfN, boxN, placeN}
 use Rattle.mirror_axis.proofs.ExactBlock.{LineExact, ExactAxis, block-exact}
 use Rattle.mirror_axis.proofs.ExactMargins.{marginBound, or-zero-exact, span-exact, stretch-exact, margins-exact}
 use Rattle.mirror_axis.proofs.ExactPlace.{box-exact, span-of, place-exact}

@@ -3,8 +3,8 @@
 use mathlib.Core.Path.{_≡_, refl}
 use mathlib.Core.Logic.{_⊎_, inl, inr}
 use mathlib.Core.List.{List, [], _∷_}
-use mathlib.Core.Bool.{Bool, true, false, false≢true, true≢false, cond, not, _&&_, _||_}
-use Prim.Native.Nat.{ℕ, _+_, _*_, _≤_, _<_}
+use mathlib.Core.Bool.{Bool, true, false, false≢true, true≢false, cond, not, _&&_}
+use Prim.Native.Nat.{ℕ, _+_, _≤_, _<_}
 use native.Mathlib.Omega.{arith}
 use borrow.Author.Tests.{ltb-true, ltb-false, leb-true, leb-false, le-leb, lt-leb, le-ltb, lt-ltb}
 use lib.Ieee.{Float}
@@ -17,7 +17,7 @@ use Rattle.exact.specs.Integer.{N, zeroN, addN, EqN}
 use Rattle.exact.specs.Value.{Total}
 use Rattle.exact.proofs.Integers.{Multiple, subN, dblN, halfN, maxN, minN, magN, ltN, leN, half-twice}
 use Rattle.exact.proofs.Exact.{Exact, sixteenths}
-use Rattle.mirror_axis.proofs.Model.{LineN, _toN_, spanN, Shape, AxisN, startOf, endOf, alignN, centeredN, staticN, closedN, repairedN, limitN, keptN, limitedN, selfN}
+use Rattle.mirror_axis.proofs.Model.{LineN, _toN_, spanN, Shape, startOf, endOf, alignN, centeredN, staticN, closedN, repairedN, limitN, limitedN, selfN}
 use Rattle.axis_laws.specs.Laws.{LeN, _=Σ_, _≤Σ_}
 
 -- ---- sums

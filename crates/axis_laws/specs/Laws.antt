@@ -8,16 +8,15 @@ use mathlib.Core.List.{List, [], _∷_}
 use mathlib.Core.Bool.{true, false, not, _&&_}
 use Prim.Native.Nat.{ℕ, _+_, _≤_}
 use lib.Ieee.{Float, lt, le}
-use Rattle.util.specs.Number.{_⊖_, 0f}
+use Rattle.util.specs.Number.{0f}
 use Rattle.util.specs.Order.{larger, smaller}
 use Rattle.util.specs.Maybe.{present, orZero}
 use Rattle.util.specs.declared.math.MaybeF32.the-variants.{None, Some}
 use Rattle.geometry.specs.Geometry.{_to_, span}
 use Rattle.geometry.specs.declared.Line.{Line}
 use Rattle.style.specs.declared.alignment.AlignmentSafety.{AlignmentSafety}
-use Rattle.style.specs.declared.alignment.AlignmentSafety.the-variants.{Default, Unsafe, Safe}
+use Rattle.style.specs.declared.alignment.AlignmentSafety.the-variants.{Unsafe, Safe}
 use Rattle.tree.specs.declared.layout.AxisStaticEdge.the-variants.{Center}
-use Rattle.oof_axis.specs.declared.OofAlignment.{OofAlignment}
 use Rattle.oof_axis.specs.declared.OofAlignment.the-variants as align
 use Rattle.oof_axis.specs.declared.OofAxis.{OofAxis}
 use Rattle.oof_axis.specs.Axis.{block, stretchFit, placement}

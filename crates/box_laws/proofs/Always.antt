@@ -1,5 +1,4 @@
 -- What holds of a dialogue whatever the host replies: one dialogue after another, and the seven steps. Assumes nothing.
-use mathlib.Core.Path.{_≡_, refl}
 use Prim.Native.Nat.{ℕ}
 use Rattle.geometry.specs.declared.Size.{Size}
 use Rattle.geometry.specs.declared.MaybeSize.{MaybeSize}
@@ -12,7 +11,7 @@ use Rattle.oof_place.specs.Placing.{layoutOf, boxLayout}
 use Rattle.oof_box.specs.Talk.{Talk, done, ask, Laid, _>>=_}
 use Rattle.oof_box.specs.Box.{Placed, placed, stretched, finalSize, measured, keywordSizes, sizeKeywords}
 use Rattle.oof_box.specs.declared.sizing.Stretched.{Stretched}
-use Rattle.box_laws.specs.Laws.{Always, now, later, SizeAlways, Alike, ended, asking}
+use Rattle.box_laws.specs.Laws.{Always, now, later, SizeAlways, Alike, asking}
 
 pub always-bind : {A B : Type 0} (P : A → Type 0) (Q : B → Type 0) (m : Talk A) (next : A → Talk B) → Always P m → ((a : A) → P a → Always Q (next a)) → Always Q (m >>= next)
 unfolding _>>=_

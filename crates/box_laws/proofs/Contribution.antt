@@ -8,7 +8,6 @@ use native.Mathlib.Omega.{arith}
 use lib.Dec.{lit<, lit≤}
 use lib.Ieee.{Float, lt, le}
 use Rattle.util.specs.Number.{_⊕_, _⊖_, 0f}
-use Rattle.util.specs.Order.{larger, smaller}
 use Rattle.geometry.specs.Geometry.{_to_, zeroRect, lineX, lineY, rectOf}
 use Rattle.geometry.specs.declared.Line.{Line}
 use Rattle.geometry.specs.declared.Point.{Point}
@@ -23,7 +22,6 @@ use Rattle.style.specs.declared.Overflow.the-variants.{Visible}
 use Rattle.style.specs.declared.OverflowPoint.{OverflowPoint}
 use Rattle.style.specs.declared.Style.{Style}
 use Rattle.tree.specs.declared.layout.Layout.{Layout}
-use Rattle.tree.specs.declared.layout.OofCandidate.{OofCandidate}
 use Rattle.oof_resolve.specs.Resolved.{resolvedBox}
 use Rattle.oof_resolve.specs.declared.ContainingBlock.{ContainingBlock}
 use Rattle.common.specs.ScrollableOverflow.{propagates, reach, placedAt, contribution}

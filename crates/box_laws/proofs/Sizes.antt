@@ -1,13 +1,13 @@
 -- The laws of a box's size. Assumes nothing.
-use mathlib.Core.Path.{_≡_, refl, sym, ap, subst, _∙_}
+use mathlib.Core.Path.{_≡_, refl, ap, subst, _∙_}
 use mathlib.Core.Logic.{_⊎_, inl, inr}
-use mathlib.Core.Bool.{Bool, true, false, false≢true, cond, not, _&&_, _||_}
+use mathlib.Core.Bool.{Bool, true, false, false≢true, cond, not, _&&_}
 use Prim.Native.Nat.{ℕ}
 use lib.Ieee.{Float, lt}
 use Rattle.util.specs.Order.{larger}
 use Rattle.util.specs.Number.{_⊕_}
 use Rattle.util.specs.Maybe.{present, orElse, unwrapOr, map, mapAdd, mapLarger, mapClamped, clamped}
-use Rattle.util.specs.Laws.{AtOrAbove, AtOrBelow, notAbove}
+use Rattle.util.specs.Laws.{AtOrAbove, AtOrBelow}
 use Rattle.util.specs.declared.math.MaybeF32.{MaybeF32}
 use Rattle.util.specs.declared.math.MaybeF32.the-variants.{None, Some}
 use Rattle.util.proofs.Laws.{larger-bounds, larger-is-one, min-wins, max-binds, at-most-is-transitive}
@@ -32,7 +32,7 @@ use Rattle.common.specs.declared.sizing_keyword.SizingKeywordResolution.{Sizing
 use Rattle.common.specs.declared.sizing_keyword.SizingKeywordResolution.the-variants.{NoKeyword, Exact, Measure}
 use Rattle.oof_place.specs.Placing.{layoutOf, boxLayout}
 use Rattle.oof_box.specs.Talk.{Talk, done, ask, _>>=_}
-use Rattle.oof_box.specs.Box.{Placed, placed, isKeyword, widthAs, heightAs, inTurn, byKeywords, keywordStretch, raisedMin, stretched, finalSize, measured, keywordSizes, sizeKeywords, stretchRatio, ignoresRatio, widened, heightened, settled, _by_}
+use Rattle.oof_box.specs.Box.{placed, widthAs, heightAs, inTurn, byKeywords, raisedMin, stretched, finalSize, measured, keywordSizes, sizeKeywords, stretchRatio, ignoresRatio, widened, heightened, settled, _by_}
 use Rattle.oof_box.specs.declared.question.MeasureInput.{MeasureInput}
 use Rattle.oof_box.specs.declared.question.Question.the-variants.{MeasureBoth}
 use Rattle.oof_box.specs.declared.sizing.Stretched.{Stretched}

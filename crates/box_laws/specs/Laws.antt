@@ -4,10 +4,10 @@
 -- which `StandsByItsAxes` leads. `proofs/` proves each, under its name in small letters. Assumes nothing.
 use mathlib.Core.Path.{_≡_}
 use mathlib.Core.Logic.{_⊎_}
-use mathlib.Core.List.{List, [], _∷_}
+use mathlib.Core.List.{[], _∷_}
 use mathlib.Core.Bool.{Bool, true, false, cond, not, _&&_, _||_}
 use Prim.Native.Nat.{ℕ, _≤_}
-use lib.Ieee.{Float, lt, le, isNan}
+use lib.Ieee.{Float, lt, le}
 use lib.Ieee.Exact.{HasValue}
 use Rattle.util.specs.Number.{_⊕_, _⊖_, _⊗_, 0f}
 use Rattle.util.specs.Order.{larger}

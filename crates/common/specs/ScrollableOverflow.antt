@@ -1,6 +1,6 @@
 -- What a box adds to its parent's scrollable overflow (css-overflow-3 #scrollable; document 01, "Contribution";
 -- compute/common/scrollable_overflow.rs). Assumes nothing.
-use mathlib.Core.Bool.{Bool, true, false, cond, not, _&&_, _||_}
+use mathlib.Core.Bool.{Bool, cond, not, _&&_, _||_}
 use lib.Ieee.{Float, le}
 use Rattle.util.specs.Number.{_⊕_, 0f}
 use Rattle.util.specs.Order.{larger, smaller}

@@ -11,7 +11,6 @@ use Rattle.geometry.specs.declared.MaybeSize.{MaybeSize}
 use Rattle.style.specs.Resolve.{resolved}
 use Rattle.style.specs.declared.compact_length.CompactLength.{CompactLength}
 use Rattle.style.specs.declared.compact_length.LengthSize.{LengthSize}
-use Rattle.style.specs.declared.available_space.AvailableSpace.{AvailableSpace}
 use Rattle.style.specs.declared.available_space.AvailableSpace.the-variants.{Definite, MinContent, MaxContent}
 use Rattle.style.specs.declared.resolve.Field.the-variants as field
 use Rattle.style.specs.declared.resolve.SizingKeyword.{SizingKeyword}

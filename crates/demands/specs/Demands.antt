@@ -4,7 +4,7 @@
 -- What document 01 leaves free is fixed by the definition all the same: what is asked and written where words were rewritten between calls or
 -- a state was forged (oof_box/specs/Cut.antt), and the numbers of a refused opening's state, which are zeros.
 -- Assumes nothing.
-use Prim.Native.Nat.{ℕ, _*_, _-_, _≤_}
+use Prim.Native.Nat.{ℕ, _*_, _≤_}
 use mathlib.Core.Logic.{_↔_}
 use mathlib.Core.Path.{_≡_}
 use mathlib.Core.Bool.{Bool, false}
@@ -25,7 +25,6 @@ use Rattle.records.specs.Records.{written}
 use Rattle.tree_record.specs.Layout.{layoutWidth, layoutWords}
 use Rattle.oof_box.specs.declared.question.LayoutInput.{LayoutInput}
 use Rattle.oof_box.specs.declared.question.Question.the-variants.{LayOut}
-use Rattle.oof_box.specs.declared.question.Replies.{Replies}
 use Rattle.oof_box.specs.declared.question.Reply.{Reply}
 use Rattle.oof_box.specs.declared.question.Reply.the-variants.{LaidOut}
 use Rattle.run.specs.declared.Opening.{Opening}

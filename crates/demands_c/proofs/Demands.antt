@@ -33,8 +33,8 @@ use Rattle.run.proofs.Straight.{straight-run}
 use Rattle.run.proofs.Ways.{OpeningWay, begins, opening-way}
 use Rattle.oof_c.specs.StateWords.{at, stateOf, stateWords, countsOf, progressOf, progressCode}
 use Rattle.oof_c.specs.AnswerWords.{questionWords, measureWords, layOutWords, finishWords}
-use Rattle.oof_c.specs.Entry.{Words, words, Returned, lentIn, resultOf, answerLeft, stateLeft, inWords, openedInWords, repliedInWords}
-use Rattle.oof_c.specs.Laws.{FitsReply, Keeps}
+use Rattle.oof_c.specs.Entry.{Words, words, Returned, lentIn, resultOf, answerLeft, inWords, openedInWords, repliedInWords}
+use Rattle.oof_c.specs.Laws.{FitsReply}
 use Rattle.oof_c.proofs.Laws.{accepted-is-zero, refused-is-not, refused-opening-closes, refused-reply-writes-nothing}
 use Rattle.oof_c.proofs.Kept.{opening-is-kept, reply-is-kept}
 use Rattle.demands_c.specs.Calls.{Opens, RepliesTo, FitsOpening, askedFor, AnyCalls, Takes, Lends, Run}

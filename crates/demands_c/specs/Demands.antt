@@ -6,12 +6,11 @@ use mathlib.Core.Logic.{_≢_, _↔_}
 use mathlib.Core.Path.{_≡_}
 use lib.ListN.{length}
 use Rattle.oof_box.specs.declared.question.Reply.{Reply}
-use Rattle.run.specs.Call.{Lent, Outcome, outcome}
+use Rattle.run.specs.Call.{Lent, outcome}
 use Rattle.run.specs.Conditions.{FirstIs, NoneHolds, openingTests, replyTests}
 use Rattle.run.specs.Run.{closed}
 use Rattle.run.specs.Straight.{Course}
 use Rattle.run.specs.Theorems.{Turn, Stands, saidAfter, heededIn, courseOf}
-use Rattle.run.specs.declared.Answer.{Answer}
 use Rattle.run.specs.declared.Opening.{Opening}
 use Rattle.oof_c.specs.StateWords.{at, stateOf, stateWords}
 use Rattle.oof_c.specs.Entry.{Words, words, Returned, lentIn, answerLeft}

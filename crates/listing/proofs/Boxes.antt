@@ -3,19 +3,17 @@ use Prim.Native.Nat.{ℕ, zero, suc, _+_, _-_, _*_, _<_, _≤_}
 use native.Mathlib.Omega.{arith}
 use native.Mathlib.Nat.{add-zero}
 use mathlib.Core.Path.{_≡_, refl, sym, ap, _∙_}
-use mathlib.Core.List.{List, [], _∷_, _++_, map}
+use mathlib.Core.List.{List, [], _∷_, _++_}
 use lib.ListN.{length, getD, take, drop, length-append}
 use lib.Seq.{sets, drop-drop, getD-take, getD-drop}
-use lib.Ieee.{Float, ofBits, binary32}
+use lib.Ieee.{ofBits, binary32}
 use lib.Dec.{lit<}
-use Rattle.column.specs.declared.list.Row.{Row}
 use Rattle.geometry.specs.declared.Rect.{Rect}
 use Rattle.column.specs.Listing.{ROW, OVERFLOW, headerText, rowText, rowsText, overflowText, listText}
 use Rattle.column.proofs.Stores.{part-then}
 use Rattle.column.proofs.Laws.{header-bytes, row-bytes, rows-bytes, list-bytes}
 use Rattle.records.specs.Records.{recordAt, records}
 use Rattle.records.proofs.Laws.{word-of-record}
-use Rattle.tree.specs.declared.layout.OofCandidate.{OofCandidate}
 use Rattle.tree_record.specs.Candidate.{candidateWidth, candidateOf}
 use Rattle.tree_record.specs.Layout.{layoutWidth, rectOf, layoutOf}
 use Rattle.sweep.specs.Sweep.{firstCandidates}

@@ -3,7 +3,7 @@ use Prim.Native.Nat.{ℕ, _-_}
 use native.Mathlib.Omega.{arith}
 use mathlib.Core.Logic.{_↔_, Iff·trans}
 use mathlib.Core.Path.{_≡_, refl, sym, ap, _∙_}
-use mathlib.Core.Bool.{Bool, true, false}
+use mathlib.Core.Bool.{true, false}
 use mathlib.Core.List.{List}
 use lib.ListN.{getD}
 use Rattle.util.proofs.Floats.{no}
@@ -22,7 +22,7 @@ use Rattle.run.specs.Refusals.{Verdict, accepted, refused}
 use Rattle.run.specs.Conditions.{places}
 use Rattle.run.proofs.Decides.{Decides, opposite, Says, then, no-more, isAccepted, refusalBy, refused-first, accepted-none}
 use Rattle.run.proofs.Conditions.{area-decided, style-decided, candidate-decided}
-use Rattle.listing.specs.Listing.{openingOf, printed}
+use Rattle.listing.specs.Listing.{openingOf}
 use Rattle.listing.specs.Laws.{verdictOf, Shows, list, line, programTests, RefusedExactly, IsList, ListedExactly}
 use Rattle.listing.proofs.Verdicts.{list-or-refusal}
 

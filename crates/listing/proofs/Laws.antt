@@ -1,29 +1,27 @@
 -- Proofs of the statements of `specs/Laws.antt`. Assumes nothing.
-use Prim.Native.Nat.{ℕ, _+_, _*_, _/_, _<_, _≤_}
+use Prim.Native.Nat.{ℕ, _<_, _≤_}
 use native.Mathlib.Omega.{arith}
-use mathlib.Core.Logic.{_⊎_, inl, inr, ⊎-elim}
 use mathlib.Core.Path.{_≡_, refl, sym, ap, _∙_}
 use mathlib.Core.Bool.{Bool, true, false, cond}
-use mathlib.Core.List.{List, []}
+use mathlib.Core.List.{List}
 use lib.Dec.{leb, lit≤}
-use lib.ListN.{length, take, replicate}
+use lib.ListN.{length, take}
 use lib.Seq.{length-sets, length-take-le, take-all}
 use borrow.Author.Tests.{leb-true, leb-false}
 use Rattle.refusal.specs.declared.Refusal.the-variants.{BadScreenLine}
 use Rattle.refusal.specs.Refusal.{numberOf}
-use Rattle.column.specs.Listing.{ROW, OVERFLOW, REFUSAL, listText, refusalText}
+use Rattle.column.specs.Listing.{refusalText}
 use Rattle.column.proofs.Laws.{list-bytes, refusal-bytes}
 use Rattle.screen.specs.Format.{MAX-CANDIDATES}
 use Rattle.screen.specs.Screen.{isScreen, itemCount, headerOf, stylesOf, repliesOf, candidatesOf}
 use Rattle.screen.proofs.Laws.{screen-size}
-use Rattle.tree_record.specs.Candidate.{candidateWidth}
 use Rattle.run.specs.declared.Opening.{Opening}
 use Rattle.run.specs.declared.Answer.{Answer}
 use Rattle.run.specs.declared.Answer.the-variants.{Ask, Finish, Refused}
-use Rattle.run.specs.Call.{Lent, Outcome}
+use Rattle.run.specs.Call.{Outcome}
 use Rattle.script.specs.Script.{playedOut}
-use Rattle.listing.specs.Rows.{rowsAt, Prints}
-use Rattle.listing.specs.Listing.{LIST-BYTES, listWords, listBy, listOf, listFrom, lentFor, openingOf, printed}
+use Rattle.listing.specs.Rows.{Prints}
+use Rattle.listing.specs.Listing.{LIST-BYTES, listBy, listOf, listFrom, lentFor, openingOf, printed}
 use Rattle.listing.specs.Laws.{PrintedFits, LongIsRefused, CutIsEnough}
 use Rattle.listing.proofs.Boxes.{rows-count}
 use Rattle.listing.proofs.Room.{room-kept}

@@ -1,7 +1,7 @@
 -- What a run's answer prints, by cases. Assumes nothing.
 use Prim.Native.Nat.{ℕ, _+_, _*_, _/_, _≤_}
 use native.Mathlib.Omega.{arith}
-use mathlib.Core.Path.{_≡_, refl, sym, ap, _∙_}
+use mathlib.Core.Path.{_≡_, refl}
 use mathlib.Core.List.{List}
 use lib.ListN.{length}
 use Rattle.refusal.specs.declared.Refusal.{Refusal}

@@ -1,10 +1,9 @@
 -- The claimed records of a scripted run fit its working list: nothing is surfaced, so they are those of the opening. Assumes nothing.
-use Prim.Native.Nat.{ℕ, zero, suc, _+_, _*_, _/_, _≤_}
+use Prim.Native.Nat.{ℕ, zero, suc, _*_, _/_, _≤_}
 use native.Mathlib.Omega.{arith}
 use native.Mathlib.Nat.{add-zero}
-use mathlib.Core.Path.{_≡_, refl, sym, ap, _∙_, subst}
-use mathlib.Core.Bool.{true}
-use mathlib.Core.List.{List, [], map}
+use mathlib.Core.Path.{_≡_, refl, sym, _∙_, subst}
+use mathlib.Core.List.{List, []}
 use lib.ListN.{length}
 use Rattle.geometry.specs.declared.Rect.{Rect}
 use Rattle.tree_record.specs.Candidate.{candidateWidth}

@@ -1,27 +1,23 @@
 -- What is printed, by the tests in their order. A screen's slices are always of the right lengths and its lists have room, so the
 -- opening's tests 2 and 5 pass. Assumes nothing.
-use Prim.Native.Nat.{ℕ, zero, suc, _+_, _*_, _/_, _%_, _≤_}
+use Prim.Native.Nat.{ℕ, zero, suc, _*_, _/_, _%_, _≤_}
 use native.Mathlib.Omega.{arith}
 use native.Mathlib.Nat.{zero-add}
-use mathlib.Core.Path.{_≡_, refl, sym, ap, _∙_, subst}
-use mathlib.Core.Bool.{Bool, true, false, cond, not, _||_}
-use mathlib.Core.List.{List, [], _∷_, map}
-use lib.Dec.{eqb, leb, ltb}
+use mathlib.Core.Path.{_≡_, refl, ap, _∙_}
+use mathlib.Core.Bool.{Bool, true, false, cond}
+use mathlib.Core.List.{List, [], _∷_}
 use lib.ListN.{length, drop, replicate, length-replicate}
 use borrow.Author.Tests.{le-leb, le-ltb, eq-eqb}
 use Rattle.util.proofs.Floats.{no}
 use Rattle.refusal.specs.declared.Refusal.{Refusal}
-use Rattle.refusal.specs.declared.Refusal.the-variants.{BadArea, BadStyle, BadCandidate, BadScreenLine}
-use Rattle.refusal.specs.Refusal.{numberOf}
-use Rattle.column.specs.Listing.{listText, refusalText}
-use Rattle.screen.specs.Format.{MAX-CANDIDATES}
+use Rattle.refusal.specs.declared.Refusal.the-variants.{BadScreenLine}
 use Rattle.screen.specs.Screen.{isScreen, itemCount, headerOf, stylesOf, repliesOf, candidatesOf}
 use Rattle.screen.proofs.Laws.{screen-size, screen-words}
 use Rattle.style.specs.declared.ContainingBlockClaims.{ContainingBlockClaims}
 use Rattle.style_record.specs.Record.{styleWords, items}
 use Rattle.tree.specs.declared.layout.OofCandidate.{OofCandidate}
 use Rattle.records.specs.Records.{records, room}
-use Rattle.tree_record.specs.Candidate.{candidateWidth, candidateOf}
+use Rattle.tree_record.specs.Candidate.{candidateWidth}
 use Rattle.tree_record.specs.Layout.{layoutWidth}
 use Rattle.sweep.specs.Sweep.{side, firstCandidates, candidatesIn, keep}
 use Rattle.run.specs.declared.Opening.{Opening}
@@ -30,8 +26,8 @@ use Rattle.run.specs.declared.Counts.{Counts}
 use Rattle.run.specs.declared.Opened.{Opened}
 use Rattle.run.specs.declared.Answer.{Answer}
 use Rattle.run.specs.declared.Answer.the-variants.{Ask, Finish, Refused}
-use Rattle.run.specs.Call.{Lent, Outcome}
-use Rattle.run.specs.Refusals.{Verdict, accepted, refused, _when_else_, ragged, badArea, badTable, badList, badSlices, badStyle, badCandidates, listFull}
+use Rattle.run.specs.Call.{Outcome}
+use Rattle.run.specs.Refusals.{Verdict, accepted, refused, _when_else_, ragged, badTable, badList, badSlices, listFull}
 use Rattle.run.specs.Run.{asking, finishing, proceeding, claimsOf, noneFilled, openingVerdict, begun, opened}
 use Rattle.run.specs.Theorems.{isRefused}
 use Rattle.run.proofs.Ways.{NextWay, asks, ends, next-way}

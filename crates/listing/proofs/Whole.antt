@@ -2,16 +2,16 @@
 use Prim.Native.Nat.{ℕ, zero, suc, _+_, _*_, _≤_}
 use native.Mathlib.Omega.{arith}
 use native.Mathlib.Nat.{zero-add, le-of-suc-le-suc, mul-le-mul-right}
-use mathlib.Core.Path.{_≡_, refl, sym, ap, _∙_, subst}
-use mathlib.Core.Bool.{true, false, cond}
-use mathlib.Core.List.{List, [], _∷_, _++_, append-nil}
+use mathlib.Core.Path.{_≡_, refl, ap, _∙_, subst}
+use mathlib.Core.Bool.{false}
+use mathlib.Core.List.{List, _∷_, _++_, append-nil}
 use lib.ListN.{length, take, drop, replicate, length-replicate, drop-of-length-le}
-use lib.Seq.{sets, sets-eq, take-at, length-sets}
+use lib.Seq.{sets, sets-eq, take-at}
 use Rattle.refusal.specs.Refusal.{numberOf}
 use Rattle.refusal.specs.declared.Refusal.the-variants.{BadScreenLine}
 use Rattle.column.specs.Listing.{refusalText}
 use Rattle.screen.specs.Format.{firstFields, MAX-ITEMS, MAX-CANDIDATES}
-use Rattle.screen.specs.Screen.{isScreen, itemCount, headerOf, stylesOf, repliesOf, candidatesOf, written}
+use Rattle.screen.specs.Screen.{isScreen, headerOf, stylesOf, repliesOf, candidatesOf, written}
 use Rattle.screen.proofs.Lines.{words-length}
 use Rattle.screen.proofs.Laws.{screen-words}
 use Rattle.screen.proofs.Whole.{Told}

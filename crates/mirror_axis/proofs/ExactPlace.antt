@@ -1,6 +1,6 @@
 -- Where a box stands in an axis of whole quarter pixels is the integer place, in sixteenths, bounded by 10 L + 6 A + S. Assumes nothing.
 use mathlib.Core.Path.{_≡_, refl, ap}
-use mathlib.Core.Bool.{Bool, true, false, not, _&&_, _||_, cond}
+use mathlib.Core.Bool.{Bool, true, false, _&&_, _||_, cond}
 use Prim.Native.Nat.{ℕ, _+_, _*_, _<_}
 use native.Mathlib.Omega.{arith}
 use lib.Ieee.{Float, inf}
@@ -13,7 +13,7 @@ use Rattle.geometry.specs.Geometry.{_to_, span}
 use Rattle.geometry.specs.declared.Line.{Line}
 use Rattle.style.specs.declared.alignment.AlignmentSafety.{AlignmentSafety}
 use Rattle.style.specs.declared.alignment.AlignmentSafety.the-variants.{Default, Unsafe, Safe}
-use Rattle.tree.specs.Static.{startEdge, endEdge}
+use Rattle.tree.specs.Static.{startEdge}
 use Rattle.tree.specs.declared.layout.AxisStaticEdge.{AxisStaticEdge}
 use Rattle.tree.specs.declared.layout.AxisStaticEdge.the-variants.{Start, Center, End}
 use Rattle.oof_axis.specs.declared.OofAlignment.{OofAlignment}

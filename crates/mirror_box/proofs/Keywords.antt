@@ -24,7 +24,7 @@ use Rattle.common.specs.declared.sizing_keyword.SizingKeywordResolution.the-var
 use Rattle.common.specs.declared.sizing_keyword.SizingKeywords.{SizingKeywords}
 use Rattle.oof_axis.specs.declared.OofAxis.{OofAxis}
 use Rattle.oof_resolve.specs.declared.ResolvedBox.{ResolvedBox}
-use Rattle.oof_box.specs.Box.{_by_, keywordStretch, sizeKeywords, isKeyword, settled}
+use Rattle.oof_box.specs.Box.{keywordStretch, sizeKeywords, isKeyword, settled}
 use Rattle.oof_box.specs.Cut.{measuredWidth, sideBy, knownBy}
 use Rattle.oof_box.specs.declared.question.KeywordReply.{KeywordReply}
 use Rattle.oof_box.specs.declared.question.KeywordReply.the-variants as reply

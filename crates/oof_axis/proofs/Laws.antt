@@ -2,7 +2,7 @@
 use mathlib.Core.Path.{_≡_, refl, subst}
 use mathlib.Core.Bool.{Bool, true, false, false≢true, cond, _&&_, _||_}
 use lib.Ieee.{Float, inf, lt, le, isNan, ofBits}
-use Rattle.util.specs.Number.{_⊕_, _⊖_, _⊘_, 0f, 2f}
+use Rattle.util.specs.Number.{_⊕_, _⊖_, 0f}
 use Rattle.util.specs.Order.{before, larger, smaller}
 use Rattle.util.specs.Maybe.{present, unwrapOr, orZero}
 use Rattle.util.specs.declared.math.MaybeF32.{MaybeF32}
@@ -20,7 +20,7 @@ use Rattle.oof_axis.specs.declared.OofAlignment.{OofAlignment}
 use Rattle.oof_axis.specs.declared.OofAlignment.the-variants as align
 use Rattle.oof_axis.specs.declared.OofAxis.{OofAxis}
 use Rattle.oof_axis.specs.Axis.{alignIn, staticBlock, insetBlock, startIsWeaker, repaired, block, bothInsets, halves, filledMargins, margins, isNormal, alignEdge, limit, keptWithin, selfAligned, staticAligned, positionIn, position, placement, stretching, stretches, stretchFit}
-use Rattle.oof_axis.specs.Laws.{NoInset, TwoInsets, Aligned, marginBox, StartInsetHeld, EndInsetHeld, StartInsetBlock, EndInsetBlock, BlockIs, BlockBetweenInsets, BlockFromStaticStart, BlockToStaticEnd, BlockInOrder, GivenMarginStays, AutoMarginsAreZero, AutoMarginsAreEqual, NegativeSpaceGoesToTheEnd, LoneAutoMarginTakesTheRest, AutoMarginBeginsWithBlock, Overflows, OverflowIsReachable, AtStart, AtEnd, AtCenter, AsTold, FitsAsTold, UnsafeAsTold, NormalAtStart, SafeOverflowAtStart, StaticAsTold, StaticEdgeHeld, StaticSafeAtStart, stretchesAs, StretchesBetweenInsets, StretchFitIsASize, withFallback, FallbackUnread}
+use Rattle.oof_axis.specs.Laws.{NoInset, TwoInsets, Aligned, marginBox, StartInsetHeld, EndInsetHeld, StartInsetBlock, EndInsetBlock, BlockBetweenInsets, BlockFromStaticStart, BlockToStaticEnd, BlockInOrder, GivenMarginStays, AutoMarginsAreZero, AutoMarginsAreEqual, NegativeSpaceGoesToTheEnd, LoneAutoMarginTakesTheRest, AutoMarginBeginsWithBlock, OverflowIsReachable, AtStart, AtEnd, AsTold, FitsAsTold, UnsafeAsTold, NormalAtStart, SafeOverflowAtStart, StaticAsTold, StaticEdgeHeld, StaticSafeAtStart, stretchesAs, StretchesBetweenInsets, StretchFitIsASize, withFallback, FallbackUnread}
 
 -- ---- insets
 

@@ -1,6 +1,6 @@
 -- One axis of a box that the Rust laid out, in words, and whether the definition agrees. Assumes nothing.
 use Prim.Native.Nat.{ℕ, zero, suc}
-use mathlib.Core.Bool.{Bool, true, false, cond, _&&_, _||_}
+use mathlib.Core.Bool.{Bool, true, cond, _&&_, _||_}
 use mathlib.Core.List.{List, [], _∷_}
 use lib.Dec.{eqb}
 use lib.Ieee.{Float, eq, isNan, ofBits, binary32}
@@ -8,18 +8,13 @@ use Rattle.util.specs.Number.{_⊕_, _⊖_}
 use Rattle.util.specs.declared.math.MaybeF32.{MaybeF32}
 use Rattle.util.specs.declared.math.MaybeF32.the-variants.{None, Some}
 use Rattle.geometry.specs.Geometry.{_to_}
-use Rattle.geometry.specs.declared.Line.{Line}
-use Rattle.geometry.specs.declared.MaybeLine.{MaybeLine}
 use Rattle.style.specs.declared.alignment.AlignItemsKeyword.{AlignItemsKeyword}
 use Rattle.style.specs.declared.alignment.AlignItemsKeyword.the-variants as keyword
 use Rattle.style.specs.Codes.{safetyOf}
 use Rattle.tree.specs.declared.layout.AxisStaticEdge.{AxisStaticEdge}
 use Rattle.tree.specs.declared.layout.AxisStaticEdge.the-variants.{Start, Center, End}
 use Rattle.tree.specs.declared.layout.AxisStaticPosition.{AxisStaticPosition}
-use Rattle.tree.specs.declared.layout.StaticPosition.{StaticPosition}
 use Rattle.geometry.specs.declared.Point.{Point}
-use Rattle.geometry.specs.declared.Rect.{Rect}
-use Rattle.geometry.specs.declared.Size.{Size}
 use Rattle.oof_axis.specs.declared.OofAxis.{OofAxis}
 use Rattle.oof_axis.specs.declared.AxisPlacement.{AxisPlacement}
 use Rattle.oof_axis.specs.Axis.{fromResolved, placement}

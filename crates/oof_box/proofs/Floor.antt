@@ -1,27 +1,20 @@
 -- The law of the final size: never below padding plus border, where that is a number. Assumes nothing.
-use mathlib.Core.Path.{_≡_, refl, sym, _∙_}
-use mathlib.Core.Bool.{Bool, true, false, cond, not, _&&_}
-use lib.Ieee.{Float, isNan, le}
-use Rattle.util.specs.Number.{0f}
+use mathlib.Core.Bool.{Bool, true, false, cond}
+use lib.Ieee.{Float}
 use Rattle.util.specs.Laws.{AtOrAbove}
 use Rattle.util.specs.Order.{larger}
-use Rattle.util.specs.Maybe.{present, orElse, unwrapOr, map, mapLarger, clamped}
+use Rattle.util.specs.Maybe.{orElse, unwrapOr, map, mapLarger, clamped}
 use Rattle.util.specs.declared.math.MaybeF32.{MaybeF32}
 use Rattle.util.specs.declared.math.MaybeF32.the-variants.{None, Some}
 use Rattle.util.proofs.Laws.{at-most-is-transitive, larger-bounds, min-wins}
-use Rattle.geometry.specs.Geometry.{sums, rectSum, definite, firstSize, raisedSize, filledSize, clampedFloats}
+use Rattle.geometry.specs.Geometry.{sums, rectSum, definite, firstSize, raisedSize, clampedFloats}
 use Rattle.geometry.specs.declared.MaybeSize.{MaybeSize}
-use Rattle.geometry.specs.declared.Size.{Size}
 use Rattle.style.specs.declared.Style.{Style}
-use Rattle.style.specs.declared.resolve.Field.the-variants as field
-use Rattle.tree.specs.declared.layout.OofCandidate.{OofCandidate}
-use Rattle.oof_axis.specs.Axis.{stretches}
 use Rattle.oof_place.specs.Placing.{layoutOf, boxLayout}
-use Rattle.oof_resolve.specs.Resolved.{styleSize, minSize, paddingOrBorder, resolvedBox}
-use Rattle.oof_resolve.specs.declared.ContainingBlock.{ContainingBlock}
+use Rattle.oof_resolve.specs.Resolved.{minSize, resolvedBox}
 use Rattle.oof_resolve.specs.declared.ResolvedBox.{ResolvedBox}
-use Rattle.oof_box.specs.Box.{_by_, sizeKeywords, heightened, widened, stretchRatio, raisedMin, stretched, finalSize}
-use Rattle.oof_box.specs.Cut.{knownBy, stretchedBy, measuredSize, sizeBy, layoutAfter}
+use Rattle.oof_box.specs.Box.{sizeKeywords, raisedMin, stretched, finalSize}
+use Rattle.oof_box.specs.Cut.{knownBy, stretchedBy, sizeBy, layoutAfter}
 use Rattle.oof_box.specs.Theorems.{SizeLaw}
 use Rattle.oof_box.specs.declared.sizing.Stretched.{Stretched}
 

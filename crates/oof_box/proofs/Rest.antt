@@ -1,15 +1,12 @@
 -- The rest of a box's dialogue, from the replies kept: what the code leads to, as a dialogue. `begins` says that from no replies it is the
 -- definition of specs/Box.antt. Assumes nothing.
 use mathlib.Core.Path.{_≡_, refl, ap, fun-ext}
-use mathlib.Core.Bool.{Bool, true, false, cond, _||_}
-use lib.Ieee.{Float}
-use Rattle.util.specs.declared.math.MaybeF32.the-variants.{None, Some}
-use Rattle.util.specs.Maybe.{unwrapOr}
-use Rattle.geometry.specs.Geometry.{zeroSize, absentSize, definite, bothPresent}
+use mathlib.Core.Bool.{Bool, true, false, cond}
+use Rattle.util.specs.declared.math.MaybeF32.the-variants.{Some}
+use Rattle.geometry.specs.Geometry.{zeroSize, definite, bothPresent}
 use Rattle.geometry.specs.declared.MaybeSize.{MaybeSize}
 use Rattle.geometry.specs.declared.Size.{Size}
 use Rattle.style.specs.declared.Style.{Style}
-use Rattle.style.specs.declared.available_space.AvailableSpace.the-variants.{Definite}
 use Rattle.tree.specs.declared.layout.OofCandidate.{OofCandidate}
 use Rattle.oof_place.specs.Placing.{boxLayout}
 use Rattle.oof_resolve.specs.Resolved.{resolvedBox}
@@ -19,17 +16,13 @@ use Rattle.common.specs.declared.sizing_keyword.SizingKeywordResolution.{Sizing
 use Rattle.common.specs.declared.sizing_keyword.SizingKeywordResolution.the-variants.{NoKeyword, Exact, Measure}
 use Rattle.common.specs.declared.sizing_keyword.SizingKeywords.{SizingKeywords}
 use Rattle.oof_box.specs.Talk.{Talk, done, ask, _>>=_, layOut, Laid}
-use Rattle.oof_box.specs.Box.{_by_, _and_, keywordStretch, sizeKeywords, settled, bothInput, widthInput, heightInput, widthAs, heightAs, inTurn, byKeywords, keywordSizes, stretched, finalSize, measured, placed, Placed}
+use Rattle.oof_box.specs.Box.{_by_, keywordStretch, sizeKeywords, settled, bothInput, widthInput, heightInput, widthAs, heightAs, inTurn, byKeywords, keywordSizes, stretched, finalSize, measured, placed, Placed}
 use Rattle.oof_box.specs.Cut.{knownBy}
-use Rattle.oof_box.specs.declared.question.MeasureInput.{MeasureInput}
-use Rattle.oof_box.specs.declared.question.LayoutInput.{LayoutInput}
-use Rattle.oof_box.specs.declared.question.Question.{Question}
 use Rattle.oof_box.specs.declared.question.Question.the-variants as question
 use Rattle.oof_box.specs.declared.question.KeywordReply.{KeywordReply}
 use Rattle.oof_box.specs.declared.question.KeywordReply.the-variants as keyword
 use Rattle.oof_box.specs.declared.question.FillReply.{FillReply}
 use Rattle.oof_box.specs.declared.question.FillReply.the-variants as fill
-use Rattle.oof_box.specs.declared.question.Replies.{Replies}
 use Rattle.oof_box.specs.declared.sizing.Stretched.{Stretched}
 
 -- what the box comes to, once the size is there

@@ -1,10 +1,9 @@
 -- The code, fed any list of replies, gives the questions and the layout of the definition; and a box asks at most three. Assumes nothing.
-use Prim.Native.Nat.{ℕ, zero, suc}
-use mathlib.Core.Path.{_≡_, refl, sym, _∙_, ap, subst}
+use Prim.Native.Nat.{ℕ, suc}
+use mathlib.Core.Path.{_≡_, refl, _∙_, ap}
 use mathlib.Core.Bool.{Bool, true, false, cond, _||_}
 use mathlib.Core.List.{List, [], _∷_, foldl}
 use Rattle.geometry.specs.Geometry.{zeroSize, bothPresent}
-use Rattle.geometry.specs.declared.Size.{Size}
 use Rattle.style.specs.declared.Style.{Style}
 use Rattle.tree.specs.declared.layout.OofCandidate.{OofCandidate}
 use Rattle.oof_resolve.specs.Resolved.{resolvedBox}
@@ -13,16 +12,14 @@ use Rattle.oof_resolve.specs.declared.ResolvedBox.{ResolvedBox}
 use Rattle.common.specs.declared.sizing_keyword.SizingKeywordResolution.{SizingKeywordResolution}
 use Rattle.common.specs.declared.sizing_keyword.SizingKeywordResolution.the-variants.{NoKeyword, Exact, Measure}
 use Rattle.common.specs.declared.sizing_keyword.SizingKeywords.{SizingKeywords}
-use Rattle.oof_box.specs.Talk.{Talk, done, ask, Laid}
-use Rattle.oof_box.specs.Box.{keywordStretch, sizeKeywords, stretched, finalSize, placed, Placed}
+use Rattle.oof_box.specs.Talk.{Talk, done, ask}
+use Rattle.oof_box.specs.Box.{sizeKeywords, stretched, finalSize, Placed}
 use Rattle.oof_box.specs.Cut.{noReplies, taken, knownBy, stretchedBy, measuredSize, sizeBy, keywordAsked, fillAsked, layOutAsked, sizeAsked, fillGiven, askedOf, askedAfter, layoutAfter}
-use Rattle.oof_box.specs.Theorems.{Heard, after, Standing, waiting, finished, onTaken, step, begun, Seen, asked, ended, seenOf, seenBy, CutIsDefinition, isMeasure, LaysOutWithin, laysOut, measures, ThreeQuestions, isKeywordStage, keywordGiven, StagesMoveForward}
+use Rattle.oof_box.specs.Theorems.{Heard, after, Standing, waiting, finished, step, begun, asked, seenOf, seenBy, CutIsDefinition, LaysOutWithin, laysOut, measures, ThreeQuestions, isKeywordStage, keywordGiven, StagesMoveForward}
 use Rattle.oof_box.specs.declared.question.MeasureInput.{MeasureInput}
-use Rattle.oof_box.specs.declared.question.Question.{Question}
 use Rattle.oof_box.specs.declared.question.Question.the-variants as question
 use Rattle.oof_box.specs.declared.question.Reply.{Reply}
 use Rattle.oof_box.specs.declared.question.Reply.the-variants as reply
-use Rattle.oof_box.specs.declared.question.Stage.{Stage}
 use Rattle.oof_box.specs.declared.question.Stage.the-variants as stage
 use Rattle.oof_box.specs.declared.question.Asked.{Asked}
 use Rattle.oof_box.specs.declared.question.KeywordReply.{KeywordReply}

@@ -5,16 +5,14 @@
 use Prim.Native.Nat.{ℕ}
 use mathlib.Core.Bool.{Bool, true, false, cond, _||_}
 use lib.Ieee.{Float}
-use Rattle.util.specs.Maybe.{unwrapOr}
 use Rattle.util.specs.declared.math.MaybeF32.{MaybeF32}
 use Rattle.util.specs.declared.math.MaybeF32.the-variants.{None, Some}
-use Rattle.geometry.specs.Geometry.{zeroSize, absentSize, bothPresent}
+use Rattle.geometry.specs.Geometry.{zeroSize, bothPresent}
 use Rattle.geometry.specs.declared.Rect.{Rect}
 use Rattle.geometry.specs.declared.Size.{Size}
 use Rattle.geometry.specs.declared.MaybeSize.{MaybeSize}
 use Rattle.style.specs.declared.Style.{Style}
 use Rattle.style.specs.declared.available_space.AvailableSpace.{AvailableSpace}
-use Rattle.style.specs.declared.available_space.AvailableSpace.the-variants.{Definite}
 use Rattle.style.specs.declared.available_space.AvailableSize.{AvailableSize}
 use Rattle.tree.specs.declared.layout.OofCandidate.{OofCandidate}
 use Rattle.oof_resolve.specs.Resolved.{resolvedBox}
@@ -24,8 +22,6 @@ use Rattle.common.specs.declared.sizing_keyword.SizingKeywordResolution.{Sizing
 use Rattle.common.specs.declared.sizing_keyword.SizingKeywordResolution.the-variants.{NoKeyword, Exact, Measure}
 use Rattle.common.specs.declared.sizing_keyword.SizingKeywords.{SizingKeywords}
 use Rattle.oof_box.specs.Box.{_by_, keywordStretch, sizeKeywords, hasKeyword, settled, bothInput, widthInput, heightInput, stretched, finalSize}
-use Rattle.oof_box.specs.declared.question.MeasureInput.{MeasureInput}
-use Rattle.oof_box.specs.declared.question.Question.{Question}
 use Rattle.oof_box.specs.declared.question.Question.the-variants as question
 use Rattle.oof_box.specs.declared.question.Reply.{Reply}
 use Rattle.oof_box.specs.declared.question.Reply.the-variants as reply

@@ -1,7 +1,7 @@
 -- What is proved of one box beside the contracts, as statements. proofs/Talks.antt and proofs/Floor.antt prove each, under its name in
 -- small letters.
 -- Assumes nothing.
-use Prim.Native.Nat.{ℕ, zero, suc}
+use Prim.Native.Nat.{ℕ, suc}
 use mathlib.Core.Path.{_≡_}
 use mathlib.Core.Bool.{Bool, true, false}
 use mathlib.Core.List.{List, foldl}

@@ -9,7 +9,6 @@ use Rattle.util.specs.Number.{0f}
 use Rattle.util.specs.declared.math.MaybeF32.{MaybeF32}
 use Rattle.util.specs.declared.math.MaybeF32.the-variants.{None, Some}
 use Rattle.geometry.specs.Geometry.{_to_, zeroPoint, zeroSize}
-use Rattle.geometry.specs.declared.Rect.{Rect}
 use Rattle.style.specs.declared.BoxSizing.the-variants.{BorderBox}
 use Rattle.style.specs.declared.Direction.{Direction}
 use Rattle.style.specs.declared.Direction.the-variants.{Ltr, Rtl}

@@ -4,12 +4,11 @@ use mathlib.Core.Bool.{Bool, true, false, cond, _&&_}
 use mathlib.Core.List.{List, [], _∷_}
 use lib.Dec.{eqb}
 use lib.ListN.{getD}
-use lib.Ieee.{Float, toBits, binary32}
+use lib.Ieee.{toBits, binary32}
 use Rattle.util.specs.declared.math.MaybeF32.{MaybeF32}
 use Rattle.util.specs.declared.math.MaybeF32.the-variants.{None, Some}
 use Rattle.geometry.specs.Geometry.{zeroRect, unionOf}
 use Rattle.geometry.specs.declared.Rect.{Rect}
-use Rattle.geometry.specs.declared.MaybeSize.{MaybeSize}
 use Rattle.style.specs.Codes.{directionOf, overflowOf}
 use Rattle.style.specs.declared.available_space.AvailableSpace.{AvailableSpace}
 use Rattle.style.specs.declared.available_space.AvailableSpace.the-variants.{Definite, MinContent, MaxContent}
@@ -18,7 +17,7 @@ use Rattle.style_record.specs.Decode.{styleAt}
 use Rattle.tree_record.specs.Candidate.{floatAt, candidateOf}
 use Rattle.tree_record.specs.Layout.{rectOf, layoutWords}
 use Rattle.oof_resolve.specs.declared.ContainingBlock.{ContainingBlock}
-use Rattle.oof_box.specs.Talk.{Talk, done, ask, ReplyTo, Laid}
+use Rattle.oof_box.specs.Talk.{Talk, done, ask, ReplyTo}
 use Rattle.oof_box.specs.Box.{placed, Placed}
 use Rattle.oof_box.specs.declared.question.Question.{Question}
 use Rattle.oof_box.specs.declared.question.Question.the-variants.{MeasureBoth, MeasureWidth, MeasureHeight, LayOut}

@@ -5,7 +5,7 @@ use mathlib.Core.Bool.{cond}
 use mathlib.Core.List.{List, [], _∷_, _++_}
 use lib.Dec.{eqb}
 use lib.ListN.{getD}
-use lib.Ieee.{Float, ofBits, toBits, binary32}
+use lib.Ieee.{Float, toBits, binary32}
 use Rattle.util.specs.Number.{0f}
 use Rattle.geometry.specs.Geometry.{zeroSize}
 use Rattle.geometry.specs.declared.Rect.{Rect}

@@ -1,6 +1,5 @@
 -- A reply, by the ways that the code goes. Assumes nothing.
 use Prim.Native.Nat.{ℕ, _+_, _*_, _<_}
-use native.Mathlib.Omega.{arith}
 use mathlib.Core.Bool.{Bool, true, false}
 use mathlib.Core.List.{List, [], map}
 use mathlib.Core.Path.{_≡_, refl, sym, ap, _∙_}

@@ -3,19 +3,18 @@ use Prim.Native.Nat.{ℕ, zero, suc, _+_, _-_, _*_, _/_, _<_, _≤_}
 use native.Mathlib.Omega.{arith}
 use native.Mathlib.Nat.{add-zero, zero-add, suc-add, add-suc, mul-zero, mul-suc, mul-le-mul-left, mul-div-le, le-trans, not-suc-le-zero, le-of-suc-le-suc}
 use native.Mathlib.Numerals.{add-one}
-use mathlib.Core.Logic.{_≢_, _⊎_, inl, inr, ⊎-elim}
-use mathlib.Core.Path.{_≡_, refl, sym, ap, _∙_, subst}
-use mathlib.Core.Bool.{Bool, true, false, cond, not, _&&_}
+use mathlib.Core.Path.{_≡_, refl, sym, ap, _∙_}
+use mathlib.Core.Bool.{Bool, true, false, not, _&&_}
 use mathlib.Core.List.{List, [], _∷_, _++_, append-assoc, append-nil}
 use lib.Dec.{ltb, leb}
-use lib.ListN.{length, getD, set, take, drop, length-set, length-drop, take-append-drop}
+use lib.ListN.{length, getD, set, take, drop, length-drop, take-append-drop}
 use lib.Seq.{sets, length-sets, sets-eq, drop-cons, drop-drop, take-append-le, drop-append-le, take-at, drop-at, length-take-le, take-set-le, drop-set-lt, take-nil, getD-take, getD-drop}
-use lib.Ieee.{Float, nan, isNan, ofBits, toBits, binary32}
+use lib.Ieee.{ofBits, toBits, binary32}
 use borrow.Author.Tests.{le-leb, lt-leb, leb-true, leb-false, ltb-true, ltb-false, not-true}
 use Rattle.util.proofs.Floats.{no, is-nan}
 use Rattle.util.proofs.Laws.{word-back}
-use Rattle.records.specs.Records.{recordAt, records, room, written, Kind, float, canonicalWord, every, breaks, good, goodRecords}
-use Rattle.records.specs.Laws.{WrittenLength, WrittenParts, WrittenTwice, RecordOfRecords, WordOfRecord, RearBack, RecordBack, OthersKept, FloatWord, NanWord, EveryIs, Unbroken, GoodIsUnbroken}
+use Rattle.records.specs.Records.{recordAt, records, room, written, Kind, canonicalWord, every, breaks, good, goodRecords}
+use Rattle.records.specs.Laws.{WrittenLength, WrittenParts, WrittenTwice, RecordOfRecords, WordOfRecord, RearBack, RecordBack, OthersKept, FloatWord, NanWord, EveryIs, GoodIsUnbroken}
 
 -- ---- writing
 

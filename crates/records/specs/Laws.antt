@@ -1,9 +1,9 @@
 -- What the definitions of this crate mean, as statements. `proofs/Laws.antt` proves each, under its name in small letters. Assumes nothing.
-use Prim.Native.Nat.{ℕ, suc, _+_, _*_, _/_, _<_, _≤_}
+use Prim.Native.Nat.{ℕ, _+_, _*_, _/_, _<_, _≤_}
 use mathlib.Core.Logic.{_≢_}
 use mathlib.Core.Path.{_≡_}
 use mathlib.Core.Bool.{Bool, true, false}
-use mathlib.Core.List.{List, [], _∷_, _++_}
+use mathlib.Core.List.{List, [], _++_}
 use lib.ListN.{length, getD, take, drop}
 use lib.Ieee.{isNan, ofBits, binary32}
 use Rattle.records.specs.Records.{recordAt, records, written, Kind, float, canonicalWord, every, breaks, goodRecords}

@@ -14,7 +14,6 @@ use Rattle.oof_box.specs.Cut.{noReplies}
 use Rattle.oof_box.proofs.Talks.{stages-move-forward}
 use Rattle.oof_box.specs.declared.question.Reply.{Reply}
 use Rattle.oof_box.specs.declared.question.Replies.{Replies}
-use Rattle.oof_box.specs.declared.question.Stage.{Stage}
 use Rattle.oof_box.specs.declared.question.Taken.the-variants.{Kept}
 use Rattle.run.specs.declared.Opening.{Opening}
 use Rattle.run.specs.declared.Progress.{Progress}

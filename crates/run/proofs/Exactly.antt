@@ -3,10 +3,9 @@ use Prim.Native.Nat.{ℕ, _<_, _≤_}
 use native.Mathlib.Omega.{arith}
 use mathlib.Core.Logic.{inl, inr, _↔_, Iff·trans}
 use mathlib.Core.Path.{_≡_, refl, ap}
-use mathlib.Core.Bool.{Bool, true, false, cond, not, _||_}
+use mathlib.Core.Bool.{Bool, true, false, cond, _||_}
 use mathlib.Core.List.{List}
 use Rattle.util.proofs.Floats.{no}
-use Rattle.style_record.specs.Record.{keyword}
 use Rattle.style.specs.Values.{isSelfRelative}
 use Rattle.tree.specs.Static.{fromAlignment}
 use Rattle.tree.specs.declared.layout.AxisStaticPosition.{AxisStaticPosition}

@@ -5,13 +5,11 @@ use mathlib.Core.Path.{_≡_, refl, ap, _∙_}
 use mathlib.Core.Bool.{Bool, true, false, cond, _&&_}
 use mathlib.Core.List.{List, [], _∷_, _++_}
 use lib.ListN.{length, replicate}
-use lib.Ieee.{toBits, binary32}
 use borrow.Author.Tests.{ne-eqb, le-leb, le-ltb}
-use Rattle.util.specs.Eighths.{eighths, floatOfCount}
+use Rattle.util.specs.Eighths.{floatOfCount}
 use Rattle.screen.specs.declared.field.Numeral.the-variants.{Malformed, Number}
-use Rattle.screen.specs.declared.field.Word.the-variants.{Of}
 use Rattle.screen.specs.Field.{unblank, isDigit, spelled, unsigned, signed, numeralOf, codeOf, present, floatOf, wordOf}
-use Rattle.screen.specs.Laws.{allDigits, decimal, Sign, minus, plus, none, Spelling, FieldRead, CodeRead, CountRead}
+use Rattle.screen.specs.Laws.{allDigits, decimal, Sign, minus, plus, none, FieldRead, CodeRead, CountRead}
 use Rattle.screen.proofs.Text.{apart, digit-low}
 
 -- ---- digits

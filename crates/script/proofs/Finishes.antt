@@ -1,6 +1,6 @@
 -- No scripted reply is refused, so a run that is opened comes to its finish. The reply's kind is its question's; the slices have the
 -- opening's lengths, the styles its words; the working list holds the candidates that it checked; nothing is surfaced. Assumes nothing.
-use Prim.Native.Nat.{ℕ, zero, suc, _+_, _-_, _*_, _/_, _≤_}
+use Prim.Native.Nat.{ℕ, zero, suc, _+_, _*_, _/_, _≤_}
 use native.Mathlib.Omega.{arith}
 use native.Mathlib.Nat.{add-zero, mul-le-mul-left, mul-div-le, le-trans}
 use mathlib.Core.Path.{_≡_, refl, sym, ap, _∙_, subst}
@@ -46,7 +46,7 @@ use Rattle.run.specs.declared.Step.{Step}
 use Rattle.run.specs.declared.Answer.{Answer}
 use Rattle.run.specs.declared.Answer.the-variants.{Ask, Finish, Refused}
 use Rattle.run.specs.Call.{Lent, Outcome}
-use Rattle.run.specs.Refusals.{Verdict, accepted, refused, _when_else_, ragged, badTable, badList, badSlices, otherLengths, lentBy, badStyle, badCandidate, badCandidates, listFull, wrongCounts}
+use Rattle.run.specs.Refusals.{Verdict, accepted, _when_else_, ragged, badTable, badList, badSlices, otherLengths, lentBy, badStyle, badCandidate, badCandidates, listFull, wrongCounts}
 use Rattle.run.specs.Run.{boxAtHand, asking, finishing, proceeding, claimsOf, containerOf, extentsOf, openingVerdict, begun, opened, takenBy, isWrong, replyVerdict, measuredOn, laidOut, replied}
 use Rattle.run.specs.Theorems.{askedAtOpening, oneIfAsked, isRefused, next}
 use Rattle.run.proofs.Ways.{NextWay, asks, ends, next-way, OpeningWay, begins, opening-way, passed, neither}

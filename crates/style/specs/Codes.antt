@@ -1,8 +1,8 @@
 -- Codes of the records (document 01, "The dialogue"): each value has one code, but normal, which keyword 10, absent, means too. A code outside
 -- its list is refused before it is read; here it is read as the list's last. Flags, claims and containment are no codes but two bits, and of
 -- containment, 0 to 255, the other bits say nothing. Assumes nothing.
-use Prim.Native.Nat.{ℕ, _+_, _*_, _/_, _%_}
-use mathlib.Core.Bool.{Bool, true, false, cond}
+use Prim.Native.Nat.{ℕ, _+_, _/_, _%_}
+use mathlib.Core.Bool.{Bool, cond}
 use lib.Dec.{eqb}
 use Rattle.style.specs.declared.BoxSizing.{BoxSizing}
 use Rattle.style.specs.declared.BoxSizing.the-variants.{BorderBox, ContentBox}

@@ -1,7 +1,7 @@
 -- What the definitions of this crate mean, as statements. `proofs/Laws.antt` proves each, under its name in small letters. Assumes nothing.
 use Prim.Native.Nat.{ℕ, _≤_, _%_}
 use mathlib.Core.Path.{_≡_}
-use mathlib.Core.Bool.{Bool, true, false, _||_}
+use mathlib.Core.Bool.{Bool, false, _||_}
 use mathlib.Core.List.{List, [], _∷_}
 use lib.Dec.{eqb}
 use lib.Ieee.{Float}
@@ -12,7 +12,6 @@ use Rattle.style.specs.declared.BoxSizing.{BoxSizing}
 use Rattle.style.specs.declared.Overflow.{Overflow}
 use Rattle.style.specs.declared.Direction.{Direction}
 use Rattle.style.specs.declared.alignment.AlignItemsKeyword.{AlignItemsKeyword}
-use Rattle.style.specs.declared.alignment.AlignItemsKeyword.the-variants as keyword
 use Rattle.style.specs.declared.alignment.AlignmentSafety.{AlignmentSafety}
 use Rattle.style.specs.declared.alignment.AlignItems.{AlignItems}
 use Rattle.style.specs.Resolve.{resolved, isAllowed, takes}

@@ -14,7 +14,6 @@ use Rattle.style.specs.declared.compact_length.LengthRect.{LengthRect}
 use Rattle.style.specs.declared.compact_length.LengthSize.{LengthSize}
 use Rattle.style.specs.declared.resolve.Field.{Field}
 use Rattle.style.specs.declared.resolve.Field.the-variants as field
-use Rattle.style.specs.declared.resolve.SizingKeyword.{SizingKeyword}
 use Rattle.style.specs.declared.resolve.SizingKeyword.the-variants as keyword
 use Rattle.style.specs.declared.resolve.Resolved.{Resolved}
 use Rattle.style.specs.declared.resolve.Resolved.the-variants.{NotAllowed, Absent, Length, Keyword}

@@ -1,15 +1,14 @@
 -- The laws of `specs/Laws.antt`. Assumes nothing.
-use Prim.Native.Nat.{ℕ, zero, suc, _+_, _*_, _-_, _/_, _%_, _<_, _≤_}
-use native.Mathlib.Omega.{arith}
+use Prim.Native.Nat.{ℕ, _<_}
 use native.Mathlib.Nat.{eq-or-lt-of-le}
 use mathlib.Core.Logic.{_⊎_, inl, inr, ⊎-elim}
-use mathlib.Core.Path.{_≡_, refl, sym, subst, _∙_, ap}
-use mathlib.Core.Bool.{Bool, true, false, cond}
+use mathlib.Core.Path.{_≡_, refl, subst, ap}
+use mathlib.Core.Bool.{Bool, true, false}
 use mathlib.Core.List.{List}
 use lib.Dec.{leb}
 use borrow.Author.Tests.{leb-true, leb-false}
 use Rattle.util.proofs.Floats.{no}
-use Rattle.style_record.specs.Record.{styleWords, lengthKinds, codeKinds, item, items}
+use Rattle.style_record.specs.Record.{lengthKinds, codeKinds, item}
 use Rattle.style_record.specs.Check.{breaks, firstBroken, checked}
 use Rattle.style_record.specs.Decode.{styleAt}
 use Rattle.style_record.specs.Encode.{lengthWordsOf, rectWordsOf, sizeWordsOf, alignWordsOf, encoded, kept}

@@ -1,7 +1,7 @@
 -- The walk over a record's words and over a table's items, a stretch at a time. Assumes nothing.
 use Prim.Native.Nat.{ℕ, zero, suc, _+_, _*_, _-_, _/_, _%_, _<_, _≤_}
 use native.Mathlib.Omega.{arith}
-use mathlib.Core.Path.{_≡_, refl, sym, _∙_, ap}
+use mathlib.Core.Path.{_≡_, refl, _∙_, ap}
 use mathlib.Core.Bool.{Bool, true, false, cond, not}
 use mathlib.Core.List.{List}
 use lib.Dec.{ltb}
@@ -10,7 +10,7 @@ use borrow.Author.Tests.{lt-ltb, le-ltb}
 use Rattle.style.specs.Resolve.{takes}
 use Rattle.style.specs.declared.resolve.Field.{Field}
 use Rattle.style.specs.declared.resolve.Field.the-variants as field
-use Rattle.style_record.specs.Record.{Kind, tag, number, kindOf, lengthKinds, codeKinds, lengthField, lengthWords, lengths, codeWords, afterLengths, AreOf}
+use Rattle.style_record.specs.Record.{number, kindOf, lengthKinds, codeKinds, lengthField, lengthWords, lengths, codeWords, afterLengths, AreOf}
 use Rattle.style_record.specs.Check.{safetyBreaks, breaksAs, breaksRule, firstFrom, orRest, firstBroken, checkedFrom}
 use Rattle.style_record.specs.declared.check.ItemCheck.{ItemCheck}
 use Rattle.style_record.specs.declared.check.ItemCheck.the-variants.{Good, Bad}

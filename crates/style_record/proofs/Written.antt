@@ -1,15 +1,13 @@
 -- Each word is decoded by its meaning: decoding and writing are inverse. Assumes nothing.
-use Prim.Native.Nat.{ℕ, zero, suc, _+_, _*_, _-_, _/_, _%_, _<_, _≤_}
+use Prim.Native.Nat.{ℕ, zero, suc, _-_, _%_, _<_, _≤_}
 use native.Mathlib.Omega.{arith}
-use mathlib.Core.Path.{_≡_, refl, sym, _∙_, ap}
+use mathlib.Core.Path.{_≡_, refl, _∙_, ap}
 use mathlib.Core.Bool.{Bool, true, false, cond}
-use mathlib.Core.List.{List, [], _∷_, _++_}
 use lib.Dec.{T, eqb, ltb}
 use lib.ListN.{getD}
 use lib.Ieee.{Float, fits, ofBits, toBits, binary32}
 use lib.Ieee.Bits.{ofBits-toBits}
 use borrow.Author.Tests.{ltb-false, eqb-false}
-use Rattle.util.proofs.Floats.{no}
 use Rattle.util.specs.declared.math.MaybeF32.{MaybeF32}
 use Rattle.util.specs.declared.math.MaybeF32.the-variants.{None, Some}
 use Rattle.style.specs.declared.compact_length.CompactLength.{CompactLength}
@@ -20,7 +18,7 @@ use Rattle.style.specs.declared.alignment.AlignItemsKeyword.the-variants as key
 use Rattle.style.specs.declared.alignment.AlignmentSafety.the-variants as safety
 use Rattle.style.specs.declared.alignment.AlignItems.{AlignItems}
 use Rattle.style.specs.declared.Style.{Style}
-use Rattle.style.specs.Codes.{sizingCode, overflowCode, directionCode, safetyCode, keywordCode, bitsCode, sizingOf, overflowOf, directionOf, safetyOf, keywordOf, alignmentOf, bit0, bit1, containOf}
+use Rattle.style.specs.Codes.{safetyCode, keywordCode, bitsCode, safetyOf, keywordOf, alignmentOf, bit0, bit1, containOf}
 use Rattle.style.proofs.Laws.{sizing-codes, overflow-codes, direction-codes, safety-codes, keyword-codes, bits-codes}
 use Rattle.style_record.specs.Record.{upTo, styleWords, kindOf, codeKinds, lengthKinds, lengthField}
 use Rattle.style_record.specs.Check.{safetyBreaks, breaksAs, breaksRule}

@@ -1,7 +1,7 @@
 -- Refusal 3: which word of which item breaks a rule, and which is the first (document 01, "Tags"; table of refusals). Whole words are
 -- compared: 257 is no tag 1. Assumes nothing.
-use Prim.Native.Nat.{ℕ, zero, suc, _+_, _*_, _-_}
-use mathlib.Core.Bool.{Bool, true, false, cond, not}
+use Prim.Native.Nat.{ℕ, zero, suc, _+_, _-_}
+use mathlib.Core.Bool.{Bool, false, cond, not}
 use mathlib.Core.List.{List}
 use lib.Dec.{eqb, ltb}
 use Rattle.style.specs.Resolve.{takes}

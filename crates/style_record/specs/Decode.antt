@@ -1,7 +1,7 @@
 -- A style record decoded: each word at its index and by its meaning (document 01, "Style, 57 words"). What a word is read as that the
 -- check refuses, style/specs/Codes.antt says. Assumes nothing.
 use Prim.Native.Nat.{ℕ, _+_, _*_}
-use mathlib.Core.Bool.{Bool, true, false, cond}
+use mathlib.Core.Bool.{cond}
 use mathlib.Core.List.{List}
 use lib.Dec.{eqb}
 use lib.Ieee.{Float, ofBits, binary32}

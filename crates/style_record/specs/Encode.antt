@@ -1,9 +1,9 @@
 -- A style written as a record: the words in document 01's order. Assumes nothing.
-use Prim.Native.Nat.{ℕ, zero, suc, _+_, _*_, _-_, _%_}
-use mathlib.Core.Bool.{Bool, true, false, cond}
+use Prim.Native.Nat.{ℕ, zero, suc, _+_, _-_, _%_}
+use mathlib.Core.Bool.{cond}
 use mathlib.Core.List.{List, [], _∷_, _++_}
 use lib.Dec.{eqb}
-use lib.Ieee.{Float, ofBits, toBits, binary32}
+use lib.Ieee.{ofBits, toBits, binary32}
 use Rattle.util.specs.declared.math.MaybeF32.{MaybeF32}
 use Rattle.util.specs.declared.math.MaybeF32.the-variants.{None, Some}
 use Rattle.style.specs.declared.compact_length.CompactLength.{CompactLength}

@@ -1,9 +1,8 @@
 -- What the definitions of this crate mean, as statements. `proofs/Laws.antt` proves each, under its name in small letters.
 -- `fits binary32 x` says that x is a value of an f32: true of every f32 of a program. Assumes nothing.
-use Prim.Native.Nat.{ℕ, _+_, _*_, _<_}
-use mathlib.Core.Logic.{_⊎_}
+use Prim.Native.Nat.{ℕ, _<_}
 use mathlib.Core.Path.{_≡_}
-use mathlib.Core.Bool.{Bool, true, false}
+use mathlib.Core.Bool.{true, false}
 use mathlib.Core.List.{List}
 use lib.ListN.{getD, length}
 use lib.Dec.{T}

@@ -1,5 +1,5 @@
 -- The laws of `specs/Laws.antt`. Assumes nothing.
-use Prim.Native.Nat.{ℕ, zero, suc, _+_, _*_, _/_, _<_, _≤_}
+use Prim.Native.Nat.{ℕ, suc, _+_, _/_, _<_}
 use native.Mathlib.Omega.{arith}
 use mathlib.Core.Bool.{Bool, true, false, cond, not, _&&_}
 use mathlib.Core.List.{List, [], _∷_, _++_, map}
@@ -8,10 +8,9 @@ use mathlib.Core.Path.{_≡_, refl, sym, ap, _∙_}
 use lib.Dec.{leb}
 use lib.Ieee.{binary32}
 use lib.Ieee.Fits.{add-fits}
-use lib.ListN.{length, length-append}
+use lib.ListN.{length}
 use lib.Seq.{take-at, drop-at}
 use borrow.Author.Tests.{lt-leb, leb-false}
-use Rattle.util.proofs.Floats.{no}
 use Rattle.records.specs.Records.{records, room}
 use Rattle.records.proofs.Laws.{rear-back}
 use Rattle.refusal.specs.declared.Refusal.{Refusal}
@@ -26,10 +25,9 @@ use Rattle.tree_record.proofs.Laws.{candidate-widths, decoded-fits, candidate-b
 use Rattle.sweep.specs.declared.Shift.{Shift}
 use Rattle.sweep.specs.declared.Shift.the-variants.{Unmoved, By}
 use Rattle.sweep.specs.declared.Filled.{Filled}
-use Rattle.sweep.specs.declared.Swept.{Swept}
 use Rattle.sweep.specs.declared.Swept.the-variants.{Refused, Into}
 use Rattle.sweep.specs.Sweep.{firstCandidates, candidatesIn, moved, side, keep, listWords, appended, Outcome, swept}
-use Rattle.sweep.specs.Laws.{KeepSplits, Exceeds, FullIsExceeded, RefusedKeeps, AllFit, SweptFits, KeptFits, AppendedBack}
+use Rattle.sweep.specs.Laws.{KeepSplits, FullIsExceeded, RefusedKeeps, AllFit, SweptFits, KeptFits, AppendedBack}
 use Rattle.sweep.proofs.Steps.{words-length}
 
 -- ---- claimed, or not

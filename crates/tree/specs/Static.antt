@@ -1,5 +1,5 @@
 -- Static positions: where a box would stand in normal flow, as an area and an alignment in it (tree/layout.rs). Assumes nothing.
-use mathlib.Core.Bool.{Bool, true, false, cond}
+use mathlib.Core.Bool.{Bool, cond}
 use lib.Ieee.{Float}
 use Rattle.geometry.specs.Geometry.{movedBy}
 use Rattle.geometry.specs.declared.Line.{Line}

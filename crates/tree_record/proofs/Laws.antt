@@ -1,16 +1,16 @@
 -- The laws of `specs/Laws.antt`. Assumes nothing.
-use Prim.Native.Nat.{ℕ, zero, suc, _+_, _<_, _≤_}
+use Prim.Native.Nat.{ℕ, zero, suc, _<_}
 use native.Mathlib.Omega.{arith}
-use mathlib.Core.Bool.{Bool, true, false, not}
-use mathlib.Core.List.{List, [], _∷_, _++_}
-use mathlib.Core.Path.{_≡_, refl, sym, ap, _∙_}
-use lib.Dec.{T, lit<, leb}
-use lib.Ieee.{Float, fits, ofBits, toBits, binary32}
+use mathlib.Core.Bool.{true, false, not}
+use mathlib.Core.List.{List}
+use mathlib.Core.Path.{_≡_, refl}
+use lib.Dec.{lit<, leb}
+use lib.Ieee.{Float, ofBits, toBits, binary32}
 use lib.Ieee.Bits.{ofBits-fits}
-use lib.ListN.{length, getD}
+use lib.ListN.{getD}
 use borrow.Author.Tests.{leb-false, not-true}
 use Rattle.util.proofs.Laws.{float-back}
-use Rattle.records.specs.Records.{canonicalFrom, canonicalWord, every, breaks, wrong, good}
+use Rattle.records.specs.Records.{canonicalFrom, canonicalWord, breaks, wrong, good}
 use Rattle.records.proofs.Laws.{every-is}
 use Rattle.geometry.specs.declared.Point.{Point}
 use Rattle.geometry.specs.declared.Rect.{Rect}
@@ -25,7 +25,7 @@ use Rattle.tree_record.specs.Codes.{positionOf, positionCode, edgeOf, ed
 use Rattle.style.specs.Codes.{safetyOf, safetyCode}
 use Rattle.tree_record.specs.Candidate.{candidateKinds, axisOf, candidateOf, candidateWords}
 use Rattle.tree_record.specs.Layout.{rectOf, layoutOf, layoutWords}
-use Rattle.tree_record.specs.Laws.{CandidateWidths, DecodedFits, CandidateBack, RecordRewritten, LayoutWidths, FitsSize, FitsPoint, FitsRect, FitsLayout, LayoutBack, LayoutRewritten}
+use Rattle.tree_record.specs.Laws.{CandidateWidths, DecodedFits, CandidateBack, RecordRewritten, LayoutWidths, FitsSize, FitsPoint, FitsRect, LayoutBack, LayoutRewritten}
 
 -- ---- codes
 

@@ -8,7 +8,6 @@ use lib.Dec.{lit<, lit≤}
 use lib.ListN.{getD}
 use Rattle.records.specs.Records.{recordAt}
 use Rattle.records.proofs.Laws.{word-of-record}
-use Rattle.geometry.specs.declared.Rect.{Rect}
 use Rattle.tree.specs.declared.layout.OofCandidate.{OofCandidate}
 use Rattle.tree.specs.declared.layout.Layout.{Layout}
 use Rattle.tree_record.specs.Codes.{positionOf}

@@ -1,7 +1,7 @@
 -- The codes of a candidate's record (document 01, "Candidate, 13 words"). A code outside its list is read as the last one: it is
 -- refused before. The codes of safety are those of a style (style/specs/Codes.antt). Assumes nothing.
 use Prim.Native.Nat.{ℕ}
-use mathlib.Core.Bool.{Bool, true, false, cond}
+use mathlib.Core.Bool.{cond}
 use lib.Dec.{eqb}
 use Rattle.style.specs.declared.Position.{Position}
 use Rattle.style.specs.declared.Position.the-variants as position

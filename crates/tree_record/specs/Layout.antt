@@ -2,7 +2,7 @@
 use Prim.Native.Nat.{ℕ, _+_}
 use mathlib.Core.List.{List, [], _∷_, _++_}
 use lib.ListN.{getD, replicate}
-use lib.Ieee.{Float, ofBits, toBits, binary32}
+use lib.Ieee.{toBits, binary32}
 use Rattle.geometry.specs.declared.Rect.{Rect}
 use Rattle.records.specs.Records.{Kind, whole, float}
 use Rattle.tree.specs.declared.layout.Layout.{Layout}

@@ -1,4 +1,3 @@
-use mathlib.Core.Path.{refl, sym, _∙_}
 use Rattle.run.specs.Call.{lent}
 use Rattle.run.proofs.Call.{left-step}
 use Rattle.listing.proofs.Lists.{list-asked, list-finished, list-refused, list-fits}

@@ -1,4 +1,4 @@
-use mathlib.Core.Path.{refl, sym, _∙_}
+use mathlib.Core.Path.{sym, _∙_}
 use Rattle.screen.proofs.Whole.{read-told, bad-told}
 use Rattle.listing.proofs.Whole.{printed-bad, printed-read}
 use borrow.Author.Needs.{needs}

@@ -1,4 +1,3 @@
-use lib.ListN.{replicate}
 use Prim.Native.Nat.{_*_}
 use native.Mathlib.Nat.{mul-le-mul-right}
 use Rattle.tree_record.specs.Layout.{layoutWidth}

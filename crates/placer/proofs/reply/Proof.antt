@@ -1,4 +1,3 @@
-use native.Mathlib.Omega.{arith}
 use Rattle.placer.proofs.Replies.{turned-down, not-wrong, kept, cleared-laid, laid}
 use Rattle.placer.proofs.Calls.{reply-passed, counted, at-hand}
 use Rattle.run.specs.Call.{lent}

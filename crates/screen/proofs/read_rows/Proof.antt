@@ -4,7 +4,7 @@ use native.Mathlib.Omega.{arith}
 use native.Mathlib.Nat.{sub-zero}
 use mathlib.Core.Path.{_≡_, refl, sym, _∙_}
 use lib.ListN.{length, drop}
-use lib.Seq.{sets, length-sets}
+use lib.Seq.{sets}
 use Rattle.screen.specs.Format.{fieldsOf, COLUMNS, bytesOf}
 use Rattle.screen.specs.Place.{part}
 use Rattle.screen.specs.Screen.{rowsOf}

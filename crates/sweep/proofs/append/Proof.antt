@@ -1,10 +1,9 @@
 use borrow.Author.Needs.{needs}
-use Rattle.sweep.proofs.Steps.{from, from-start, from-end, count-step, append-step, appended-length, appended-none}
+use Rattle.sweep.proofs.Steps.{from, from-start, from-end, count-step, append-step, appended-none}
 use Rattle.sweep.specs.Sweep.{moved, keep, appended}
-use Rattle.tree_record.specs.Candidate.{candidateWidth, candidateOf}
-use Rattle.records.specs.Records.{recordAt}
+use Rattle.tree_record.specs.Candidate.{candidateWidth}
 use lib.ListN.{length}
-use mathlib.Core.Path.{_≡_, refl, sym, ap, _∙_}
+use mathlib.Core.Path.{_≡_, refl, sym, _∙_}
 use mathlib.Core.List.{map}
 use native.Mathlib.Omega.{arith}
 use Prim.Native.Nat.{_+_, _-_, _*_, _≤_}

@@ -1,7 +1,7 @@
 use Rattle.sweep.proofs.Steps.{one-in, append-in, append-out}
 use Rattle.tree_record.specs.Candidate.{candidateWidth, candidateOf}
 use Rattle.records.specs.Records.{recordAt}
-use mathlib.Core.Path.{sym, ap, _∙_}
+use mathlib.Core.Path.{sym, _∙_}
 use native.Mathlib.Omega.{arith}
 use borrow.Author.Needs.{needs}
 use Rattle.sweep.proofs.append_one.Statement.{statement}

@@ -4,7 +4,7 @@ use Rattle.sweep.specs.Sweep.{keep}
 use Rattle.tree_record.specs.Candidate.{candidateWidth, candidateOf}
 use Rattle.records.specs.Records.{recordAt}
 use lib.ListN.{length}
-use mathlib.Core.Path.{_≡_, refl, sym, ap, _∙_}
+use mathlib.Core.Path.{_≡_, sym, _∙_}
 use native.Mathlib.Nat.{zero-add, add-zero}
 use native.Mathlib.Omega.{arith}
 use Prim.Native.Nat.{_+_, _-_, _≤_}

@@ -1,5 +1,5 @@
 use Rattle.sweep.proofs.Steps.{one-in, one-out, position-at}
-use mathlib.Core.Path.{sym, _∙_}
+use mathlib.Core.Path.{sym}
 use borrow.Author.Needs.{needs}
 use Rattle.sweep.proofs.count_one.Statement.{statement}
 use Rattle.sweep.proofs.count_one.Tie as tie

@@ -1,8 +1,7 @@
-use Rattle.sweep.specs.declared.Swept.the-variants.{Into}
 use Rattle.sweep.specs.Sweep.{candidatesIn}
 use Rattle.sweep.proofs.Steps.{no-room-in, no-room-out, room-both}
 use Rattle.records.proofs.Laws.{room-words}
-use mathlib.Core.Path.{refl, sym, ap, _∙_}
+use mathlib.Core.Path.{refl, sym, _∙_}
 use native.Mathlib.Omega.{arith}
 use borrow.Author.Needs.{needs}
 use Rattle.sweep.proofs.sweep.Statement.{statement}

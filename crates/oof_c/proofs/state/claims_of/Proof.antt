@@ -1,5 +1,4 @@
 use Rattle.oof_c.specs.StateWords.{claimsOf}
-use mathlib.Core.Path.{refl}
 use borrow.Author.Needs.{needs}
 use Rattle.oof_c.proofs.state.claims_of.Statement.{statement}
 use Rattle.oof_c.proofs.state.claims_of.Tie as tie

@@ -1,5 +1,4 @@
 use Rattle.style.specs.Codes.{containOf}
-use mathlib.Core.Path.{refl}
 use borrow.Author.Needs.{needs}
 use Rattle.style.proofs.Contain.from_code.Statement.{statement}
 use Rattle.style.proofs.Contain.from_code.Tie as tie

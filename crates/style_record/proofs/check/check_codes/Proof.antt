@@ -1,4 +1,4 @@
-use mathlib.Core.Path.{_≡_, sym, _∙_}
+use mathlib.Core.Path.{sym, _∙_}
 use Rattle.style_record.proofs.Walk.{codesOf, codes-first}
 use borrow.Author.Needs.{needs}
 use Rattle.style_record.proofs.check.check_codes.Statement.{statement}

@@ -2,9 +2,8 @@ use Rattle.style_record.proofs.Walk.{of-field}
 use Rattle.style_record.proofs.Walk.{lengths-bad, lengths-on, lengths-done}
 use Rattle.style_record.specs.Check.{firstFrom}
 use Rattle.style_record.specs.Record.{lengthWords, wordsFrom}
-use Rattle.style.specs.Resolve.{takes}
-use mathlib.Core.Path.{_≡_, refl, sym, _∙_, ap}
-use Prim.Native.Nat.{_+_, _-_, _*_, _≤_}
+use mathlib.Core.Path.{_≡_, refl, sym, _∙_}
+use Prim.Native.Nat.{_-_, _*_, _≤_}
 use borrow.Author.Needs.{needs}
 use Rattle.style_record.proofs.check.check_lengths.Statement.{statement}
 use Rattle.style_record.proofs.check.check_lengths.Tie as tie

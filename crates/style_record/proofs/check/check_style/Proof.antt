@@ -1,6 +1,6 @@
 use Rattle.style_record.proofs.Walk.{then-bad, then-good}
 use Rattle.style_record.specs.Check.{firstBroken}
-use mathlib.Core.Path.{_≡_, refl, sym, _∙_}
+use mathlib.Core.Path.{sym, _∙_}
 use borrow.Author.Needs.{needs}
 use Rattle.style_record.proofs.check.check_style.Statement.{statement}
 use Rattle.style_record.proofs.check.check_style.Tie as tie

@@ -1,10 +1,9 @@
 use Rattle.style_record.proofs.Walk.{item-bad, item-good, items-done}
 use Rattle.style_record.specs.Check.{checked, checkedFrom}
-use Rattle.style_record.specs.Record.{items, styleWords}
-use lib.ListN.{length}
+use Rattle.style_record.specs.Record.{items}
 use native.Mathlib.Nat.{sub-zero}
-use mathlib.Core.Path.{_≡_, refl, sym, _∙_}
-use Prim.Native.Nat.{_+_, _-_, _*_, _≤_}
+use mathlib.Core.Path.{_≡_, sym, _∙_}
+use Prim.Native.Nat.{_-_, _≤_}
 use borrow.Author.Needs.{needs}
 use Rattle.style_record.proofs.check.check_styles.Statement.{statement}
 use Rattle.style_record.proofs.check.check_styles.Tie as tie

@@ -1,6 +1,6 @@
 use Rattle.style_record.proofs.Walk.{then-bad, then-good, insets-and-margins, padding-and-borders, sizes, mins-and-maxes}
 use native.Mathlib.Omega.{arith}
-use mathlib.Core.Path.{_≡_, refl, sym, _∙_}
+use mathlib.Core.Path.{sym, _∙_}
 use borrow.Author.Needs.{needs}
 use Rattle.style_record.proofs.check.check_tags.Statement.{statement}
 use Rattle.style_record.proofs.check.check_tags.Tie as tie

@@ -1,6 +1,6 @@
 use Rattle.style_record.proofs.Room.{first-words}
 use Rattle.style.specs.Codes.{sizingOf, directionOf, containOf, bit0, bit1}
-use mathlib.Core.Path.{_≡_, _∙_, ap}
+use mathlib.Core.Path.{_∙_, ap}
 use native.Mathlib.Omega.{arith}
 use Rattle.style_record.specs.Decode.{styleAt, styleOf}
 use borrow.Author.Needs.{needs}

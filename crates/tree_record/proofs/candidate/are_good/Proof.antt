@@ -2,11 +2,10 @@ use borrow.Author.Needs.{needs}
 use Rattle.tree_record.specs.Candidate.{candidateWidth, candidateKinds}
 use Rattle.records.proofs.Laws.{too-few, one-bad, all-good, one-more}
 use Rattle.records.specs.Records.{every, good}
-use lib.ListN.{length}
 use mathlib.Core.Path.{_≡_, refl, sym, _∙_}
 use mathlib.Core.Bool.{true}
 use native.Mathlib.Omega.{arith}
-use Prim.Native.Nat.{_-_, _*_, _≤_, _/_}
+use Prim.Native.Nat.{_-_, _*_, _≤_}
 use Rattle.tree_record.proofs.candidate.are_good.Statement.{statement}
 use Rattle.tree_record.proofs.candidate.are_good.Tie as tie
 use Rattle.tree_record.proofs.candidate.are_good.Reads as reads
