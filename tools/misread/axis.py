@@ -1,7 +1,7 @@
 """One axis on exact numbers: its definition, the laws of it, and misreadings of it.
 
 `Axis` is what CSS says (css-position-3, css-align-3), written apart from the repository's definitions; `LAWS` are the laws of
-crates/oof_axis/specs/Laws.antt (on exact numbers) and of crates/axis_laws/specs/Laws.antt, under their names. A law gives None where it
+crates/oof_axis/specs/Laws.antt (on exact numbers) and of crates/oof_axis_laws/specs/Laws.antt, under their names. A law gives None where it
 says nothing of an input, else True or False. `MISREADINGS` change one method each. tools/misread/run says which law refuses which."""
 import random
 from fractions import Fraction as F
@@ -177,7 +177,7 @@ def overflow_is_reachable(D, a, z):
     return None if not v or a.rev else min(v[2][0], 0) <= v[0] - v[1][0]
 def stretch_fit_is_a_size(D, a, z): return 0 <= D.stretch_fit(a)
 
-# those on whole quarters (axis_laws)
+# those on whole quarters (oof_axis_laws)
 def bounds(a, l): return min(l[0], 0), max(l[1], a.size)
 def end_inset_exact(D, a, z):
     if lone(a) == 'end': p, m = D.placement(a, z); return p + z + m[1] + a.inset[1] == a.size

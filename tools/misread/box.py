@@ -1,8 +1,8 @@
 """One box and its contribution on exact numbers: the definition, the laws of it, and misreadings of it. Boxes without a size keyword.
 
 `Box` is document 01's seven steps, written apart from the repository's definitions and over `axis.Axis`; `LAWS` are the laws of
-crates/box_laws/specs/Laws.antt and the size law of crates/oof_box/specs/Theorems.antt, and `ROWS` document 01's rows 10 to 13, computed in
-crates/oof_box_rows. A law gives None where it says nothing of an input, else True or False. `MISREADINGS` change one method each.
+crates/oof_box_laws/specs/Laws.antt and the size law of crates/oof_box/specs/Theorems.antt, and `ROWS` document 01's rows 10 to 13, computed in
+crates/test_oof_box_rows. A law gives None where it says nothing of an input, else True or False. `MISREADINGS` change one method each.
 tools/misread/run says which law or row refuses which."""
 import functools
 import random

@@ -5,7 +5,7 @@
 
 Prints, for each, the laws that are refused, and the functions and theorems whose proof no longer fits: a changed call or operation asks for a
 changed proof script, which refuses nothing. No row and no stored sample is asked. An edit of an axis takes as long as `rt dev oof_axis`; one of a box
-proves all crates from its own to box_laws anew: minutes. Fails where no law refuses an edit."""
+proves all crates from its own to oof_box_laws anew: minutes. Fails where no law refuses an edit."""
 import os
 import re
 import shutil
@@ -63,18 +63,18 @@ EDITS = [
         (AXIS, '(lim .start)) (alignIn lim outer (startEdge (a .reversed)))', '(lim .start)) (alignIn lim outer (endEdge (a .reversed)))'),
         (CODE, 'align_in_line(limit, outer, self.start_edge())', 'align_in_line(limit, outer, self.end_edge())')]),
     # a box: every crate up to the laws is proved anew
-    ('box: top margin of the height', ['oof_resolve', 'box_laws'], [
+    ('box: top margin of the height', ['oof_resolve', 'oof_box_laws'], [
         ('oof_resolve/specs/Resolved.antt', 'ofWidth f sides areaSize = resolvedRect f sides (areaSize .width) (areaSize .width)', 'ofWidth f sides areaSize = resolvedRect f sides (areaSize .width) (areaSize .height)'),
         ('oof_resolve/src/lib.rt', 'resolve::maybe_resolve_rect(field, sides, area.width, area.width)', 'resolve::maybe_resolve_rect(field, sides, area.width, area.height)')]),
-    ('box: normal stretches a table', ['oof_box', 'box_laws'], [
+    ('box: normal stretches a table', ['oof_box', 'oof_box_laws'], [
         ('oof_box/specs/Box.antt', 'let plain = not (style .replaced) && not (style .table) in', 'let plain = not (style .replaced) && not (style .replaced) in'),
         ('oof_box/src/sizing.rt', 'stretches axis (not (style .replaced) && not (style .table))', 'stretches axis (not (style .replaced) && not (style .replaced))'),
         ('oof_box/src/sizing.rt', 'axis.is_stretch_sized(style.replaced, style.table)', 'axis.is_stretch_sized(style.replaced, style.replaced)')]),
-    ('contribution: a box above the start edge counts', ['common', 'box_laws'], [
-        ('common/specs/ScrollableOverflow.antt', 'cond (parentScrolls && (le (x .end) 0f || le (y .end) 0f)) zeroRect', 'cond (parentScrolls && (le (x .end) 0f || le (x .end) 0f)) zeroRect'),
-        ('common/src/scrollable_overflow.rt', '(scrolls && (le (x .end) 0f || le (y .end) 0f))', '(scrolls && (le (x .end) 0f || le (x .end) 0f))'),
-        ('common/src/scrollable_overflow.rt', 'scrolls && either_at_most_zero(x.end, y.end)', 'scrolls && either_at_most_zero(x.end, x.end)')]),
-    ('contribution: from the right edge, less the height', ['oof_place', 'box_laws'], [
+    ('contribution: a box above the start edge counts', ['common', 'oof_box_laws'], [
+        ('oof_common/specs/ScrollableOverflow.antt', 'cond (parentScrolls && (le (x .end) 0f || le (y .end) 0f)) zeroRect', 'cond (parentScrolls && (le (x .end) 0f || le (x .end) 0f)) zeroRect'),
+        ('oof_common/src/scrollable_overflow.rt', '(scrolls && (le (x .end) 0f || le (y .end) 0f))', '(scrolls && (le (x .end) 0f || le (x .end) 0f))'),
+        ('oof_common/src/scrollable_overflow.rt', 'scrolls && either_at_most_zero(x.end, y.end)', 'scrolls && either_at_most_zero(x.end, x.end)')]),
+    ('contribution: from the right edge, less the height', ['oof_place', 'oof_box_laws'], [
         ('oof_place/specs/Placing.antt', 'container .area .size .width ⊖ x ⊖ size .width', 'container .area .size .width ⊖ x ⊖ size .height'),
         ('oof_place/src/lib.rt', 'x: container.area.size.width - x - size.width,', 'x: container.area.size.width - x - size.height,')]),
 ]
@@ -87,7 +87,7 @@ def laws_and_unfit(errors):
         crate, proof = re.search(r'crates/(\w+)/proofs/(\S+?)\.antt:', line).groups()
         lemma = re.search(r'`([^`]+)`', line).group(1)
         if proof.endswith('Proof'): unfit.append(proof.split('/')[-2])
-        elif proof == 'Laws' or crate in ('axis_laws', 'box_laws'): laws.append(f'{crate}: {lemma}')
+        elif proof == 'Laws' or crate in ('oof_axis_laws', 'oof_box_laws'): laws.append(f'{crate}: {lemma}')
         else: unfit.append(f'{crate}: {lemma}')
     return list(dict.fromkeys(laws)), list(dict.fromkeys(unfit))
 

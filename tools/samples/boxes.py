@@ -1,8 +1,8 @@
 #!/usr/bin/env python3
 """boxes.py ORACLE: writes samples of boxes that taffy 0.15.1 laid out.
 
-  crates/oof_box_replay/stdin           2,000 boxes for the program that replays them on the code
-  crates/oof_box_rows/specs/*.antt      200 boxes for the computed test of the definitions
+  crates/test_oof_box/stdin           2,000 boxes for the program that replays them on the code
+  crates/test_oof_box_rows/specs/*.antt      200 boxes for the computed test of the definitions
 
 ORACLE is a program that runs taffy 0.15.1 on document 01's word records: `ORACLE gen PROFILE SEED COUNT` prints random cases (quarter
 pixels, any float bits, plausible CSS), `ORACLE run` lays them out and prints questions, replies, layouts and the finish. directed.py
@@ -68,14 +68,14 @@ def record(box):
     return w
 
 profiles = (('quarter', 21), ('typical', 22), ('wild', 23), ('directed', 24))
-with open('crates/oof_box_replay/stdin', 'wb') as f:
+with open('crates/test_oof_box/stdin', 'wb') as f:
     for profile, seed in profiles:
         for box in boxes(profile, seed, 500): f.write(struct.pack('<127I', *record(box)))
 
 HEAD = '''-- %d boxes that the Rust laid out (profile %s, seed %d): what was given, asked, replied and found.
 -- Made by tools/samples/boxes.py: edit that, not this. Assumes nothing.
 use mathlib.Core.List.{List, [], _∷_}
-use Rattle.oof_box_rows.specs.Sample.{Sample}
+use Rattle.test_oof_box_rows.specs.Sample.{Sample}
 
 unfoldable pub boxes : List Sample
 boxes =
@@ -89,4 +89,4 @@ for profile, seed in profiles:
     for area, style, cand, asks, replies, layout, finish in boxes(profile, seed, 500)[:50]:
         rows.append('record { area = %s; style = %s; candidate = %s; questions = %s; replies = %s; layout = %s; finish = %s }' % (
             chain(area), chain(style), chain(cand), chain([chain([KINDS[k]] + q) for k, q in asks]), chain([chain(r) for r in replies]), chain(layout), chain(finish)))
-    open('crates/oof_box_rows/specs/%s.antt' % profile.capitalize(), 'w').write(HEAD % (len(rows), profile, seed, '\n    ∷ '.join(rows)))
+    open('crates/test_oof_box_rows/specs/%s.antt' % profile.capitalize(), 'w').write(HEAD % (len(rows), profile, seed, '\n    ∷ '.join(rows)))

@@ -1,5 +1,5 @@
 #!/usr/bin/env python3
-"""Writes the telling screens (screens/, with their lists) and the stored screens of crates/boxlist and crates/boxlist_test.
+"""Writes the telling screens (screens/, with their lists) and the stored screens of crates/boxlist and crates/test_boxlist.
 
     tools/samples/boxlists.py ORACLE     writes all; ORACLE is the program of diff/oracle, which runs the published Rust
     tools/samples/boxlists.py --check    says whether screens/ and the stored screens are what this script makes of them
@@ -200,9 +200,9 @@ def files(lists):
     out['crates/boxlist/stdout'] = lists['incident']
     stored = {**telling, **limits}
     for name, text in stored.items():
-        out['crates/boxlist_test/data/' + name] = text
-    out['crates/boxlist_test/args'] = ''.join(n + '\n' for n in stored).encode()
-    out['crates/boxlist_test/stdout'] = b''.join(b'-- %s\n' % n.encode() + lists[n] for n in stored)
+        out['crates/test_boxlist/data/' + name] = text
+    out['crates/test_boxlist/args'] = ''.join(n + '\n' for n in stored).encode()
+    out['crates/test_boxlist/stdout'] = b''.join(b'-- %s\n' % n.encode() + lists[n] for n in stored)
     out['screens/README.md'] = readme().encode()
     return out
 
@@ -214,14 +214,14 @@ Each `NAME.screen` is a [screen file](../docs/SCREEN-FORMAT.md); `NAME.list` is 
 
     target/bin/boxlist < screens/incident.screen
 
-Numbers are eighths of a pixel. `tools/samples/boxlists.py` writes them; the gate runs each (`crates/boxlist_test`, `tools/run-boxlist`), with the limits of the format.
+Numbers are eighths of a pixel. `tools/samples/boxlists.py` writes them; the gate runs each (`crates/test_boxlist`, `tools/run-boxlist`), with the limits of the format.
 
 """ + ''.join('- `%s`: %s.\n' % (n, t) for n, t in ABOUT.items())
 
 
 def kept():
     """the lists as they are stored"""
-    text = open(os.path.join(root, 'crates/boxlist_test/stdout'), 'rb').read()
+    text = open(os.path.join(root, 'crates/test_boxlist/stdout'), 'rb').read()
     parts = text.split(b'-- ')[1:]
     return {p.split(b'\n', 1)[0].decode(): p.split(b'\n', 1)[1] for p in parts}
 

@@ -1,5 +1,5 @@
 #!/usr/bin/env python3
-"""Writes the sample that crates/placer_replay replays: runs of the Rust with surfaced boxes, and damaged calls between them. A call is
+"""Writes the sample that crates/test_placer replays: runs of the Rust with surfaced boxes, and damaged calls between them. A call is
 damaged by its reply, by words that the host rewrote, by a state that the host forged, or by several of these.
 
     tools/samples/placer.py ORACLE [RUNS]
@@ -14,7 +14,7 @@ import subprocess
 import sys
 
 STYLE, CANDIDATE, LAYOUT = 57, 13, 23
-HERE = pathlib.Path(__file__).resolve().parents[2] / "crates" / "placer_replay"
+HERE = pathlib.Path(__file__).resolve().parents[2] / "crates" / "test_placer"
 NOWHERE = 0xFFFFFFFF
 KINDS = {"both": 0, "width": 1, "height": 2, "layout": 3}
 LENGTHS = [{1, 3, 5}] * 8 + [{1, 5}] * 8 + [{1, 3, 5, 11, 15, 27, 35, 43, 59, 75}] * 6

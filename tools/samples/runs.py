@@ -1,6 +1,6 @@
 #!/usr/bin/env python3
-"""runs.py ORACLE: writes the recorded runs of the computed test of a call, crates/run_rows/specs/Runs.antt, and the test itself,
-crates/run_rows/proofs/Computed.antt, whose `unfolding` line names every definition that a call leans on. Run at the root of the
+"""runs.py ORACLE: writes the recorded runs of the computed test of a call, crates/test_run_rows/specs/Runs.antt, and the test itself,
+crates/test_run_rows/proofs/Computed.antt, whose `unfolding` line names every definition that a call leans on. Run at the root of the
 repository, then `rt fmt`.
 
 ORACLE is a program that runs taffy 0.15.1 on document 01's word records: `ORACLE gen PROFILE SEED COUNT SURFACED` prints random cases
@@ -15,7 +15,7 @@ SEED, SURFACED, MOST, WANTED, UNUSED = 11, 2, 8, 4, 7
 # what is no number stands above all words, as in specs/Script.antt
 NAMED = dict(none=1 << 32, min=1 << 32, max=(1 << 32) + 1)
 KINDS = dict(both=0, width=1, height=2, layout=3)
-FOLDER = 'crates/run_rows/'
+FOLDER = 'crates/test_run_rows/'
 
 def run(args, text=None): return subprocess.run(args, input=text, capture_output=True, text=True, check=True).stdout
 def number(w): return NAMED[w] if w in NAMED else int(w, 0)
@@ -65,7 +65,7 @@ rows = [row for profile in ('quarter', 'typical', 'wild') for row in taken(profi
 open(FOLDER + 'specs/Runs.antt', 'w').write('''-- %d whole runs of the Rust with surfaced boxes (profiles quarter, typical, wild; seed %d).
 -- Made by tools/samples/runs.py: edit that, not this. Assumes nothing.
 use mathlib.Core.List.{List, [], _∷_}
-use Rattle.run_rows.specs.Script.{Run, both, width, height, laid}
+use Rattle.test_run_rows.specs.Script.{Run, both, width, height, laid}
 
 unfoldable pub runs : List Run
 runs =
@@ -75,7 +75,7 @@ runs =
 
 # ---- the test: every definition on the way, by its module; of two names that are alike, the later one is primed
 
-MODULES = '''run_rows Script Runs Readings
+MODULES = '''test_run_rows Script Runs Readings
 util Order Maybe
 geometry Geometry
 style Codes Values Resolve
@@ -84,7 +84,7 @@ style_record Record Check Decode
 tree Static
 tree_record Codes Candidate Layout
 sweep Sweep
-common ScrollableOverflow SizingKeyword
+oof_common ScrollableOverflow SizingKeyword
 oof_axis Axis
 oof_resolve Resolved
 oof_place Placing
@@ -102,7 +102,7 @@ for line in MODULES.split('\n'):
             while here in unfolding: here += '′'
             unfolding.append(here)
             items.append(name if here == name else '%s as %s' % (name, here))
-        own = '·specs' if crate == 'run_rows' else ''
+        own = '·specs' if crate == 'test_run_rows' else ''
         if items: uses.append('use Rattle.%s%s.specs.%s.{%s}' % (crate, own, module, ', '.join(items)))
 
 open(FOLDER + 'proofs/Computed.antt', 'w').write('''-- The definition of a call gives the recorded runs, and the answers that tell the readings apart, by computation.

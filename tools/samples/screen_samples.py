@@ -1,10 +1,10 @@
 #!/usr/bin/env python3
-"""Writes the stored screens of crates/screen_test (data/, args) and what the program is to print on them (stdout).
+"""Writes the stored screens of crates/test_screen (data/, args) and what the program is to print on them (stdout).
 
 A model of its own: it reads with regular expressions and Python's numbers, from document 01's words and nothing of the Rattle code."""
 import os, re, struct, sys
 
-root = os.path.join(os.path.dirname(os.path.abspath(__file__)), '..', '..', 'crates', 'screen_test')
+root = os.path.join(os.path.dirname(os.path.abspath(__file__)), '..', '..', 'crates', 'test_screen')
 
 # ---- the format: c is a code, e a float in eighths
 

@@ -4,9 +4,9 @@ ghost use mathlib.Core.Path.{_≡_};
 ghost use Prim.Native.Nat.{_≤_};
 ghost use lib.ListN.{length};
 ghost use Rattle.boxlist.specs.Input.{bytesOf};
+use boxlist_print::LIST_BYTES;
 use libc::STDIN_FILENO;
 use libc::STDOUT_FILENO;
-use listing::LIST_BYTES;
 use screen::format;
 
 // One byte more than the longest screen: of a longer text no more is read, and it is no screen either.
@@ -44,7 +44,7 @@ fn read_input(text: &mut [u8]) -> Input
 
 fn print_list(text: &[u8]) {
     let mut out = [0u8; LIST_BYTES];
-    let size = listing::list_screen(text, &mut out);
+    let size = boxlist_print::list_screen(text, &mut out);
     let is_written = io::write_all(STDOUT_FILENO, &out[..size]);
     if !is_written {
         os::fail(b"boxlist: standard output");

@@ -1,4 +1,4 @@
--- The three demands of the entries, from their contracts and the theorems of `run`, `oof_box` and `mirror`. Assumes nothing.
+-- The three demands of the entries, from their contracts and the theorems of `run`, `oof_box` and `mirror_run`. Assumes nothing.
 use Prim.Native.Nat.{ℕ, _+_}
 use native.Mathlib.Omega.{arith}
 use native.Mathlib.Nat.{zero-add}
@@ -24,18 +24,18 @@ use Rattle.run.specs.Theorems.{WroteSize, openIn, oneIfAsked, isRefused, askedF
 use Rattle.run.specs.Run.{extentsOf, boxAtHand, opened, replied, takenBy, laidOut}
 use Rattle.run.proofs.Refusals.{refused-reply-keeps, refused-opening-keeps, saying, turn-refused}
 use Rattle.run.proofs.Exactly.{opening-refused-exactly, opening-accepted-exactly, reply-refused-exactly, reply-accepted-exactly, unresolved-exactly}
-use Rattle.listing.proofs.Exactly.{refused-exactly, listed-exactly}
-use Rattle.listing.specs.Rows.{Prints}
-use Rattle.listing.specs.Listing.{printed}
+use Rattle.boxlist_print.proofs.Exactly.{refused-exactly, listed-exactly}
+use Rattle.boxlist_print.specs.Rows.{Prints}
+use Rattle.boxlist_print.specs.Printed.{printed}
 use Rattle.run.proofs.Ways.{ReplyWay, measures, laysOut, reply-way, never-kept}
 use Rattle.run.proofs.Told.{lays-out}
 use Rattle.run.proofs.Questions.{Hoisted, opening-hoisted, reply-hoisted, Bounded, three-at-most, opening-bounded, reply-bounded}
 use Rattle.run.proofs.ByBox.{ForBox, opening-for, reply-for}
 use Rattle.run.proofs.Straight.{straight-run}
-use Rattle.mirror.proofs.Mirror.{mirror}
-use Rattle.mirror.specs.Image.{imageOpening, imageStyles, imageCandidates}
-use Rattle.mirror.specs.Quarter.{QuarterArea, QuarterTable, QuarterCandidates}
-use Rattle.mirror.specs.Runs.{Message, runNext, imageNext, Fair, AllFair, MirroredRuns, unclaimedAtOpening}
+use Rattle.mirror_run.proofs.Mirror.{mirror}
+use Rattle.mirror_run.specs.Image.{imageOpening, imageStyles, imageCandidates}
+use Rattle.mirror_run.specs.Quarter.{QuarterArea, QuarterTable, QuarterCandidates}
+use Rattle.mirror_run.specs.Runs.{Message, runNext, imageNext, Fair, AllFair, MirroredRuns, unclaimedAtOpening}
 use Rattle.demands.specs.Entries.{Opens, RepliesTo, AnyCalls, Takes, Run, RefusedSince, BothRuns}
 use Rattle.demands.specs.Demands.{OpeningDemands, ReplyDemands, AlignmentDemands, ScreenDemands, ThreeQuestionsEach, EqualsStraightRun, SizedLayout, SizeLaw, LaidOutAsAsked, MirrorImage}
 

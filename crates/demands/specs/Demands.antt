@@ -34,13 +34,13 @@ use Rattle.run.specs.Call.{Lent, Outcome, unwritten}
 use Rattle.run.specs.Run.{closed, boxAtHand, extentsOf}
 use Rattle.run.specs.Conditions.{FirstIs, NoneHolds, SideIsUnresolved, openingTests, replyTests}
 use Rattle.run.specs.Theorems.{isRefused, own, StageTellsKind, WroteSize, Turn, Stands, heededIn, courseOf}
-use Rattle.mirror.specs.Image.{imageStyles}
-use Rattle.mirror.specs.Quarter.{QuarterArea, QuarterTable, QuarterCandidates}
-use Rattle.mirror.specs.Runs.{Message, MirroredRuns, unclaimedAtOpening}
-use Rattle.column.specs.Listing.{refusalText}
-use Rattle.listing.specs.Rows.{Prints}
-use Rattle.listing.specs.Listing.{printed}
-use Rattle.listing.specs.Laws.{programTests, IsList}
+use Rattle.mirror_run.specs.Image.{imageStyles}
+use Rattle.mirror_run.specs.Quarter.{QuarterArea, QuarterTable, QuarterCandidates}
+use Rattle.mirror_run.specs.Runs.{Message, MirroredRuns, unclaimedAtOpening}
+use Rattle.boxlist_lines.specs.Lines.{refusalText}
+use Rattle.boxlist_print.specs.Rows.{Prints}
+use Rattle.boxlist_print.specs.Printed.{printed}
+use Rattle.boxlist_print.specs.Laws.{programTests, IsList}
 use Rattle.demands.specs.Entries.{Opens, RepliesTo, AnyCalls, Takes, Run, RefusedSince, BothRuns, AfterEach}
 
 -- ---- Demand 1. "Whoever calls an entry, with any bits in any number and slices of any length, gets its answer (in a run, a question or
@@ -97,7 +97,7 @@ ThreeQuestionsEach =
 -- contracts are equations with the definition, and by it the calls are the straight run (run/specs/Straight.antt) of boxes that each read
 -- straight through (oof_box/specs/Box.antt). This holds after each call, whatever replies were refused before it.
 -- That the definition is CSS's is no theorem. What holds it to CSS: the laws of one axis and of one box (oof_axis/specs/Laws.antt,
--- axis_laws/specs, box_laws/specs), document 01's rows, and the differential runs beside the Rust (docs/DIFFERENCES.md).
+-- oof_axis_laws/specs, oof_box_laws/specs), document 01's rows, and the differential runs beside the Rust (docs/DIFFERENCES.md).
 
 abbrev pub EqualsStraightRun : Type 0
 EqualsStraightRun =
@@ -118,8 +118,8 @@ LaidOutAsAsked =
 
 -- ---- Demand 3. "Take a left-to-right run and its mirror image .. Let the host give both any one list of replies, refused ones included, each
 -- with the state that the last call returned, while nobody else writes the lent words. After opening and after each reply both have given
--- the same question, finish or refusal .." (mirror/specs/Quarter.antt has what is asked of area, styles and candidates,
--- mirror/specs/Runs.antt what is asked of a reply and what the two then have in common)
+-- the same question, finish or refusal .." (mirror_run/specs/Quarter.antt has what is asked of area, styles and candidates,
+-- mirror_run/specs/Runs.antt what is asked of a reply and what the two then have in common)
 
 abbrev pub MirrorImage : Type 0
 MirrorImage =

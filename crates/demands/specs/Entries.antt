@@ -11,8 +11,8 @@ use Rattle.run.specs.declared.State.{State}
 use Rattle.run.specs.Call.{Lent, Outcome, lent, outcome}
 use Rattle.run.specs.Run.{opened, replied}
 use Rattle.run.specs.Theorems.{isRefused, oneIfAsked, askedFor, Heard, Loan, own, other, Turn, Lends}
-use Rattle.mirror.specs.Image.{imageOpening, imageCandidates}
-use Rattle.mirror.specs.Runs.{Message, Fair}
+use Rattle.mirror_run.specs.Image.{imageOpening, imageCandidates}
+use Rattle.mirror_run.specs.Runs.{Message, Fair}
 
 -- ---- A call, and what the host has after it: what was returned, and the words of the slices that it lent.
 
@@ -74,7 +74,7 @@ pub data RefusedSince (styles : List ℕ) (asked : Outcome) : Outcome → Type 0
       → RefusedSince styles asked has
 
 -- ---- A run and its mirror image, side by side: each message is one reply, given to both. What is asked of it is `Fair`
--- (mirror/specs/Runs.antt), by the state that came with it and by what was answered to it.
+-- (mirror_run/specs/Runs.antt), by the state that came with it and by what was answered to it.
 
 pub data BothRuns (o : Opening) (candidates : List ℕ) (lent lent' : Lent) : List Message → Outcome → Outcome → Type 0 where
   opening :

@@ -5,11 +5,11 @@ ghost use mathlib.Core.Path.{_≡_};
 ghost use Rattle.oof_axis.specs.StaticOffset.{staticOffset};
 ghost use Rattle.run.specs.Call.{atEntry, atExit};
 ghost use Rattle.demands.specs.Demands.{OpeningDemands, ReplyDemands, AlignmentDemands, ScreenDemands, Demanded};
+use boxlist_print::LIST_BYTES;
 use geometry::Line;
 use geometry::Point;
 use geometry::Rect;
 use geometry::Size;
-use listing::LIST_BYTES;
 use oof_box::question::Reply;
 use run::Opening;
 use run::State;
@@ -63,7 +63,7 @@ pub fn resolve_static_offset(place: StaticPosition, size: Size, margin: Rect) ->
 pub fn list_screen(text: &[u8], out: &mut [u8; LIST_BYTES]) -> usize
     ensures { λ r. ⌜ ScreenDemands (now (text .entry)) r (now (out .entry)) (now (out .exit)) ⌝ }
 {
-    listing::list_screen(text, out)
+    boxlist_print::list_screen(text, out)
 }
 
 // No code: what is ensured are the theorems over runs.

@@ -14,14 +14,14 @@ use Rattle.tree.specs.declared.layout.AxisStaticEdge.{AxisStaticEdge}
 use Rattle.tree.specs.declared.layout.AxisStaticEdge.the-variants.{Start, Center, End}
 use Rattle.oof_axis.specs.declared.OofAxis.{OofAxis}
 use Rattle.oof_axis.specs.Axis.{centeredBlock, staticBlock, insetBlock, startIsWeaker, repaired, block}
-use Rattle.exact.specs.Integer.{N}
-use Rattle.exact.proofs.Tests.{pick}
-use Rattle.exact.proofs.Exact.{Exact, widen, eighths, zero-exact}
-use Rattle.exact.proofs.Sum.{add-exact, sub-exact}
-use Rattle.exact.proofs.Double.{dbl-exact, half-exact}
-use Rattle.exact.proofs.Compare.{lt-exact, le-exact}
-use Rattle.exact.proofs.Order.{magnitude-exact}
-use Rattle.exact.proofs.Quarters.{MaybeExact}
+use Rattle.util_exact.specs.Integer.{N}
+use Rattle.util_exact.proofs.Tests.{pick}
+use Rattle.util_exact.proofs.Exact.{Exact, widen, eighths, zero-exact}
+use Rattle.util_exact.proofs.Sum.{add-exact, sub-exact}
+use Rattle.util_exact.proofs.Double.{dbl-exact, half-exact}
+use Rattle.util_exact.proofs.Compare.{lt-exact, le-exact}
+use Rattle.util_exact.proofs.Order.{magnitude-exact}
+use Rattle.util_exact.proofs.Quarters.{MaybeExact}
 use Rattle.mirror_axis.proofs.Model.{LineN, AxisN, shape, centeredN, staticN, insetN, endOf, weakerOf, closedN, repairedN, blockN}
 
 pub record LineExact (g b : ℕ) (l : Line) (m : LineN) : Type 0 where

@@ -13,14 +13,14 @@ use Rattle.geometry.specs.Geometry.{_to_, span}
 use Rattle.geometry.specs.declared.Line.{Line}
 use Rattle.oof_axis.specs.declared.OofAxis.{OofAxis}
 use Rattle.oof_axis.specs.Axis.{block, bothInsets, stretchFit, halves, filledMargins, margins}
-use Rattle.exact.specs.Integer.{N}
-use Rattle.exact.proofs.Tests.{pick}
-use Rattle.exact.proofs.Exact.{Exact, widen, eighths, zero-exact}
-use Rattle.exact.proofs.Sum.{add-exact, sub-exact}
-use Rattle.exact.proofs.Double.{half-exact}
-use Rattle.exact.proofs.Compare.{lt-exact}
-use Rattle.exact.proofs.Order.{larger-exact}
-use Rattle.exact.proofs.Quarters.{MaybeExact}
+use Rattle.util_exact.specs.Integer.{N}
+use Rattle.util_exact.proofs.Tests.{pick}
+use Rattle.util_exact.proofs.Exact.{Exact, widen, eighths, zero-exact}
+use Rattle.util_exact.proofs.Sum.{add-exact, sub-exact}
+use Rattle.util_exact.proofs.Double.{half-exact}
+use Rattle.util_exact.proofs.Compare.{lt-exact}
+use Rattle.util_exact.proofs.Order.{larger-exact}
+use Rattle.util_exact.proofs.Quarters.{MaybeExact}
 use Rattle.mirror_axis.proofs.Model.{LineN, _toN_, spanN, AxisN, shape, blockN, fills, orZeroN, stretchFitN, halvesN, filledN, marginsIn, marginsN}
 use Rattle.mirror_axis.proofs.ExactBlock.{LineExact, ExactAxis, block-exact}
 

@@ -20,15 +20,15 @@ use Rattle.oof_axis.specs.declared.OofAlignment.{OofAlignment}
 use Rattle.oof_axis.specs.declared.OofAlignment.the-variants as align
 use Rattle.oof_axis.specs.declared.OofAxis.{OofAxis}
 use Rattle.oof_axis.specs.Axis.{alignIn, alignEdge, isNormal, limit, keptWithin, selfAligned, staticAligned, positionIn, position, placement}
-use Rattle.exact.specs.Integer.{N, addN}
-use Rattle.exact.proofs.Tests.{pick}
-use Rattle.exact.proofs.Integers.{subN, maxN, minN, ltN}
-use Rattle.exact.proofs.Exact.{Exact, widen, eighths, any, zero-exact}
-use Rattle.exact.proofs.Sum.{add-exact, sub-exact}
-use Rattle.exact.proofs.Double.{half-exact}
-use Rattle.exact.proofs.Compare.{lt-exact, le-exact}
-use Rattle.exact.proofs.Order.{larger-exact, smaller-exact}
-use Rattle.exact.proofs.Infinite.{inf-less, less-inf, le-inf, smaller-inf, larger-inf}
+use Rattle.util_exact.specs.Integer.{N, addN}
+use Rattle.util_exact.proofs.Tests.{pick}
+use Rattle.util_exact.proofs.Integers.{subN, maxN, minN, ltN}
+use Rattle.util_exact.proofs.Exact.{Exact, widen, eighths, any, zero-exact}
+use Rattle.util_exact.proofs.Sum.{add-exact, sub-exact}
+use Rattle.util_exact.proofs.Double.{half-exact}
+use Rattle.util_exact.proofs.Compare.{lt-exact, le-exact}
+use Rattle.util_exact.proofs.Order.{larger-exact, smaller-exact}
+use Rattle.util_exact.proofs.Infinite.{inf-less, less-inf, le-inf, smaller-inf, larger-inf}
 use Rattle.mirror_axis.proofs.Model.{LineN, spanN, AxisN, shape, fills, startOf, alignN, alignOf, limitN, keptN, limitedN, selfN, staticPlaceN, boxN, positionN, placeN}
 use Rattle.mirror_axis.proofs.ExactBlock.{LineExact, widen-line, ExactAxis, block-exact}
 use Rattle.mirror_axis.proofs.ExactMargins.{marginBound, margins-exact}

@@ -22,9 +22,9 @@ use Rattle.oof_axis.specs.declared.OofAlignment.{OofAlignment}
 use Rattle.oof_axis.specs.declared.OofAlignment.the-variants as align
 use Rattle.oof_axis.specs.declared.OofAxis.{OofAxis}
 use Rattle.oof_axis.specs.Axis.{alignIn, centeredBlock, staticBlock, insetBlock, startIsWeaker, repaired, block, bothInsets, stretchFit, halves, filledMargins, margins, isNormal, alignEdge, limit, keptWithin, selfAligned, staticAligned, positionIn, position, placement}
-use Rattle.exact.specs.Integer.{N, zeroN}
-use Rattle.exact.specs.Value.{AddUp, Quarters}
-use Rattle.exact.proofs.Laws.{one-total}
+use Rattle.util_exact.specs.Integer.{N, zeroN}
+use Rattle.util_exact.specs.Value.{AddUp, Quarters}
+use Rattle.util_exact.proofs.Laws.{one-total}
 use Rattle.mirror_axis.specs.Image.{image, exchanged, reflected, reflectedPlace, otherAlign, otherEdge}
 use Rattle.mirror_axis.specs.Law.{Mirrored}
 use Rattle.mirror_axis.proofs.Law.{quarter-mirror}

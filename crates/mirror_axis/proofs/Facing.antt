@@ -10,12 +10,12 @@ use Rattle.geometry.specs.declared.Line.{Line}
 use Rattle.oof_axis.specs.declared.OofAlignment.{OofAlignment}
 use Rattle.oof_axis.specs.declared.OofAxis.{OofAxis}
 use Rattle.oof_axis.specs.Axis.{block, bothInsets, stretchFit, stretching, stretches, isStretch, placement}
-use Rattle.exact.specs.Integer.{N, addN}
-use Rattle.exact.proofs.Tests.{and-commute}
-use Rattle.exact.proofs.Integers.{Multiple, subN, add-mult, even-of}
-use Rattle.exact.proofs.Exact.{Exact}
-use Rattle.exact.proofs.Sum.{sub-exact}
-use Rattle.exact.proofs.Same.{Same, same}
+use Rattle.util_exact.specs.Integer.{N, addN}
+use Rattle.util_exact.proofs.Tests.{and-commute}
+use Rattle.util_exact.proofs.Integers.{Multiple, subN, add-mult, even-of}
+use Rattle.util_exact.proofs.Exact.{Exact}
+use Rattle.util_exact.proofs.Sum.{sub-exact}
+use Rattle.util_exact.proofs.Same.{Same, same}
 use Rattle.mirror_axis.proofs.Model.{LineN, spanN, AxisN, Shape, shape, fills, blockN, stretchFitN, marginsN, placeN}
 use Rattle.mirror_axis.proofs.ExactBlock.{LineExact, widen-line, ExactAxis, block-exact}
 use Rattle.mirror_axis.proofs.ExactMargins.{marginBound, span-exact, stretch-exact, margins-exact}

@@ -6,9 +6,9 @@ use native.Mathlib.Omega.{arith}
 use borrow.Author.Tests.{leb-true, leb-false}
 use Rattle.tree.specs.declared.layout.AxisStaticEdge.{AxisStaticEdge}
 use Rattle.tree.specs.declared.layout.AxisStaticEdge.the-variants.{Start, Center, End}
-use Rattle.exact.specs.Integer.{N, zeroN, addN, EqN}
-use Rattle.exact.proofs.Tests.{pick, ltb-same}
-use Rattle.exact.proofs.Integers.{subN, dblN, halfN, magN, leN, mag-cong, Multiple, half-twice}
+use Rattle.util_exact.specs.Integer.{N, zeroN, addN, EqN}
+use Rattle.util_exact.proofs.Tests.{pick, ltb-same}
+use Rattle.util_exact.proofs.Integers.{subN, dblN, halfN, magN, leN, mag-cong, Multiple, half-twice}
 use Rattle.mirror_axis.specs.Image.{otherEdge}
 use Rattle.mirror_axis.proofs.Model.{LineN, _toN_, AxisN, Shape, centeredN, staticN, insetN, weakerOf, closedN, repairedN, blockN}
 

@@ -3,9 +3,9 @@ use mathlib.Core.Path.{_≡_, refl, ap}
 use mathlib.Core.Bool.{Bool, true, false, not, _&&_, cond, true≢false, false≢true}
 use native.Mathlib.Omega.{arith}
 use borrow.Author.Tests.{not-true}
-use Rattle.exact.specs.Integer.{N, zeroN, addN, EqN}
-use Rattle.exact.proofs.Tests.{pick, and-commute}
-use Rattle.exact.proofs.Integers.{subN, halfN, maxN, ltN, lt-cong, Multiple, recast-mult, half-twice, half-cong}
+use Rattle.util_exact.specs.Integer.{N, zeroN, addN, EqN}
+use Rattle.util_exact.proofs.Tests.{pick, and-commute}
+use Rattle.util_exact.proofs.Integers.{subN, halfN, maxN, ltN, lt-cong, Multiple, recast-mult, half-twice, half-cong}
 use Rattle.mirror_axis.proofs.Model.{LineN, _toN_, spanN, AxisN, Shape, blockN, orZeroN, stretchFitN, halvesN, filledN, fills, marginsIn}
 use Rattle.mirror_axis.proofs.FlipBlock.{Flip, imageN, imageShape}
 

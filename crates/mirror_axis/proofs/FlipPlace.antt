@@ -11,9 +11,9 @@ use Rattle.tree.specs.declared.layout.AxisStaticEdge.the-variants.{Start, Cente
 use Rattle.oof_axis.specs.declared.OofAlignment.{OofAlignment}
 use Rattle.oof_axis.specs.declared.OofAlignment.the-variants as align
 use Rattle.oof_axis.specs.Axis.{isNormal}
-use Rattle.exact.specs.Integer.{N, zeroN, addN, EqN}
-use Rattle.exact.proofs.Tests.{pick, pick-when, and-commute}
-use Rattle.exact.proofs.Integers.{subN, halfN, maxN, minN, ltN, leN, lt-cong, le-cong, Multiple, add-mult, sub-mult, zero-mult, min-mult, max-mult, half-twice}
+use Rattle.util_exact.specs.Integer.{N, zeroN, addN, EqN}
+use Rattle.util_exact.proofs.Tests.{pick, pick-when, and-commute}
+use Rattle.util_exact.proofs.Integers.{subN, halfN, maxN, minN, ltN, leN, lt-cong, le-cong, Multiple, add-mult, sub-mult, zero-mult, min-mult, max-mult, half-twice}
 use Rattle.mirror_axis.specs.Image.{otherEdge}
 use Rattle.mirror_axis.proofs.Model.{LineN, spanN, AxisN, Shape, fills, startOf, alignN, alignOf, limitN, keptN, limitedN, selfN, staticPlaceN, boxN, positionN}
 use Rattle.mirror_axis.proofs.FlipBlock.{Flip, flipped, imageN, imageShape}

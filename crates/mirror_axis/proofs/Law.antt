@@ -6,13 +6,13 @@ use lib.Dec.{ltb, ltb→lt}
 use lib.Ieee.{Float}
 use Rattle.util.specs.Number.{0f}
 use Rattle.oof_axis.specs.declared.OofAxis.{OofAxis}
-use Rattle.exact.specs.Value.{_≐_}
-use Rattle.exact.proofs.Exact.{widen, zero-exact}
-use Rattle.exact.proofs.Sum.{sub-exact}
-use Rattle.exact.proofs.Compare.{same-number}
-use Rattle.exact.proofs.Quarters.{units, quarters-exact, maybeUnits, maybe-exact}
-use Rattle.exact.proofs.Same.{Same, same-quarters, equal, turned}
-use Rattle.exact.proofs.AddUp.{two-add-up, three-add-up}
+use Rattle.util_exact.specs.Value.{_≐_}
+use Rattle.util_exact.proofs.Exact.{widen, zero-exact}
+use Rattle.util_exact.proofs.Sum.{sub-exact}
+use Rattle.util_exact.proofs.Compare.{same-number}
+use Rattle.util_exact.proofs.Quarters.{units, quarters-exact, maybeUnits, maybe-exact}
+use Rattle.util_exact.proofs.Same.{Same, same-quarters, equal, turned}
+use Rattle.util_exact.proofs.AddUp.{two-add-up, three-add-up}
 use Rattle.mirror_axis.specs.Image.{image, exchanged, reflected, reflectedPlace, otherAlign}
 use Rattle.mirror_axis.specs.Law.{Bounded, Mirrored, AxisMirror, QuarterMirror}
 use Rattle.mirror_axis.proofs.Model.{_toN_, AxisN}

@@ -10,8 +10,8 @@ use Rattle.oof_axis.specs.declared.OofAlignment.{OofAlignment}
 use Rattle.oof_axis.specs.declared.OofAlignment.the-variants as align
 use Rattle.oof_axis.specs.declared.OofAxis.{OofAxis}
 use Rattle.oof_axis.specs.Axis.{isNormal}
-use Rattle.exact.specs.Integer.{N, zeroN, addN}
-use Rattle.exact.proofs.Integers.{subN, dblN, halfN, maxN, minN, magN, ltN, leN}
+use Rattle.util_exact.specs.Integer.{N, zeroN, addN}
+use Rattle.util_exact.proofs.Integers.{subN, dblN, halfN, maxN, minN, magN, ltN, leN}
 
 pub record LineN : Type 0 where
   pub start : N

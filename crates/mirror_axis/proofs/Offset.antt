@@ -12,13 +12,13 @@ use Rattle.tree.specs.declared.layout.AxisStaticEdge.{AxisStaticEdge}
 use Rattle.tree.specs.declared.layout.AxisStaticPosition.{AxisStaticPosition}
 use Rattle.oof_axis.specs.Axis.{alignIn}
 use Rattle.oof_axis.specs.StaticOffset.{offsetEdge, axisOffset}
-use Rattle.exact.specs.Integer.{N, addN, EqN}
-use Rattle.exact.proofs.Integers.{Multiple, add-mult, even-of, ltN, lt-cong}
-use Rattle.exact.proofs.Exact.{Exact, widen, eighths}
-use Rattle.exact.proofs.Sum.{sub-exact}
-use Rattle.exact.proofs.Compare.{lt-exact}
-use Rattle.exact.proofs.Quarters.{units, quarters-exact}
-use Rattle.exact.proofs.AddUp.{three-add-up}
+use Rattle.util_exact.specs.Integer.{N, addN, EqN}
+use Rattle.util_exact.proofs.Integers.{Multiple, add-mult, even-of, ltN, lt-cong}
+use Rattle.util_exact.proofs.Exact.{Exact, widen, eighths}
+use Rattle.util_exact.proofs.Sum.{sub-exact}
+use Rattle.util_exact.proofs.Compare.{lt-exact}
+use Rattle.util_exact.proofs.Quarters.{units, quarters-exact}
+use Rattle.util_exact.proofs.AddUp.{three-add-up}
 use Rattle.mirror_axis.specs.Image.{otherEdge, otherAlign, reflected, reflectedPlace}
 use Rattle.mirror_axis.specs.Law.{OffsetMirror}
 use Rattle.mirror_axis.proofs.Model.{LineN, _toN_, spanN, alignN, boxN}

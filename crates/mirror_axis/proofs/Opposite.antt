@@ -8,15 +8,15 @@ use lib.Ieee.{Float}
 use Rattle.util.specs.Number.{_⊕_, _⊖_, _⊗_, 0f, 2f}
 use Rattle.util.specs.declared.math.MaybeF32.{MaybeF32}
 use Rattle.oof_axis.specs.declared.OofAxis.{OofAxis}
-use Rattle.exact.specs.Integer.{N, zeroN}
-use Rattle.exact.specs.Value.{_≐_}
-use Rattle.exact.proofs.Integers.{subN}
-use Rattle.exact.proofs.Exact.{Exact, recast, reach, tighten, finer, zero-exact}
-use Rattle.exact.proofs.Sum.{add-exact, sub-exact}
-use Rattle.exact.proofs.Double.{dbl-exact}
-use Rattle.exact.proofs.Compare.{same-number}
-use Rattle.exact.proofs.Same.{Same, MaybeSame, given, absent, present-same}
-use Rattle.exact.proofs.Quarters.{MaybeExact}
+use Rattle.util_exact.specs.Integer.{N, zeroN}
+use Rattle.util_exact.specs.Value.{_≐_}
+use Rattle.util_exact.proofs.Integers.{subN}
+use Rattle.util_exact.proofs.Exact.{Exact, recast, reach, tighten, finer, zero-exact}
+use Rattle.util_exact.proofs.Sum.{add-exact, sub-exact}
+use Rattle.util_exact.proofs.Double.{dbl-exact}
+use Rattle.util_exact.proofs.Compare.{same-number}
+use Rattle.util_exact.proofs.Same.{Same, MaybeSame, given, absent, present-same}
+use Rattle.util_exact.proofs.Quarters.{MaybeExact}
 use Rattle.mirror_axis.specs.Image.{otherEdge}
 use Rattle.mirror_axis.proofs.Model.{_toN_}
 use Rattle.mirror_axis.proofs.FlipBlock.{NotZero}

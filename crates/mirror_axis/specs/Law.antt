@@ -13,7 +13,7 @@ use Rattle.tree.specs.declared.layout.AxisStaticPosition.{AxisStaticPosition}
 use Rattle.oof_axis.specs.Axis.{block, stretchFit, stretches, placement}
 use Rattle.oof_axis.specs.StaticOffset.{axisOffset}
 use Rattle.oof_axis.specs.declared.OofAxis.{OofAxis}
-use Rattle.exact.specs.Value.{_≐_, AddUp, Quarters, MaybeQuarters}
+use Rattle.util_exact.specs.Value.{_≐_, AddUp, Quarters, MaybeQuarters}
 use Rattle.mirror_axis.specs.Image.{image, reflectedPlace}
 
 -- whole quarter pixels: the area's size, insets and margins of L quarters at most, the static area of A

@@ -12,9 +12,9 @@ use Rattle.geometry.specs.declared.Rect.{Rect}
 use Rattle.geometry.specs.declared.Size.{Size}
 use Rattle.style.specs.declared.Contain.{Contain}
 use Rattle.style.specs.declared.OverflowPoint.{OverflowPoint}
-use Rattle.common.specs.ScrollableOverflow.{propagates, reach, placedAt, contribution}
-use Rattle.exact.proofs.Tests.{pick}
-use Rattle.exact.proofs.Same.{Same, quarters-same, widen-same, any-same, zero-same, add-same, smaller-same, larger-same, le-same, equal}
+use Rattle.oof_common.specs.ScrollableOverflow.{propagates, reach, placedAt, contribution}
+use Rattle.util_exact.proofs.Tests.{pick}
+use Rattle.util_exact.proofs.Same.{Same, quarters-same, widen-same, any-same, zero-same, add-same, smaller-same, larger-same, le-same, equal}
 use Rattle.mirror_box.specs.Quarter.{QuarterOverflow}
 use Rattle.mirror_box.specs.Mirrored.{SameRect}
 use Rattle.mirror_box.proofs.Bounds.{fitBound, originBound, reachBound}

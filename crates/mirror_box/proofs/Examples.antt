@@ -35,8 +35,8 @@ use Rattle.tree.specs.declared.layout.OofCandidate.{OofCandidate}
 use Rattle.oof_axis.specs.Axis.{fromResolved, alignIn, centeredBlock, staticBlock, insetBlock, startIsWeaker, repaired, block, bothInsets, stretchFit, stretching, stretches, isStretch, halves, filledMargins, margins, isNormal, alignEdge, limit, keptWithin, selfAligned, staticAligned, positionIn, position, placement}
 use Rattle.oof_resolve.specs.Resolved.{ofWidth, ofEachAxis, lessOffset, horizontal, vertical, paddingOrBorder, styleSize, minSize, lessMargins, spaceFor, resolvedBox}
 use Rattle.oof_resolve.specs.declared.ContainingBlock.{ContainingBlock}
-use Rattle.common.specs.SizingKeyword.{byKeyword, ofResolved, keywordOf, absoluteStretch, ifAbsent, keywordsOf}
-use Rattle.common.specs.ScrollableOverflow.{propagates, reach, placedAt, contribution}
+use Rattle.oof_common.specs.SizingKeyword.{byKeyword, ofResolved, keywordOf, absoluteStretch, ifAbsent, keywordsOf}
+use Rattle.oof_common.specs.ScrollableOverflow.{propagates, reach, placedAt, contribution}
 use Rattle.oof_box.specs.Box.{keywordStretch, sizeKeywords, settled, ignoresRatio, stretchRatio, widened, heightened, raisedMin, stretched, finalSize}
 use Rattle.oof_place.specs.Placing.{scrollbarOf, layoutOf, fromOrigin, boxLayout}
 use Rattle.oof_box.specs.Cut.{noReplies, knownBy, stretchedBy, sizeBy, layoutAfter}
@@ -44,7 +44,7 @@ use Rattle.oof_place.specs.declared.OofBoxLayout.{OofBoxLayout}
 use Rattle.oof_box.specs.declared.question.KeywordReply.the-variants as reply
 use Rattle.oof_box.specs.declared.question.FillReply.the-variants as fill
 use Rattle.oof_box.specs.declared.question.Replies.{Replies}
-use Rattle.exact.specs.Value.{Quarter}
+use Rattle.util_exact.specs.Value.{Quarter}
 use Rattle.mirror_axis.specs.Image.{reflected, reflectedPlace, otherAlign, otherEdge}
 use Rattle.mirror_box.specs.Image.{otherDirection, exchangedLengths, imageContainer, imageStyle, edgeSum, imageCandidate}
 use Rattle.mirror_box.specs.Quarter.{QuarterContainer, QuarterCandidate}

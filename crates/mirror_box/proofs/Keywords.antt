@@ -18,19 +18,19 @@ use Rattle.style.specs.declared.resolve.SizingKeyword.{SizingKeyword}
 use Rattle.style.specs.declared.resolve.SizingKeyword.the-variants as keyword
 use Rattle.style.specs.declared.resolve.Resolved.{Resolved}
 use Rattle.style.specs.declared.resolve.Resolved.the-variants.{NotAllowed, Absent, Length, Keyword}
-use Rattle.common.specs.SizingKeyword.{byKeyword, ofResolved, keywordOf, absoluteStretch, ifAbsent, keywordsOf}
-use Rattle.common.specs.declared.sizing_keyword.SizingKeywordResolution.{SizingKeywordResolution}
-use Rattle.common.specs.declared.sizing_keyword.SizingKeywordResolution.the-variants.{NoKeyword, Exact, Measure}
-use Rattle.common.specs.declared.sizing_keyword.SizingKeywords.{SizingKeywords}
+use Rattle.oof_common.specs.SizingKeyword.{byKeyword, ofResolved, keywordOf, absoluteStretch, ifAbsent, keywordsOf}
+use Rattle.oof_common.specs.declared.sizing_keyword.SizingKeywordResolution.{SizingKeywordResolution}
+use Rattle.oof_common.specs.declared.sizing_keyword.SizingKeywordResolution.the-variants.{NoKeyword, Exact, Measure}
+use Rattle.oof_common.specs.declared.sizing_keyword.SizingKeywords.{SizingKeywords}
 use Rattle.oof_axis.specs.declared.OofAxis.{OofAxis}
 use Rattle.oof_resolve.specs.declared.ResolvedBox.{ResolvedBox}
 use Rattle.oof_box.specs.Box.{keywordStretch, sizeKeywords, isKeyword, settled}
 use Rattle.oof_box.specs.Cut.{measuredWidth, sideBy, knownBy}
 use Rattle.oof_box.specs.declared.question.KeywordReply.{KeywordReply}
 use Rattle.oof_box.specs.declared.question.KeywordReply.the-variants as reply
-use Rattle.exact.proofs.Tests.{pick}
-use Rattle.exact.proofs.Sum.{sub-exact}
-use Rattle.exact.proofs.Same.{Same, same, MaybeSame, given, absent, quarters-same, widen-same, zero-same, larger-same}
+use Rattle.util_exact.proofs.Tests.{pick}
+use Rattle.util_exact.proofs.Sum.{sub-exact}
+use Rattle.util_exact.proofs.Same.{Same, same, MaybeSame, given, absent, quarters-same, widen-same, zero-same, larger-same}
 use Rattle.mirror_axis.proofs.Opposite.{Opposite}
 use Rattle.mirror_box.specs.Image.{imageStyle}
 use Rattle.mirror_box.specs.Quarter.{QuarterLength, QuarterStyle, QuarterKeyword}

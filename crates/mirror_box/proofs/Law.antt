@@ -6,7 +6,7 @@ use Rattle.style.specs.declared.Direction.the-variants.{Ltr, Rtl}
 use Rattle.oof_resolve.specs.Resolved.{horizontal, resolvedBox}
 use Rattle.oof_place.specs.Placing.{boxLayout}
 use Rattle.oof_box.specs.Cut.{askedAfter, layoutAfter}
-use Rattle.exact.proofs.Quarters.{units, quarters-exact}
+use Rattle.util_exact.proofs.Quarters.{units, quarters-exact}
 use Rattle.mirror_axis.specs.Image.{reflected, reflectedPlace}
 use Rattle.mirror_box.specs.Image.{otherDirection, exchangedLengths, edgeSum, imageContainer, imageStyle, imageCandidate}
 use Rattle.mirror_box.specs.Law.{AsksMirrored, LaysOutMirrored, UnionsMirrored, ImageIsExact, TwiceIsOnce}

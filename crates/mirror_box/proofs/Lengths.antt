@@ -13,8 +13,8 @@ use Rattle.style.specs.declared.resolve.SizingKeyword.{SizingKeyword}
 use Rattle.style.specs.declared.resolve.SizingKeyword.the-variants as keyword
 use Rattle.style.specs.declared.resolve.Resolved.{Resolved}
 use Rattle.style.specs.declared.resolve.Resolved.the-variants.{NotAllowed, Absent, Length, Keyword}
-use Rattle.exact.specs.Value.{Quarter, MaybeQuarters}
-use Rattle.exact.proofs.Same.{MaybeSame, maybe-quarters-same}
+use Rattle.util_exact.specs.Value.{Quarter, MaybeQuarters}
+use Rattle.util_exact.proofs.Same.{MaybeSame, maybe-quarters-same}
 use Rattle.mirror_box.specs.Quarter.{ruleOf, Keeps, QuarterLength}
 use Rattle.mirror_box.proofs.Bounds.{lengthBound}
 

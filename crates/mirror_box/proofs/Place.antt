@@ -19,13 +19,13 @@ use Rattle.oof_axis.specs.declared.AxisPlacement.{AxisPlacement}
 use Rattle.oof_resolve.specs.declared.ContainingBlock.{ContainingBlock}
 use Rattle.oof_resolve.specs.declared.ResolvedBox.{ResolvedBox}
 use Rattle.oof_place.specs.Placing.{layoutOf, fromOrigin}
-use Rattle.exact.specs.Integer.{N, zeroN, addN}
-use Rattle.exact.proofs.Integers.{subN}
-use Rattle.exact.specs.Value.{Total, Quarter}
-use Rattle.exact.proofs.Exact.{Exact, sixteenths, recast, widen, any}
-use Rattle.exact.proofs.Sum.{add-exact, sub-exact}
-use Rattle.exact.proofs.Quarters.{units, quarters-exact}
-use Rattle.exact.proofs.Same.{Same, same, equal}
+use Rattle.util_exact.specs.Integer.{N, zeroN, addN}
+use Rattle.util_exact.proofs.Integers.{subN}
+use Rattle.util_exact.specs.Value.{Total, Quarter}
+use Rattle.util_exact.proofs.Exact.{Exact, sixteenths, recast, widen, any}
+use Rattle.util_exact.proofs.Sum.{add-exact, sub-exact}
+use Rattle.util_exact.proofs.Quarters.{units, quarters-exact}
+use Rattle.util_exact.proofs.Same.{Same, same, equal}
 use Rattle.mirror_axis.proofs.Facing.{Filled, start-is-end, end-is-start, positions}
 use Rattle.mirror_box.specs.Image.{otherDirection, imageContainer, imageStyle}
 use Rattle.mirror_box.specs.Quarter.{QuarterContainer}

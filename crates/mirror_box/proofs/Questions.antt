@@ -8,17 +8,17 @@ use Rattle.geometry.specs.declared.Size.{Size}
 use Rattle.style.specs.declared.Style.{Style}
 use Rattle.style.specs.declared.available_space.AvailableSpace.{AvailableSpace}
 use Rattle.style.specs.declared.available_space.AvailableSpace.the-variants.{Definite}
-use Rattle.common.specs.declared.sizing_keyword.SizingKeywordResolution.{SizingKeywordResolution}
-use Rattle.common.specs.declared.sizing_keyword.SizingKeywordResolution.the-variants.{NoKeyword, Exact, Measure}
-use Rattle.common.specs.declared.sizing_keyword.SizingKeywords.{SizingKeywords}
+use Rattle.oof_common.specs.declared.sizing_keyword.SizingKeywordResolution.{SizingKeywordResolution}
+use Rattle.oof_common.specs.declared.sizing_keyword.SizingKeywordResolution.the-variants.{NoKeyword, Exact, Measure}
+use Rattle.oof_common.specs.declared.sizing_keyword.SizingKeywords.{SizingKeywords}
 use Rattle.oof_resolve.specs.declared.ResolvedBox.{ResolvedBox}
 use Rattle.oof_box.specs.Cut.{bothAsked, widthAsked, heightAsked, keywordAsked, fillGiven, isFirst, orLater, sizeAsked, askedOf}
 use Rattle.oof_box.specs.declared.dialogue.KeywordQuestion.{KeywordQuestion}
 use Rattle.oof_box.specs.declared.dialogue.KeywordQuestion.the-variants as asks
 use Rattle.oof_box.specs.declared.question.Asked.{Asked}
 use Rattle.oof_box.specs.declared.question.Replies.{Replies}
-use Rattle.exact.proofs.Tests.{pick}
-use Rattle.exact.proofs.Same.{MaybeSame, given, unwrap-same}
+use Rattle.util_exact.proofs.Tests.{pick}
+use Rattle.util_exact.proofs.Same.{MaybeSame, given, unwrap-same}
 use Rattle.mirror_box.specs.Image.{imageStyle}
 use Rattle.mirror_box.specs.Quarter.{QuarterStyle, QuarterReplies}
 use Rattle.mirror_box.specs.Mirrored.{none, measureBoth, measureWidth, measureHeight, layOut, SameAsked}

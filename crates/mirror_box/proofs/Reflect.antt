@@ -7,14 +7,14 @@ use native.Mathlib.Omega.{arith}
 use lib.Dec.{lit<}
 use lib.Ieee.{Float}
 use Rattle.util.specs.Number.{_⊕_, _⊖_, _⊗_, 2f}
-use Rattle.exact.specs.Integer.{N, zeroN, addN, EqN}
-use Rattle.exact.specs.Value.{Sixteenths, Total, Quarter}
-use Rattle.exact.proofs.Integers.{Multiple, subN, recast-mult}
-use Rattle.exact.proofs.Exact.{Exact, of-value, sixteenths, recast, reach, tighten, finer}
-use Rattle.exact.proofs.Sum.{add-exact, sub-exact}
-use Rattle.exact.proofs.Double.{dbl-exact}
-use Rattle.exact.proofs.Quarters.{units, quarters-exact}
-use Rattle.exact.proofs.Laws.{one-integer}
+use Rattle.util_exact.specs.Integer.{N, zeroN, addN, EqN}
+use Rattle.util_exact.specs.Value.{Sixteenths, Total, Quarter}
+use Rattle.util_exact.proofs.Integers.{Multiple, subN, recast-mult}
+use Rattle.util_exact.proofs.Exact.{Exact, of-value, sixteenths, recast, reach, tighten, finer}
+use Rattle.util_exact.proofs.Sum.{add-exact, sub-exact}
+use Rattle.util_exact.proofs.Double.{dbl-exact}
+use Rattle.util_exact.proofs.Quarters.{units, quarters-exact}
+use Rattle.util_exact.proofs.Laws.{one-integer}
 use Rattle.mirror_axis.proofs.Opposite.{Across}
 use Rattle.mirror_box.proofs.Bounds.{lengthBound, staticBound}
 

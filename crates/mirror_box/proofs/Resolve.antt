@@ -25,10 +25,10 @@ use Rattle.oof_axis.specs.Axis.{fromResolved, stretchFit}
 use Rattle.oof_resolve.specs.Resolved.{ofWidth, ofEachAxis, lessOffset, horizontal, vertical, paddingOrBorder, styleSize, minSize, lessMargins, spaceFor, resolvedBox}
 use Rattle.oof_resolve.specs.declared.ContainingBlock.{ContainingBlock}
 use Rattle.oof_resolve.specs.declared.ResolvedBox.{ResolvedBox}
-use Rattle.exact.proofs.Commute.{add-commute}
-use Rattle.exact.proofs.Tests.{pick}
-use Rattle.exact.proofs.Quarters.{units, quarters-exact}
-use Rattle.exact.proofs.Same.{Same, MaybeSame, quarters-same, zero-same, add-same, sub-same, larger-same, unwrap-same}
+use Rattle.util_exact.proofs.Commute.{add-commute}
+use Rattle.util_exact.proofs.Tests.{pick}
+use Rattle.util_exact.proofs.Quarters.{units, quarters-exact}
+use Rattle.util_exact.proofs.Same.{Same, MaybeSame, quarters-same, zero-same, add-same, sub-same, larger-same, unwrap-same}
 use Rattle.mirror_axis.specs.Image.{otherAlign}
 use Rattle.mirror_axis.proofs.Opposite.{Opposite, opposite-faces}
 use Rattle.mirror_axis.proofs.Facing.{Facing, stretch-shared}

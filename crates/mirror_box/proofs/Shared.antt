@@ -14,7 +14,7 @@ use Rattle.style.specs.Values.{clampedSpace, clampedSpaces, definiteSpaces}
 use Rattle.style.specs.declared.available_space.AvailableSpace.{AvailableSpace}
 use Rattle.style.specs.declared.available_space.AvailableSpace.the-variants.{Definite, MinContent, MaxContent}
 use Rattle.style.specs.declared.available_space.AvailableSize.{AvailableSize}
-use Rattle.exact.proofs.Same.{Same, MaybeSame, given, absent, widen-same, zero-same, smaller-same, equal, present-same, else-same, unwrap-same, mapAdd-same, mapLarger-same, clamped-same, mapClamped-same}
+use Rattle.util_exact.proofs.Same.{Same, MaybeSame, given, absent, widen-same, zero-same, smaller-same, equal, present-same, else-same, unwrap-same, mapAdd-same, mapLarger-same, clamped-same, mapClamped-same}
 use Rattle.mirror_box.specs.Mirrored.{SameKnown, known, none, SameSpace, definite as definiteSpace, minContent, maxContent, SameKnownSize, SameAvailableSize, SameSize}
 
 pub data SpaceSame (b : ℕ) : AvailableSpace → AvailableSpace → Type 0 where

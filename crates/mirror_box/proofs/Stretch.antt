@@ -9,7 +9,7 @@ use Rattle.util.specs.declared.math.MaybeF32.{MaybeF32}
 use Rattle.util.specs.declared.math.MaybeF32.the-variants.{None, Some}
 use Rattle.geometry.specs.declared.MaybeSize.{MaybeSize}
 use Rattle.style.specs.declared.Style.{Style}
-use Rattle.common.specs.declared.sizing_keyword.SizingKeywords.{SizingKeywords}
+use Rattle.oof_common.specs.declared.sizing_keyword.SizingKeywords.{SizingKeywords}
 use Rattle.oof_axis.specs.Axis.{stretches}
 use Rattle.oof_axis.specs.declared.OofAxis.{OofAxis}
 use Rattle.oof_resolve.specs.declared.ResolvedBox.{ResolvedBox}
@@ -19,8 +19,8 @@ use Rattle.oof_box.specs.declared.question.FillReply.{FillReply}
 use Rattle.oof_box.specs.declared.question.FillReply.the-variants as fill
 use Rattle.oof_box.specs.declared.question.Replies.{Replies}
 use Rattle.oof_box.specs.declared.sizing.Stretched.{Stretched}
-use Rattle.exact.proofs.Tests.{pick}
-use Rattle.exact.proofs.Same.{Same, MaybeSame, given, quarters-same, widen-same, larger-same, present-same}
+use Rattle.util_exact.proofs.Tests.{pick}
+use Rattle.util_exact.proofs.Same.{Same, MaybeSame, given, quarters-same, widen-same, larger-same, present-same}
 use Rattle.mirror_axis.proofs.Facing.{stretches-shared}
 use Rattle.mirror_box.specs.Image.{imageStyle}
 use Rattle.mirror_box.specs.Quarter.{QuarterStyle, QuarterFill, QuarterReplies}

@@ -10,7 +10,7 @@ use Rattle.util.specs.Order.{larger, smaller}
 use Rattle.util.proofs.Order.{eq-le, le-numbers, le-trans, not-above, equal}
 use Rattle.util.proofs.Laws.{larger-bounds, larger-is-one, smaller-bounds, smaller-is-one}
 use Rattle.geometry.specs.Geometry.{unionOf}
-use Rattle.exact.specs.Value.{_≐_}
+use Rattle.util_exact.specs.Value.{_≐_}
 use Rattle.mirror_box.specs.Law.{UnionsMirrored}
 
 -- ---- equal as numbers: at most, either way

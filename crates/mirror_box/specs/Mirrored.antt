@@ -20,8 +20,8 @@ use Rattle.oof_box.specs.declared.question.Question.{Question}
 use Rattle.oof_box.specs.declared.question.Question.the-variants.{MeasureBoth, MeasureWidth, MeasureHeight, LayOut}
 use Rattle.oof_box.specs.declared.question.Asked.{Asked}
 use Rattle.oof_place.specs.declared.OofBoxLayout.{OofBoxLayout}
-use Rattle.exact.specs.Integer.{N}
-use Rattle.exact.specs.Value.{_≐_, Total}
+use Rattle.util_exact.specs.Integer.{N}
+use Rattle.util_exact.specs.Value.{_≐_, Total}
 use Rattle.mirror_axis.specs.Image.{otherAlign}
 use Rattle.mirror_box.specs.Image.{exchangedRect}
 

@@ -19,7 +19,7 @@ use Rattle.oof_box.specs.declared.question.KeywordReply.the-variants as keyword
 use Rattle.oof_box.specs.declared.question.FillReply.{FillReply}
 use Rattle.oof_box.specs.declared.question.FillReply.the-variants as fill
 use Rattle.oof_box.specs.declared.question.Replies.{Replies}
-use Rattle.exact.specs.Value.{_≐_, Quarter}
+use Rattle.util_exact.specs.Value.{_≐_, Quarter}
 
 -- ---- lengths, by their tag
 

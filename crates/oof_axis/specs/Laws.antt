@@ -1,7 +1,7 @@
 -- What CSS says of one axis, as laws of floats that hold whatever the axis holds, NaN and infinities included: css-position-3
 -- #resolving-insets, #abspos-margins, #abspos-alignment, css-align-3 #auto-safety-position. Each speaks of what comes out (`block`,
 -- `stretchFit`, `stretches`, `placement`) and of no step that leads there, so that a step can't be misread in the law as in the definition.
--- What needs exact sums is stated on whole quarter pixels: axis_laws/specs/Laws.antt. `proofs/Laws.antt` proves each, under its name in
+-- What needs exact sums is stated on whole quarter pixels: oof_axis_laws/specs/Laws.antt. `proofs/Laws.antt` proves each, under its name in
 -- small letters. Assumes nothing.
 use mathlib.Core.Path.{_≡_}
 use mathlib.Core.Bool.{Bool, true, false, _&&_}
@@ -76,7 +76,7 @@ pub record BlockIs (a : OofAxis) (start end : Float) : Type 0 where
 abbrev pub BlockBetweenInsets : Type 0
 BlockBetweenInsets = (a : OofAxis) (x y : Float) → a .inset .start ≡ Some x → a .inset .end ≡ Some y → BlockIs a x (a .size ⊖ y)
 
--- none: the block runs from the static position's edge to the far edge of the area (around its center: axis_laws)
+-- none: the block runs from the static position's edge to the far edge of the area (around its center: oof_axis_laws)
 abbrev pub BlockFromStaticStart : Type 0
 BlockFromStaticStart = (a : OofAxis) → NoInset a → a .place .align .keyword ≡ Start → BlockIs a (a .place .area .start) (a .size)
 
@@ -119,7 +119,7 @@ LoneAutoMarginTakesTheRest =
     → (a .margin .start ≡ Some m → a .margin .end ≡ None → placement a size .margin .end ≡ span (block a) ⊖ size ⊖ m)
     × (a .margin .start ≡ None → a .margin .end ≡ Some m → placement a size .margin .start ≡ span (block a) ⊖ size ⊖ m)
 
--- between two insets, a box with an auto margin begins where the block does (that it ends there too: axis_laws)
+-- between two insets, a box with an auto margin begins where the block does (that it ends there too: oof_axis_laws)
 abbrev pub AutoMarginBeginsWithBlock : Type 0
 AutoMarginBeginsWithBlock =
     (a : OofAxis) (size : Float) → TwoInsets a → present (a .margin .start) && present (a .margin .end) ≡ false
@@ -171,7 +171,7 @@ pub record Overflows (a : OofAxis) (size : Float) : Type 0 where
   pub alignment : a .alignment ≡ align.Normal → ⊥
   pub over : le (marginBox a size) (span (block a)) ≡ false
 
--- it doesn't begin before both the block and the area: left-to-right and in the block axis (in both directions: axis_laws)
+-- it doesn't begin before both the block and the area: left-to-right and in the block axis (in both directions: oof_axis_laws)
 abbrev pub OverflowIsReachable : Type 0
 OverflowIsReachable =
     (a : OofAxis) (size : Float) → Overflows a size → a .reversed ≡ false
@@ -236,6 +236,6 @@ StretchesBetweenInsets =
     → (present (a .inset .start) && present (a .inset .end) ≡ false → stretches a plain ≡ false)
     × (TwoInsets a → stretches a plain ≡ stretchesAs (a .alignment) plain)
 
--- the stretch-fit size is a number, and at least 0, whatever the axis holds (that it fills the block: axis_laws)
+-- the stretch-fit size is a number, and at least 0, whatever the axis holds (that it fills the block: oof_axis_laws)
 abbrev pub StretchFitIsASize : Type 0
 StretchFitIsASize = (a : OofAxis) → (isNan (stretchFit a) ≡ false) × (le 0f (stretchFit a) ≡ true)

@@ -12,9 +12,9 @@ use Rattle.oof_place.specs.Placing.{boxLayout}
 use Rattle.oof_resolve.specs.Resolved.{resolvedBox}
 use Rattle.oof_resolve.specs.declared.ContainingBlock.{ContainingBlock}
 use Rattle.oof_resolve.specs.declared.ResolvedBox.{ResolvedBox}
-use Rattle.common.specs.declared.sizing_keyword.SizingKeywordResolution.{SizingKeywordResolution}
-use Rattle.common.specs.declared.sizing_keyword.SizingKeywordResolution.the-variants.{NoKeyword, Exact, Measure}
-use Rattle.common.specs.declared.sizing_keyword.SizingKeywords.{SizingKeywords}
+use Rattle.oof_common.specs.declared.sizing_keyword.SizingKeywordResolution.{SizingKeywordResolution}
+use Rattle.oof_common.specs.declared.sizing_keyword.SizingKeywordResolution.the-variants.{NoKeyword, Exact, Measure}
+use Rattle.oof_common.specs.declared.sizing_keyword.SizingKeywords.{SizingKeywords}
 use Rattle.oof_box.specs.Talk.{Talk, done, ask, _>>=_, layOut, Laid}
 use Rattle.oof_box.specs.Box.{_by_, keywordStretch, sizeKeywords, settled, bothInput, widthInput, heightInput, widthAs, heightAs, inTurn, byKeywords, keywordSizes, stretched, finalSize, measured, placed, Placed}
 use Rattle.oof_box.specs.Cut.{knownBy}

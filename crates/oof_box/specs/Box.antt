@@ -20,10 +20,10 @@ use Rattle.oof_axis.specs.Axis.{stretches, isStretch}
 use Rattle.oof_resolve.specs.Resolved.{resolvedBox}
 use Rattle.oof_resolve.specs.declared.ContainingBlock.{ContainingBlock}
 use Rattle.oof_resolve.specs.declared.ResolvedBox.{ResolvedBox}
-use Rattle.common.specs.SizingKeyword.{absoluteStretch, keywordsOf}
-use Rattle.common.specs.declared.sizing_keyword.SizingKeywordResolution.{SizingKeywordResolution}
-use Rattle.common.specs.declared.sizing_keyword.SizingKeywordResolution.the-variants.{NoKeyword, Exact, Measure}
-use Rattle.common.specs.declared.sizing_keyword.SizingKeywords.{SizingKeywords}
+use Rattle.oof_common.specs.SizingKeyword.{absoluteStretch, keywordsOf}
+use Rattle.oof_common.specs.declared.sizing_keyword.SizingKeywordResolution.{SizingKeywordResolution}
+use Rattle.oof_common.specs.declared.sizing_keyword.SizingKeywordResolution.the-variants.{NoKeyword, Exact, Measure}
+use Rattle.oof_common.specs.declared.sizing_keyword.SizingKeywords.{SizingKeywords}
 use Rattle.oof_box.specs.declared.question.MeasureInput.{MeasureInput}
 use Rattle.oof_box.specs.Talk.{Talk, done, _>>=_, measureBoth, measureWidth, measureHeight, layOut}
 use Rattle.oof_box.specs.declared.sizing.Stretched.{Stretched}
@@ -109,7 +109,7 @@ byKeywords node NoKeyword tall known stretch = inTurn node NoKeyword tall known 
 byKeywords node (Exact w) tall known stretch = inTurn node (Exact w) tall known stretch
 
 -- an absent side with a keyword is filled; ratio and clamp follow. (The Rust applies both once more where only a known side has a
--- keyword: they change nothing there, by the law `SizeIsSettled` of box_laws.)
+-- keyword: they change nothing there, by the law `SizeIsSettled` of oof_box_laws.)
 unfoldable pub keywordSizes : ℕ → Style → ResolvedBox → SizingKeywords → Talk MaybeSize
 keywordSizes node style box keywords =
     cond (hasKeyword keywords)

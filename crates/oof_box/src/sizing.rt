@@ -8,12 +8,12 @@ ghost use Rattle.oof_box.specs.Cut.{measuredWidth, measuredHeight, sideB
 use crate::question::FillReply;
 use crate::question::KeywordReply;
 use crate::question::Replies;
-use common::sizing_keyword;
-use common::sizing_keyword::SizingKeywordResolution;
-use common::sizing_keyword::SizingKeywords;
 use geometry::MaybeSize;
 use geometry::Size;
 use oof_axis::OofAxis;
+use oof_common::sizing_keyword;
+use oof_common::sizing_keyword::SizingKeywordResolution;
+use oof_common::sizing_keyword::SizingKeywords;
 use oof_resolve::ResolvedBox;
 use style::Style;
 use util::math::MaybeF32;

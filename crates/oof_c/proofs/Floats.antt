@@ -22,7 +22,7 @@ use Rattle.style.specs.declared.Style.{Style}
 use Rattle.tree.specs.declared.layout.OofCandidate.{OofCandidate}
 use Rattle.tree_record.specs.Candidate.{floatAt}
 use Rattle.tree_record.specs.Laws.{FitsSize, FitsRect}
-use Rattle.common.specs.ScrollableOverflow.{propagates, reach, placedAt, contribution}
+use Rattle.oof_common.specs.ScrollableOverflow.{propagates, reach, placedAt, contribution}
 use Rattle.oof_resolve.specs.declared.ContainingBlock.{ContainingBlock}
 use Rattle.oof_place.specs.Placing.{boxLayout}
 use Rattle.oof_box.specs.Cut.{noReplies, taken, layoutAfter}

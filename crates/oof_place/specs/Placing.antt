@@ -15,7 +15,7 @@ use Rattle.tree.specs.declared.layout.OofCandidate.{OofCandidate}
 use Rattle.oof_axis.specs.Axis.{placement}
 use Rattle.oof_resolve.specs.declared.ContainingBlock.{ContainingBlock}
 use Rattle.oof_resolve.specs.declared.ResolvedBox.{ResolvedBox}
-use Rattle.common.specs.ScrollableOverflow.{contribution}
+use Rattle.oof_common.specs.ScrollableOverflow.{contribution}
 use Rattle.oof_place.specs.declared.OofBoxLayout.{OofBoxLayout}
 
 -- the room of a scrollbar, where there is one

@@ -2,10 +2,10 @@
 // scrollable overflow (document 01, "One box", step 7).
 ghost use mathlib.Core.Path.{_≡_};
 ghost use Rattle.oof_place.specs.Placing.{scrollbarOf, layoutOf, fromOrigin, boxLayout};
-use common::scrollable_overflow;
 use geometry::Point;
 use geometry::Rect;
 use geometry::Size;
+use oof_common::scrollable_overflow;
 use oof_resolve::ContainingBlock;
 use oof_resolve::ResolvedBox;
 use style::Overflow;

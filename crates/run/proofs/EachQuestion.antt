@@ -8,8 +8,8 @@ use Rattle.geometry.specs.declared.Size.{Size}
 use Rattle.style.specs.declared.Style.{Style}
 use Rattle.style.specs.declared.available_space.AvailableSize.{AvailableSize}
 use Rattle.tree.specs.declared.layout.OofCandidate.{OofCandidate}
-use Rattle.common.specs.declared.sizing_keyword.SizingKeywordResolution.{SizingKeywordResolution}
-use Rattle.common.specs.declared.sizing_keyword.SizingKeywordResolution.the-variants.{NoKeyword, Exact, Measure}
+use Rattle.oof_common.specs.declared.sizing_keyword.SizingKeywordResolution.{SizingKeywordResolution}
+use Rattle.oof_common.specs.declared.sizing_keyword.SizingKeywordResolution.the-variants.{NoKeyword, Exact, Measure}
 use Rattle.oof_resolve.specs.Resolved.{resolvedBox}
 use Rattle.oof_resolve.specs.declared.ContainingBlock.{ContainingBlock}
 use Rattle.oof_box.specs.Box.{keywordStretch, sizeKeywords}

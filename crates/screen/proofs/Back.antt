@@ -7,8 +7,8 @@ use mathlib.Core.Bool.{Bool, true, false, cond}
 use mathlib.Core.List.{List, [], _∷_, _++_, append-assoc}
 use lib.Dec.{eqb, leb}
 use borrow.Author.Tests.{ne-eqb, le-leb, lt-leb, leb-true, leb-false}
-use Rattle.column.specs.declared.Ink.the-variants.{Digits, Blank}
-use Rattle.column.specs.Column.{cells, cellOf, leftOf}
+use Rattle.boxlist_lines.specs.declared.Ink.the-variants.{Digits, Blank}
+use Rattle.boxlist_lines.specs.Column.{cells, cellOf, leftOf}
 use Rattle.screen.specs.declared.field.Numeral.the-variants.{Malformed, Number}
 use Rattle.screen.specs.Field.{isDigit, unblank, spelled, unsigned, signed, numeralOf}
 

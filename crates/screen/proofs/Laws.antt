@@ -13,8 +13,8 @@ use lib.Ieee.Exact.{HasValue}
 use borrow.Author.Tests.{eqb-true, le-leb, le-ltb}
 use Rattle.util.specs.Eighths.{eighths, floatOfCount}
 use Rattle.util.proofs.Unique.{counts, count-float}
-use Rattle.column.specs.declared.Ink.the-variants.{Digits}
-use Rattle.column.specs.Column.{COLUMN, cells, countInk, codeInk, eighthsText, codeText}
+use Rattle.boxlist_lines.specs.declared.Ink.the-variants.{Digits}
+use Rattle.boxlist_lines.specs.Column.{COLUMN, cells, countInk, codeInk, eighthsText, codeText}
 use Rattle.screen.specs.declared.format.Kind.{Kind}
 use Rattle.screen.specs.declared.format.Kind.the-variants.{Code, Eighths}
 use Rattle.screen.specs.declared.format.Line.{Line}

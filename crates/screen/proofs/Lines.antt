@@ -9,7 +9,7 @@ use mathlib.Core.List.{List, [], _∷_, _++_}
 use lib.ListN.{length, take, drop, getD, set, length-drop, drop-of-length-le}
 use lib.Seq.{sets, drop-cons, drop-drop, getD-drop, length-take-le}
 use lib.Dec.{eqb}
-use Rattle.column.proofs.Stores.{sets-append}
+use Rattle.boxlist_lines.proofs.Stores.{sets-append}
 use Rattle.screen.specs.declared.format.Kind.{Kind}
 use Rattle.screen.specs.declared.format.Kind.the-variants.{Code}
 use Rattle.screen.specs.declared.format.Line.{Line}

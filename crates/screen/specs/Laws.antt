@@ -9,8 +9,8 @@ use lib.ListN.{length, replicate}
 use lib.Ieee.{Float, ofBits, toBits, binary32}
 use Rattle.util.specs.declared.eighths.Count.the-variants.{Whole}
 use Rattle.util.specs.Eighths.{eighths, countOf}
-use Rattle.column.specs.declared.Ink.the-variants.{Digits}
-use Rattle.column.specs.Column.{cells, countInk, eighthsText, codeText}
+use Rattle.boxlist_lines.specs.declared.Ink.the-variants.{Digits}
+use Rattle.boxlist_lines.specs.Column.{cells, countInk, eighthsText, codeText}
 use Rattle.screen.specs.declared.format.Kind.{Kind}
 use Rattle.screen.specs.declared.format.Kind.the-variants.{Code, Eighths}
 use Rattle.screen.specs.declared.format.Line.{Line}

@@ -24,8 +24,8 @@ use Rattle.tree_record.specs.Candidate.{candidateWidth}
 use Rattle.sweep.specs.Sweep.{firstCandidates, candidatesIn, keep, listWords, appended}
 use Rattle.sweep.specs.declared.Filled.{Filled}
 use Rattle.sweep.proofs.Steps.{appended-length}
-use Rattle.common.specs.declared.sizing_keyword.SizingKeywordResolution.{SizingKeywordResolution}
-use Rattle.common.specs.declared.sizing_keyword.SizingKeywordResolution.the-variants.{NoKeyword, Exact, Measure}
+use Rattle.oof_common.specs.declared.sizing_keyword.SizingKeywordResolution.{SizingKeywordResolution}
+use Rattle.oof_common.specs.declared.sizing_keyword.SizingKeywordResolution.the-variants.{NoKeyword, Exact, Measure}
 use Rattle.oof_resolve.specs.Resolved.{resolvedBox}
 use Rattle.oof_resolve.specs.declared.ContainingBlock.{ContainingBlock}
 use Rattle.oof_box.specs.Box.{sizeKeywords, keywordStretch}

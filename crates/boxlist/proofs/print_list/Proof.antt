@@ -1,14 +1,14 @@
 use mathlib.Core.Path.{sym}
 use lib.Dec.{lit≤}
 use lib.Seq.{length-take-le}
-use Rattle.listing.proofs.Laws.{printed-there}
+use Rattle.boxlist_print.proofs.Laws.{printed-there}
 use borrow.Author.Needs.{needs}
 use Rattle.boxlist.proofs.print_list.Statement.{statement}
 use Rattle.boxlist.proofs.print_list.Tie as tie
 use Rattle.boxlist.proofs.print_list.Reads as reads
 use Rattle.boxlist.proofs.print_list.Lts as lts
 use Rattle.io.proofs.write_all.Reads as write-all-reads
-use Rattle.listing.proofs.list_screen.Reads as list-screen-reads
+use Rattle.boxlist_print.proofs.list_screen.Reads as list-screen-reads
 use Rattle.os.proofs.fail.Reads as fail-reads
 
 -- src/main.rt:46:9

@@ -4,7 +4,7 @@ use Rattle.demands.proofs.list_screen.Statement.{statement}
 use Rattle.demands.proofs.list_screen.Tie as tie
 use Rattle.demands.proofs.list_screen.Reads as reads
 use Rattle.demands.proofs.list_screen.Lts as lts
-use Rattle.listing.proofs.list_screen.Reads as list-screen-reads
+use Rattle.boxlist_print.proofs.list_screen.Reads as list-screen-reads
 
 list-screen-requires : tie.Need-list-screen-requires
 list-screen-requires c κs = search needs

@@ -4,7 +4,7 @@ use Rattle.oof_place.proofs.place.Statement.{statement}
 use Rattle.oof_place.proofs.place.Tie as tie
 use Rattle.oof_place.proofs.place.Reads as reads
 use Rattle.oof_place.proofs.place.Lts as lts
-use Rattle.common.proofs.scrollable_overflow.compute_scrollable_overflow_contribution.Reads as compute-scrollable-overflow-contribution-reads
+use Rattle.oof_common.proofs.scrollable_overflow.compute_scrollable_overflow_contribution.Reads as compute-scrollable-overflow-contribution-reads
 use Rattle.oof_place.proofs.from_origin.Reads as from-origin-reads
 use Rattle.oof_place.proofs.layout_of.Reads as layout-of-reads
 use Rattle.style.proofs.OverflowPoint.is_scroll_container.Reads as is-scroll-container-reads

@@ -4,7 +4,7 @@ use Rattle.oof_box.proofs.sizing.keyword_stretch.Statement.{statement}
 use Rattle.oof_box.proofs.sizing.keyword_stretch.Tie as tie
 use Rattle.oof_box.proofs.sizing.keyword_stretch.Reads as reads
 use Rattle.oof_box.proofs.sizing.keyword_stretch.Lts as lts
-use Rattle.common.proofs.sizing_keyword.absolute_stretch_size.Reads as absolute-stretch-size-reads
+use Rattle.oof_common.proofs.sizing_keyword.absolute_stretch_size.Reads as absolute-stretch-size-reads
 
 -- src/sizing.rt:41:16
 absolute-stretch-size-requires : tie.Need-absolute-stretch-size-requires

@@ -4,7 +4,7 @@ use Rattle.oof_box.proofs.sizing.size_keywords.Statement.{statement}
 use Rattle.oof_box.proofs.sizing.size_keywords.Tie as tie
 use Rattle.oof_box.proofs.sizing.size_keywords.Reads as reads
 use Rattle.oof_box.proofs.sizing.size_keywords.Lts as lts
-use Rattle.common.proofs.sizing_keyword.resolve_absolute_sizing_keywords.Reads as resolve-absolute-sizing-keywords-reads
+use Rattle.oof_common.proofs.sizing_keyword.resolve_absolute_sizing_keywords.Reads as resolve-absolute-sizing-keywords-reads
 use Rattle.oof_box.proofs.sizing.keyword_stretch.Reads as keyword-stretch-reads
 
 -- src/sizing.rt:56:9

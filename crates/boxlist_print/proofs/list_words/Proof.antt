@@ -1,0 +1,43 @@
+use Prim.Native.Nat.{_*_}
+use native.Mathlib.Nat.{mul-le-mul-right}
+use Rattle.tree_record.specs.Layout.{layoutWidth}
+use Rattle.screen.specs.Format.{MAX-ITEMS}
+use Rattle.boxlist_print.proofs.Whole.{zeros}
+use borrow.Author.Needs.{needs}
+use Rattle.boxlist_print.proofs.list_words.Statement.{statement}
+use Rattle.boxlist_print.proofs.list_words.Tie as tie
+use Rattle.boxlist_print.proofs.list_words.Reads as reads
+use Rattle.boxlist_print.proofs.list_words.Lts as lts
+use Rattle.boxlist_print.proofs.list_parts.Reads as list-parts-reads
+
+-- src/lib.rt:155:9
+slice-aggregate-list-parts : tie.Need-slice-aggregate-list-parts
+slice-aggregate-list-parts c = search needs
+
+-- src/lib.rt:156:9
+slice-aggregate-list-parts-2 : tie.Need-slice-aggregate-list-parts-2
+slice-aggregate-list-parts-2 c = search needs
+
+-- src/lib.rt:157:9
+slice-aggregate-list-parts-3 : tie.Need-slice-aggregate-list-parts-3
+slice-aggregate-list-parts-3 c = search needs
+
+-- src/lib.rt:148:5
+list-parts-requires : tie.Need-list-parts-requires
+list-parts-requires c κs = search needs
+
+-- src/lib.rt:133:1
+returns : tie.Need-returns
+returns c =
+    let a = c .before .before .before .before .before .before .before .before .before .before .before .before .args in
+    rw (zeros (a .n * layoutWidth) (MAX-ITEMS * layoutWidth) (mul-le-mul-right layoutWidth (c .before .before .before .before .before .before .before .before .before .before .before .before .pre .0))) at (c .before .before .before .list-parts .ensures)
+
+pub list-words-spec : {M : Type 1} → statement M
+list-words-spec =
+    tie.close
+    (tie.spec
+    slice-aggregate-list-parts
+    slice-aggregate-list-parts-2
+    slice-aggregate-list-parts-3
+    list-parts-requires
+    returns)

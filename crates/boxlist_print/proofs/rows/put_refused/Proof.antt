@@ -1,0 +1,23 @@
+use mathlib.Core.Path.{sym}
+use Rattle.boxlist_lines.proofs.Laws.{refusal-bytes}
+use borrow.Author.Needs.{needs}
+use Rattle.boxlist_print.proofs.rows.put_refused.Statement.{statement}
+use Rattle.boxlist_print.proofs.rows.put_refused.Tie as tie
+use Rattle.boxlist_print.proofs.rows.put_refused.Reads as reads
+use Rattle.boxlist_print.proofs.rows.put_refused.Lts as lts
+use Rattle.boxlist_lines.proofs.list.put_refusal.Reads as put-refusal-reads
+
+-- src/rows.rt:113:5
+put-refusal-requires : tie.Need-put-refusal-requires
+put-refusal-requires c κs = search needs
+
+-- src/rows.rt:109:1
+same-length : tie.Need-same-length
+same-length c = search needs
+
+-- src/rows.rt:109:1
+returns : tie.Need-returns
+returns c = record { size = sym (refusal-bytes _); bytes = c .before .before .put-refusal .ensures }
+
+pub put-refused-spec : {M : Type 1} → statement M
+put-refused-spec = tie.close (tie.spec put-refusal-requires same-length returns)

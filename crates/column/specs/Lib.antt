@@ -1,3 +1,0 @@
-pub mod Column
-pub mod Listing
-pub mod Laws

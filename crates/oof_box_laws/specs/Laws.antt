@@ -1,0 +1,387 @@
+-- What CSS says of one box (css-position-3 #abspos-auto-size, css-sizing-3 #min-size-properties, css-tables-3 #abspos, css-box-4 #margins) and
+-- of what it adds to the scrollable overflow (css-overflow-3 #scrollable), as laws of `placed`: each holds of the whole dialogue, whatever
+-- the host replies. Where a box stands in an axis is said by the laws of one axis (oof_axis/specs/Laws.antt, oof_axis_laws/specs/Laws.antt), to
+-- which `StandsByItsAxes` leads. `proofs/` proves each, under its name in small letters. Assumes nothing.
+use mathlib.Core.Path.{_≡_}
+use mathlib.Core.Logic.{_⊎_}
+use mathlib.Core.List.{[], _∷_}
+use mathlib.Core.Bool.{Bool, true, false, cond, not, _&&_, _||_}
+use Prim.Native.Nat.{ℕ, _≤_}
+use lib.Ieee.{Float, lt, le}
+use lib.Ieee.Exact.{HasValue}
+use Rattle.util.specs.Number.{_⊕_, _⊖_, _⊗_, 0f}
+use Rattle.util.specs.Order.{larger}
+use Rattle.util.specs.Maybe.{clamped}
+use Rattle.util.specs.Laws.{AtOrAbove, AtOrBelow}
+use Rattle.util.specs.declared.math.MaybeF32.{MaybeF32}
+use Rattle.util.specs.declared.math.MaybeF32.the-variants.{None, Some}
+use Rattle.geometry.specs.Geometry.{_to_, zeroRect, zeroSize, rectOf, rectSum, sums, countedFrom, lineX, lineY}
+use Rattle.geometry.specs.declared.Line.{Line}
+use Rattle.geometry.specs.declared.Point.{Point}
+use Rattle.geometry.specs.declared.Rect.{Rect}
+use Rattle.geometry.specs.declared.Size.{Size}
+use Rattle.style.specs.Values.{isContentBox, anyScrollContainer, containsOverflow, isVisible}
+use Rattle.style.specs.declared.Contain.{Contain}
+use Rattle.style.specs.declared.Direction.the-variants.{Ltr, Rtl}
+use Rattle.style.specs.declared.Overflow.the-variants.{Visible}
+use Rattle.style.specs.declared.OverflowPoint.{OverflowPoint}
+use Rattle.style.specs.declared.Style.{Style}
+use Rattle.style.specs.declared.compact_length.CompactLength.{CompactLength}
+use Rattle.tree.specs.declared.layout.AxisStaticPosition.{AxisStaticPosition}
+use Rattle.tree.specs.declared.layout.Layout.{Layout}
+use Rattle.tree.specs.declared.layout.OofCandidate.{OofCandidate}
+use Rattle.oof_axis.specs.Axis.{stretchFit, stretches, placement}
+use Rattle.oof_resolve.specs.Resolved.{resolvedBox}
+use Rattle.oof_resolve.specs.declared.ContainingBlock.{ContainingBlock}
+use Rattle.oof_resolve.specs.declared.ResolvedBox.{ResolvedBox}
+use Rattle.oof_common.specs.ScrollableOverflow.{contribution}
+use Rattle.oof_common.specs.declared.sizing_keyword.SizingKeywordResolution.the-variants.{NoKeyword}
+use Rattle.oof_box.specs.Talk.{Talk, done, ask, ReplyTo}
+use Rattle.oof_box.specs.Box.{Placed, placed, sizeKeywords, settled}
+use Rattle.oof_box.specs.declared.question.MeasureInput.{MeasureInput}
+use Rattle.oof_box.specs.declared.question.Question.{Question}
+use Rattle.oof_box.specs.declared.question.Question.the-variants.{MeasureBoth}
+use Rattle.oof_axis_laws.specs.Laws.{_=Σ_, _≤Σ_}
+
+-- ---- whatever the host replies
+
+-- P holds of the outcome of a dialogue, for every list of replies
+pub data Always {A : Type 0} (P : A → Type 0) : Talk A → Type 0 where
+  now : {a : A} → P a → Always P (done a)
+  later : {q : Question} {next : ReplyTo q → Talk A} → ((r : ReplyTo q) → Always P (next r)) → Always P (ask q next)
+
+-- of the laid-out size
+abbrev pub SizeAlways : (Size → Type 0) → ContainingBlock → Style → OofCandidate → Type 0
+SizeAlways P container style candidate = Always (λ (p : Placed). P (p .outcome .layout .size)) (placed container style candidate)
+
+-- the dialogue opens with the question for both sizes, and P holds of the question, of its reply and of the outcome
+pub data Measures (P : MeasureInput → Size → Placed → Type 0) : Talk Placed → Type 0 where
+  measures : {m : MeasureInput} {next : Size → Talk Placed} → ((r : Size) → Always (P m r) (next r)) → Measures P (ask (MeasureBoth m) next)
+
+-- ---- sizes. Min, max and size are those of step 2, as `SizesOfItsBox` says.
+
+abbrev pub pixels : Float → CompactLength
+pixels x = record { tag = 1; value = x }
+
+-- padding plus border
+abbrev pub paddingBorderOf : ResolvedBox → Size
+paddingBorderOf box = sums (rectSum (box .padding) (box .border))
+
+-- lengths are of the content box where the box sizing says so: padding plus border is added
+abbrev pub toBorderBox : Style → ResolvedBox → Size
+toBorderBox style box = cond (isContentBox (style .sizing)) (paddingBorderOf box) zeroSize
+
+-- min is at least padding plus border, and the size is clamped
+pub record OfItsBox (x : Float) (style : Style) (box : ResolvedBox) : Type 0 where
+  pub maxWidth : style .max .width ≡ pixels x → box .max .width ≡ Some (x ⊕ toBorderBox style box .width)
+  pub maxHeight : style .max .height ≡ pixels x → box .max .height ≡ Some (x ⊕ toBorderBox style box .height)
+  pub minWidth : style .min .width ≡ pixels x → box .min .width ≡ Some (larger (x ⊕ toBorderBox style box .width) (paddingBorderOf box .width))
+  pub minHeight : style .min .height ≡ pixels x → box .min .height ≡ Some (larger (x ⊕ toBorderBox style box .height) (paddingBorderOf box .height))
+  pub width : style .size .width ≡ pixels x → box .size .width ≡ Some (clamped (x ⊕ toBorderBox style box .width) (box .min .width) (box .max .width))
+  pub height : style .size .height ≡ pixels x → box .size .height ≡ Some (clamped (x ⊕ toBorderBox style box .height) (box .min .height) (box .max .height))
+
+abbrev pub SizesOfItsBox : Type 0
+SizesOfItsBox =
+    (container : ContainingBlock) (style : Style) (candidate : OofCandidate) (x : Float) → style .ratio ≡ None → OfItsBox x style (resolvedBox container style candidate)
+
+-- min ≤ size
+abbrev pub MinHolds : Type 0
+MinHolds =
+    (container : ContainingBlock) (style : Style) (candidate : OofCandidate) (low : Float)
+    → let box = resolvedBox container style candidate in
+    (box .min .width ≡ Some low → SizeAlways (λ s. AtOrAbove low (s .width)) container style candidate)
+    × (box .min .height ≡ Some low → SizeAlways (λ s. AtOrAbove low (s .height)) container style candidate)
+
+-- size ≤ max, unless min is above max, or, of a table, its stretch-fit size, to which its min is raised
+abbrev pub MaxHolds : Type 0
+MaxHolds =
+    (container : ContainingBlock) (style : Style) (candidate : OofCandidate) (low high : Float)
+    → let box = resolvedBox container style candidate in
+    (box .min .width ≡ Some low → box .max .width ≡ Some high → lt high low ≡ false → (style .table ≡ true → lt high (stretchFit (box .horizontal)) ≡ false)
+    → SizeAlways (λ s. AtOrBelow high (s .width)) container style candidate)
+    × (box .min .height ≡ Some low → box .max .height ≡ Some high → lt high low ≡ false → (style .table ≡ true → lt high (stretchFit (box .vertical)) ≡ false)
+    → SizeAlways (λ s. AtOrBelow high (s .height)) container style candidate)
+
+-- a size that is given is the size: no reply, no alignment, no ratio and no keyword of the other side changes it
+abbrev pub GivenSizeStays : Type 0
+GivenSizeStays =
+    (container : ContainingBlock) (style : Style) (candidate : OofCandidate) (x : Float)
+    → let box = resolvedBox container style candidate in
+    (box .size .width ≡ Some x → SizeAlways (λ s. s .width ≡ x) container style candidate)
+    × (box .size .height ≡ Some x → SizeAlways (λ s. s .height ≡ x) container style candidate)
+
+-- neither a ratio nor a size keyword has a say: a side that isn't given is auto
+pub record Plain (style : Style) (box : ResolvedBox) : Type 0 where
+  pub ratio : style .ratio ≡ None
+  pub width : sizeKeywords style box .width ≡ NoKeyword
+  pub height : sizeKeywords style box .height ≡ NoKeyword
+
+-- a box that normal alignment stretches: neither replaced nor a table
+abbrev pub stretchable : Style → Bool
+stretchable style = not (style .replaced) && not (style .table)
+
+-- stretch fills: an auto size that stretches is the stretch-fit size, clamped, whatever is measured. By `StretchedBoxIsTheBlock` of oof_axis_laws
+-- the margin box is then the block, where min and max leave it.
+abbrev pub StretchFills : Type 0
+StretchFills =
+    (container : ContainingBlock) (style : Style) (candidate : OofCandidate)
+    → let box = resolvedBox container style candidate in
+    Plain style box → style .table ≡ false
+    → (box .size .width ≡ None → stretches (box .horizontal) (stretchable style) ≡ true
+    → SizeAlways (λ s. s .width ≡ clamped (stretchFit (box .horizontal)) (box .min .width) (box .max .width)) container style candidate)
+    × (box .size .height ≡ None → stretches (box .vertical) (stretchable style) ≡ true
+    → SizeAlways (λ s. s .height ≡ clamped (stretchFit (box .vertical)) (box .min .height) (box .max .height)) container style candidate)
+
+-- any other auto size is asked for, and is the reply, clamped
+abbrev pub MeasuredIsTheReply : Type 0
+MeasuredIsTheReply =
+    (container : ContainingBlock) (style : Style) (candidate : OofCandidate)
+    → let box = resolvedBox container style candidate in
+    Plain style box → style .table ≡ false
+    → (box .size .width ≡ None → stretches (box .horizontal) (stretchable style) ≡ false
+    → Measures (λ m r p. (m .known .width ≡ None) × (p .outcome .layout .size .width ≡ clamped (r .width) (box .min .width) (box .max .width))) (placed container style candidate))
+    × (box .size .height ≡ None → stretches (box .vertical) (stretchable style) ≡ false
+    → Measures (λ m r p. (m .known .height ≡ None) × (p .outcome .layout .size .height ≡ clamped (r .height) (box .min .height) (box .max .height))) (placed container style candidate))
+
+-- a table is never stretched: an auto size of it is asked for, and is the reply, clamped with its min raised to the stretch-fit size where
+-- the alignment is stretch
+abbrev pub tableMin : Bool → Float → Float → Float
+tableMin stretches low fit = cond stretches (larger low fit) low
+
+abbrev pub TableIsMeasured : Type 0
+TableIsMeasured =
+    (container : ContainingBlock) (style : Style) (candidate : OofCandidate) (low : Float)
+    → let box = resolvedBox container style candidate in
+    Plain style box → style .table ≡ true
+    → (box .size .width ≡ None → box .min .width ≡ Some low
+    → Measures
+    (λ m r p. (m .known .width ≡ None)
+    × (p .outcome .layout .size .width ≡ clamped (r .width) (Some (tableMin (stretches (box .horizontal) false) low (stretchFit (box .horizontal)))) (box .max .width))) (placed container style candidate))
+    × (box .size .height ≡ None → box .min .height ≡ Some low
+    → Measures
+    (λ m r p. (m .known .height ≡ None)
+    × (p .outcome .layout .size .height ≡ clamped (r .height) (Some (tableMin (stretches (box .vertical) false) low (stretchFit (box .vertical)))) (box .max .height))) (placed container style candidate))
+
+-- a clamp that is done changes nothing when done again
+abbrev pub ClampIsSettled : Type 0
+ClampIsSettled = (x : Float) (min max : MaybeF32) → clamped (clamped x min max) min max ≡ clamped x min max
+
+-- nor do ratio and clamp change the size that step 2 resolved
+abbrev pub SizeIsSettled : Type 0
+SizeIsSettled = (container : ContainingBlock) (style : Style) (candidate : OofCandidate) → let box = resolvedBox container style candidate in settled (style .ratio) box (box .size) ≡ box .size
+
+-- ---- percentages
+
+abbrev pub percent : Float → CompactLength
+percent x = record { tag = 5; value = x }
+
+-- margins, padding and border, top and bottom too, take percentages of the area's width
+pub record OfTheWidth (w x : Float) (style : Style) (box : ResolvedBox) : Type 0 where
+  pub marginLeft : style .margin .left ≡ percent x → box .horizontal .margin .start ≡ Some (w ⊗ x)
+  pub marginRight : style .margin .right ≡ percent x → box .horizontal .margin .end ≡ Some (w ⊗ x)
+  pub marginTop : style .margin .top ≡ percent x → box .vertical .margin .start ≡ Some (w ⊗ x)
+  pub marginBottom : style .margin .bottom ≡ percent x → box .vertical .margin .end ≡ Some (w ⊗ x)
+  pub paddingLeft : style .padding .left ≡ percent x → box .padding .left ≡ w ⊗ x
+  pub paddingRight : style .padding .right ≡ percent x → box .padding .right ≡ w ⊗ x
+  pub paddingTop : style .padding .top ≡ percent x → box .padding .top ≡ w ⊗ x
+  pub paddingBottom : style .padding .bottom ≡ percent x → box .padding .bottom ≡ w ⊗ x
+  pub borderLeft : style .border .left ≡ percent x → box .border .left ≡ w ⊗ x
+  pub borderRight : style .border .right ≡ percent x → box .border .right ≡ w ⊗ x
+  pub borderTop : style .border .top ≡ percent x → box .border .top ≡ w ⊗ x
+  pub borderBottom : style .border .bottom ≡ percent x → box .border .bottom ≡ w ⊗ x
+
+abbrev pub PercentagesOfTheWidth : Type 0
+PercentagesOfTheWidth =
+    (container : ContainingBlock) (style : Style) (candidate : OofCandidate) (x : Float) → OfTheWidth (container .area .size .width) x style (resolvedBox container style candidate)
+
+-- insets take them of their own axis
+pub record OfTheirAxis (area : Size) (x : Float) (style : Style) (box : ResolvedBox) : Type 0 where
+  pub left : style .inset .left ≡ percent x → box .horizontal .inset .start ≡ Some (area .width ⊗ x)
+  pub right : style .inset .right ≡ percent x → box .horizontal .inset .end ≡ Some (area .width ⊗ x)
+  pub top : style .inset .top ≡ percent x → box .vertical .inset .start ≡ Some (area .height ⊗ x)
+  pub bottom : style .inset .bottom ≡ percent x → box .vertical .inset .end ≡ Some (area .height ⊗ x)
+
+abbrev pub InsetsOfTheirAxis : Type 0
+InsetsOfTheirAxis =
+    (container : ContainingBlock) (style : Style) (candidate : OofCandidate) (x : Float) → OfTheirAxis (container .area .size) x style (resolvedBox container style candidate)
+
+-- ---- where a box stands
+
+-- where its axes place it, moved by the area's offset, with the margins of its axes
+abbrev pub StandsByItsAxes : Type 0
+StandsByItsAxes =
+    (container : ContainingBlock) (style : Style) (candidate : OofCandidate)
+    → let box = resolvedBox container style candidate in
+    Always
+    (λ (p : Placed). let l = p .outcome .layout in
+    (l .location .x ≡ placement (box .horizontal) (l .size .width) .position ⊕ container .area .offset .x)
+    × (l .location .y ≡ placement (box .vertical) (l .size .height) .position ⊕ container .area .offset .y)
+    × (l .margin ≡ rectOf (placement (box .horizontal) (l .size .width) .margin) (placement (box .vertical) (l .size .height) .margin)))
+    (placed container style candidate)
+
+-- the same block at another offset
+abbrev pub withOffset : Point → ContainingBlock → ContainingBlock
+withOffset offset container = record { area = record { size = container .area .size; offset = offset }; direction = container .direction; overflow = container .overflow }
+
+-- two static positions that, counted from their areas' edges, are one
+pub record SamePlace (p : AxisStaticPosition) (offset : Float) (p' : AxisStaticPosition) (offset' : Float) : Type 0 where
+  pub area : countedFrom (p' .area) offset' ≡ countedFrom (p .area) offset
+  pub align : p' .align ≡ p .align
+
+pub record StandAlike (c : OofCandidate) (offset : Point) (c' : OofCandidate) (offset' : Point) : Type 0 where
+  pub node : c' .node ≡ c .node
+  pub order : c' .order ≡ c .order
+  pub x : SamePlace (c .place .x) (offset .x) (c' .place .x) (offset' .x)
+  pub y : SamePlace (c .place .y) (offset .y) (c' .place .y) (offset' .y)
+
+-- two dialogues that ask the same questions, whatever the replies, and R holds of their outcomes
+pub data Alike (R : Placed → Placed → Type 0) : Talk Placed → Talk Placed → Type 0 where
+  ended : {p p' : Placed} → R p p' → Alike R (done p) (done p')
+  asking : {q : Question} {next next' : ReplyTo q → Talk Placed} → ((r : ReplyTo q) → Alike R (next r) (next' r)) → Alike R (ask q next) (ask q next')
+
+abbrev pub plus : Point → Point → Point
+plus p q = record { x = p .x ⊕ q .x; y = p .y ⊕ q .y }
+
+abbrev pub less : Point → Point → Point
+less p q = record { x = p .x ⊖ q .x; y = p .y ⊖ q .y }
+
+abbrev pub locatedAt : Point → Layout → Layout
+locatedAt location l =
+    record {
+      order = l .order;
+      size = l .size;
+      overflow = l .overflow;
+      scrollbar = l .scrollbar;
+      location = location;
+      padding = l .padding;
+      border = l .border;
+      margin = l .margin;
+    }
+
+-- one place in the area: the layouts are the same but for the offset in their location, and they add the same to the overflow where an offset
+-- that is added and taken off again rounds nothing
+pub record MovedAlone (offset offset' : Point) (p p' : Placed) : Type 0 where
+  pub place : Point
+  pub location : p .outcome .layout .location ≡ plus place offset
+  pub layout : p' .outcome .layout ≡ locatedAt (plus place offset') (p .outcome .layout)
+  pub surfaced : p' .surfaced ≡ p .surfaced
+  pub contribution :
+      less (plus place offset) offset ≡ place → less (plus place offset') offset' ≡ place → p' .outcome .contribution ≡ p .outcome .contribution
+
+-- layouts move with the offset alone
+abbrev pub OffsetMovesAlone : Type 0
+OffsetMovesAlone =
+    (container : ContainingBlock) (offset' : Point) (style : Style) (candidate candidate' : OofCandidate) → StandAlike candidate (container .area .offset) candidate' offset'
+    → Alike (MovedAlone (container .area .offset) offset') (placed container style candidate) (placed (withOffset offset' container) style candidate')
+
+-- ---- the contribution to the scrollable overflow
+
+-- in a scrolling parent it is zeros, or can be scrolled to: right and bottom are above 0. It counts from the start edge by direction, so
+-- that this is one law for both.
+abbrev pub ScrollingContributionIsReachable : Type 0
+ScrollingContributionIsReachable =
+    (container : ContainingBlock) (style : Style) (candidate : OofCandidate) → anyScrollContainer (container .overflow) ≡ true
+    → Always
+    (λ (p : Placed). let r = p .outcome .contribution in (r ≡ zeroRect) ⊎ ((le (r .right) 0f ≡ false) × (le (r .bottom) 0f ≡ false)))
+    (placed container style candidate)
+
+-- whole sixteenths of a pixel (to which boxes of quarter pixels are aligned), of size 131,072 at most
+pub record Sixteenth (x : Float) : Type 0 where
+  pub sign : Bool
+  pub k : ℕ
+  pub value : HasValue x sign k 16
+  pub small : k ≤ 2097152
+
+-- the numbers of a laid-out box, its area, its place and its own overflow
+pub record Fine (container : ContainingBlock) (l : Layout) : Type 0 where
+  pub width : Sixteenth (container .area .size .width)
+  pub offsetX : Sixteenth (container .area .offset .x)
+  pub offsetY : Sixteenth (container .area .offset .y)
+  pub x : Sixteenth (l .location .x)
+  pub y : Sixteenth (l .location .y)
+  pub sizeX : Sixteenth (l .size .width)
+  pub sizeY : Sixteenth (l .size .height)
+  pub left : Sixteenth (l .overflow .left)
+  pub right : Sixteenth (l .overflow .right)
+  pub top : Sixteenth (l .overflow .top)
+  pub bottom : Sixteenth (l .overflow .bottom)
+
+-- r holds, or is, what reaches from l .start to l .end of the box's start edge: in y, and in x left-to-right, from the area's top or left
+-- edge on; in x right-to-left, from its right edge leftwards
+abbrev pub HoldsForwards : Line → Float → Float → Line → Type 0
+HoldsForwards r offset at l = (r .start ∷ offset ∷ [] ≤Σ at ∷ l .start ∷ []) × (at ∷ l .end ∷ [] ≤Σ r .end ∷ offset ∷ [])
+
+abbrev pub HoldsBackwards : Line → Float → Float → Float → Float → Line → Type 0
+HoldsBackwards r offset width at size l =
+    (r .start ∷ at ∷ size ∷ [] ≤Σ offset ∷ width ∷ l .start ∷ []) × (offset ∷ width ∷ l .end ∷ [] ≤Σ r .end ∷ at ∷ size ∷ [])
+
+abbrev pub HoldsAcross : ContainingBlock → Layout → Line → Line → Type 0
+HoldsAcross container l r x =
+    (container .direction ≡ Ltr → HoldsForwards r (container .area .offset .x) (l .location .x) x)
+    × (container .direction ≡ Rtl → HoldsBackwards r (container .area .offset .x) (container .area .size .width) (l .location .x) (l .size .width) x)
+
+abbrev pub HoldsDown : ContainingBlock → Layout → Line → Line → Type 0
+HoldsDown container l r y = HoldsForwards r (container .area .offset .y) (l .location .y) y
+
+-- the border box, from its start edges
+abbrev pub HoldsTheBox : ContainingBlock → Layout → Rect → Type 0
+HoldsTheBox container l r = HoldsAcross container l (lineX r) (0f to l .size .width) × HoldsDown container l (lineY r) (0f to l .size .height)
+
+-- it is zeros, or it holds the border box, in both directions
+abbrev pub ContributionHoldsTheBox : Type 0
+ContributionHoldsTheBox =
+    (container : ContainingBlock) (style : Style) (candidate : OofCandidate)
+    → Always
+    (λ (p : Placed). let r = p .outcome .contribution in Fine container (p .outcome .layout) → (r ≡ zeroRect) ⊎ HoldsTheBox container (p .outcome .layout) r)
+    (placed container style candidate)
+
+-- and the box's own overflow, along an axis in which that is visible, where the box is no scroll container and nothing contains it
+abbrev pub ContributionHoldsItsOverflow : Type 0
+ContributionHoldsItsOverflow =
+    (container : ContainingBlock) (style : Style) (candidate : OofCandidate) → anyScrollContainer (style .overflow) ≡ false → containsOverflow (style .contain) ≡ false
+    → Always
+    (λ (p : Placed). let l = p .outcome .layout in let r = p .outcome .contribution in
+    Fine container l
+    → (r ≡ zeroRect)
+    ⊎ ((style .overflow .x ≡ Visible → HoldsAcross container l (lineX r) (lineX (l .overflow))) × (style .overflow .y ≡ Visible → HoldsDown container l (lineY r) (lineY (l .overflow)))))
+    (placed container style candidate)
+
+-- the box ends after the area's start edges
+abbrev pub PastTheStart : ContainingBlock → Layout → Type 0
+PastTheStart container l =
+    (container .direction ≡ Ltr → (l .location .x ∷ l .size .width ∷ [] ≤Σ container .area .offset .x ∷ []) → ⊥)
+    × (container .direction ≡ Rtl → (container .area .offset .x ∷ container .area .size .width ∷ [] ≤Σ l .location .x ∷ []) → ⊥)
+    × ((l .location .y ∷ l .size .height ∷ [] ≤Σ container .area .offset .y ∷ []) → ⊥)
+
+-- zeros are for a box without a size, or one that can't be scrolled to: any other counts
+abbrev pub ContributionCounts : Type 0
+ContributionCounts =
+    (container : ContainingBlock) (style : Style) (candidate : OofCandidate)
+    → Always
+    (λ (p : Placed). let l = p .outcome .layout in
+    Fine container l → lt 0f (l .size .width) ≡ true → lt 0f (l .size .height) ≡ true → (anyScrollContainer (container .overflow) ≡ true → PastTheStart container l)
+    → HoldsTheBox container l (p .outcome .contribution))
+    (placed container style candidate)
+
+-- it holds no more than the border box where the box's own overflow is within it: no margin
+abbrev pub WithinTheBox : Layout → Type 0
+WithinTheBox l =
+    (le 0f (l .overflow .left) ≡ true) × (le (l .overflow .right) (l .size .width) ≡ true)
+    × (le 0f (l .overflow .top) ≡ true) × (le (l .overflow .bottom) (l .size .height) ≡ true)
+
+abbrev pub ContributionHoldsNoMore : Type 0
+ContributionHoldsNoMore =
+    (container : ContainingBlock) (style : Style) (candidate : OofCandidate)
+    → Always
+    (λ (p : Placed). let l = p .outcome .layout in let r = p .outcome .contribution in
+    Fine container l → WithinTheBox l → (r ≡ zeroRect) ⊎ ((r .left ∷ l .size .width ∷ [] =Σ r .right ∷ []) × (r .top ∷ l .size .height ∷ [] =Σ r .bottom ∷ [])))
+    (placed container style candidate)
+
+-- what the box clips isn't counted: own overflow that a scroll container or containment holds, in both axes; along an axis that isn't
+-- visible, in that one
+abbrev pub ClippedOverflowIsNotCounted : Type 0
+ClippedOverflowIsNotCounted =
+    (location : Point) (size : Size) (own own' : Rect) (overflow : OverflowPoint) (contain : Contain) (scrolls : Bool)
+    → (anyScrollContainer overflow || containsOverflow contain ≡ true → contribution location size own overflow contain scrolls ≡ contribution location size own' overflow contain scrolls)
+    × (isVisible (overflow .x) ≡ false → lineY own ≡ lineY own' → contribution location size own overflow contain scrolls ≡ contribution location size own' overflow contain scrolls)
+    × (isVisible (overflow .y) ≡ false → lineX own ≡ lineX own' → contribution location size own overflow contain scrolls ≡ contribution location size own' overflow contain scrolls)

@@ -1,0 +1,14 @@
+use Rattle.oof_common.specs.ScrollableOverflow.{placedAt}
+use mathlib.Core.Path.{refl}
+use Rattle.oof_common.proofs.scrollable_overflow.placed_at.Statement.{statement}
+use Rattle.oof_common.proofs.scrollable_overflow.placed_at.Tie as tie
+use Rattle.oof_common.proofs.scrollable_overflow.placed_at.Reads as reads
+use Rattle.oof_common.proofs.scrollable_overflow.placed_at.Lts as lts
+
+-- src/scrollable_overflow.rt:46:1
+returns : tie.Need-returns
+unfolding placedAt
+returns c = refl
+
+pub placed-at-spec : {M : Type 1} → statement M
+placed-at-spec = tie.close (tie.spec returns)

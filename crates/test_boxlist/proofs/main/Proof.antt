@@ -1,0 +1,56 @@
+use Prim.Native.Nat.{_≤_, _-_}
+use borrow.Author.Needs.{needs}
+use Rattle.test_boxlist.proofs.main.Statement.{statement}
+use Rattle.test_boxlist.proofs.main.Tie as tie
+use Rattle.test_boxlist.proofs.main.Reads as reads
+use Rattle.test_boxlist.proofs.main.Lts as lts
+use Rattle.test_boxlist.proofs.show_file.Reads as show-file-reads
+use Rattle.os.proofs.arg_count.Reads as arg-count-reads
+
+abbrev Inv-loop : tie.InvT-loop
+Inv-loop n i₀ i = 0 ≤ i
+
+abbrev μ-loop : tie.MeasureT-loop
+μ-loop n i₀ i = n - i
+
+-- src/main.rt:42:9
+arg-count-requires : tie.Need-arg-count-requires Inv-loop μ-loop
+arg-count-requires c κs = search needs
+
+-- src/main.rt:44:5
+loop-holds : tie.Need-loop-holds Inv-loop μ-loop
+loop-holds c = search needs
+
+-- src/main.rt:45:9
+show-file-requires : tie.Need-show-file-requires Inv-loop μ-loop
+show-file-requires c κs = search needs
+
+-- src/main.rt:46:9
+add-i : tie.Need-add-i Inv-loop μ-loop
+add-i c = search needs
+
+-- src/main.rt:44:5
+loop-less : tie.Need-loop-less Inv-loop μ-loop
+loop-less c = search needs
+
+-- src/main.rt:44:5
+loop-again : tie.Need-loop-again Inv-loop μ-loop
+loop-again c = search needs
+
+-- src/main.rt:41:1
+returns : tie.Need-returns Inv-loop μ-loop
+returns c = search needs
+
+pub main-spec : {M : Type 1} → statement M
+main-spec =
+    tie.close
+    (tie.spec
+    Inv-loop
+    μ-loop
+    arg-count-requires
+    loop-holds
+    show-file-requires
+    add-i
+    loop-less
+    loop-again
+    returns)

@@ -1,0 +1,161 @@
+-- Document 01's rows: 10 to 13 through the definition of one box, and with 1 to 9 (specs/AxisRows.antt) the row set, which is one test.
+-- Block size 100, margins 0, left-to-right unless said. Each box has a height, so that it asks nothing but to be laid out, unless its width
+-- is auto. Assumes nothing.
+use Prim.Native.Nat.{ℕ}
+use mathlib.Core.Bool.{Bool, true, false, _&&_}
+use mathlib.Core.List.{List, [], _∷_, _++_}
+use lib.Ieee.{Float, nan, eq, neg}
+use Rattle.util.specs.Number.{0f}
+use Rattle.util.specs.declared.math.MaybeF32.{MaybeF32}
+use Rattle.util.specs.declared.math.MaybeF32.the-variants.{None, Some}
+use Rattle.geometry.specs.Geometry.{_to_, zeroPoint, zeroSize}
+use Rattle.style.specs.declared.BoxSizing.the-variants.{BorderBox}
+use Rattle.style.specs.declared.Direction.{Direction}
+use Rattle.style.specs.declared.Direction.the-variants.{Ltr, Rtl}
+use Rattle.style.specs.declared.Overflow.{Overflow}
+use Rattle.style.specs.declared.Overflow.the-variants.{Visible, Scroll}
+use Rattle.style.specs.declared.Position.the-variants.{Absolute}
+use Rattle.style.specs.declared.Style.{Style}
+use Rattle.style.specs.declared.alignment.AlignItemsKeyword.the-variants.{Normal}
+use Rattle.style.specs.declared.alignment.AlignmentSafety.the-variants.{Default}
+use Rattle.style.specs.declared.compact_length.CompactLength.{CompactLength}
+use Rattle.style.specs.declared.compact_length.LengthRect.{LengthRect}
+use Rattle.tree.specs.declared.layout.AxisStaticEdge.the-variants.{Start}
+use Rattle.tree.specs.declared.layout.AxisStaticPosition.{AxisStaticPosition}
+use Rattle.tree.specs.declared.layout.OofCandidate.{OofCandidate}
+use Rattle.oof_resolve.specs.Resolved.{resolvedBox}
+use Rattle.oof_resolve.specs.declared.ContainingBlock.{ContainingBlock}
+use Rattle.oof_box.specs.Talk.{Talk, done, ask, ReplyTo}
+use Rattle.oof_box.specs.Box.{Placed, placed}
+use Rattle.oof_box.specs.declared.question.Question.{Question}
+use Rattle.oof_box.specs.declared.question.Question.the-variants.{MeasureBoth, MeasureWidth, MeasureHeight, LayOut}
+use Rattle.test_oof_box_rows.specs.AxisRows.{px, axisRows}
+
+-- ---- what is given
+
+abbrev pub length : Float → CompactLength
+length x = record { tag = 1; value = x }
+
+abbrev pub auto : CompactLength
+auto = record { tag = 3; value = 0f }
+
+abbrev pub sides : CompactLength → CompactLength → CompactLength → LengthRect
+sides left right others = record { left = left; right = right; top = others; bottom = others }
+
+-- a box by its left and right inset, its width, min and max width and its left padding; 10 high; all else auto or 0
+unfoldable pub boxOf : CompactLength → CompactLength → CompactLength → CompactLength → CompactLength → CompactLength → Style
+boxOf left right width min max padding =
+    record {
+      inset = sides left right auto;
+      margin = sides (length 0f) (length 0f) (length 0f);
+      padding = sides padding (length 0f) (length 0f);
+      border = sides (length 0f) (length 0f) (length 0f);
+      size = record { width = width; height = length (px 10) };
+      min = record { width = min; height = auto };
+      max = record { width = max; height = auto };
+      ratio = None;
+      sizing = BorderBox;
+      replaced = false;
+      table = false;
+      direction = Ltr;
+      justify = record { keyword = Normal; safety = Default };
+      align = record { keyword = Normal; safety = Default };
+      overflow = record { x = Visible; y = Visible };
+      scrollbar = 0f;
+      contain = record { layout = false; paint = false };
+    }
+
+unfoldable pub containerOf : Direction → Overflow → ContainingBlock
+containerOf direction overflow =
+    record {
+      area = record { size = record { width = px 100; height = px 100 }; offset = zeroPoint };
+      direction = direction;
+      overflow = record { x = overflow; y = overflow };
+    }
+
+abbrev pub atStart : AxisStaticPosition
+atStart = record { area = 0f to 0f; align = record { keyword = Start; safety = Default; fallback = Start } }
+
+unfoldable pub candidate : OofCandidate
+candidate = record { node = 0; order = 0; position = Absolute; place = record { x = atStart; y = atStart } }
+
+-- what the host replies: a measured size of 0, and the right edge of the box's own overflow
+abbrev pub replied : ℕ → (q : Question) → ReplyTo q
+replied right (MeasureBoth m) = zeroSize
+replied right (MeasureWidth m) = 0f
+replied right (MeasureHeight m) = 0f
+replied right (LayOut l) = record { overflow = record { left = 0f; right = px right; top = 0f; bottom = 0f }; surfaced = [] }
+
+-- ---- what is found
+
+-- the outcome of the whole dialogue
+unfoldable pub outcome : ℕ → Talk Placed → Placed
+outcome right (done p) = p
+outcome right (ask q next) = outcome right (next (replied right q))
+
+unfoldable pub hasWidth : Style → ℕ → Bool
+hasWidth style w = eq (outcome 0 (placed (containerOf Ltr Visible) style candidate) .outcome .layout .size .width) (px w)
+
+unfoldable pub is : MaybeF32 → ℕ → Bool
+is None w = false
+is (Some x) w = eq x (px w)
+
+-- min, as step 2 has it
+unfoldable pub hasMin : Style → ℕ → Bool
+hasMin style w = is (resolvedBox (containerOf Ltr Visible) style candidate .min .width) w
+
+-- 10: its size, min and max
+unfoldable pub clampedBox : Style
+clampedBox = boxOf auto auto (length (px 30)) (length (px 50)) (length (px 20)) (length 0f)
+
+-- 11: min NaN, padding plus border 12; its width is given, or measured
+unfoldable pub flooredBox : CompactLength → Style
+flooredBox width = boxOf auto auto width (length nan) auto (length (px 12))
+
+unfoldable pub boxRows : List Bool
+boxRows =
+    -- 10: size 30, min 50, max 20
+    hasWidth clampedBox 50
+    -- 11: min NaN, padding plus border 12: the min itself; then the size, where 5 is given, and where 0 is measured
+    ∷ hasMin (flooredBox auto) 12
+    ∷ hasWidth (flooredBox (length (px 5))) 12
+    ∷ hasWidth (flooredBox auto) 12
+    ∷ []
+
+-- ---- rows 12 and 13: what a box adds to the overflow. x counts from the container's start edge.
+
+unfoldable pub adds : ContainingBlock → Style → ℕ → Float → Float → Float → Bool
+adds container style right start end bottom =
+    let r = outcome right (placed container style candidate) .outcome .contribution in
+    eq (r .left) start && eq (r .right) end && eq (r .top) 0f && eq (r .bottom) bottom
+
+unfoldable pub flatBox : Style
+flatBox = boxOf auto auto (length 0f) auto auto (length 0f)
+
+-- 40 wide, so far before the start edge
+unfoldable pub outside : ℕ → Style
+outside n = boxOf (length (neg (px n))) auto (length (px 40)) auto auto (length 0f)
+
+unfoldable pub outsideRight : ℕ → Style
+outsideRight n = boxOf auto (length (neg (px n))) (length (px 40)) auto auto (length 0f)
+
+unfoldable pub overflowRows : List Bool
+overflowRows =
+    -- 12: visible, size 0 by 10, child right 0, then 5
+    adds (containerOf Ltr Visible) flatBox 0 0f 0f 0f
+    ∷ adds (containerOf Ltr Visible) flatBox 5 0f (px 5) (px 10)
+    -- 13: scrolling parent, width 40, at -40, then -39
+    ∷ adds (containerOf Ltr Scroll) (outside 40) 0 0f 0f 0f
+    ∷ adds (containerOf Ltr Scroll) (outside 39) 0 (neg (px 39)) (px 1) (px 10)
+    -- 13, right-to-left: so far past the right edge
+    ∷ adds (containerOf Rtl Scroll) (outsideRight 40) 0 0f 0f 0f
+    ∷ adds (containerOf Rtl Scroll) (outsideRight 39) 0 (neg (px 39)) (px 1) (px 10)
+    ∷ []
+
+-- the row set: 1 to 11 are the starred ones
+unfoldable pub rows : List Bool
+rows = axisRows ++ boxRows ++ overflowRows
+
+unfoldable pub all : List Bool → Bool
+all [] = true
+all (r ∷ rs) = r && all rs
