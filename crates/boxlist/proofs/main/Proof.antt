@@ -1,3 +1,4 @@
+-- Generated skeleton (tools/proof/write-skeletons), answers by hand.
 use mathlib.Core.Path.{sym}
 use lib.Seq.{length-take-le}
 use borrow.Author.Needs.{needs}
@@ -10,51 +11,39 @@ use Rattle.boxlist.proofs.read_input.Reads as read-input-reads
 use Rattle.boxlist.proofs.room.Reads as room-reads
 use Rattle.os.proofs.fail.Reads as fail-reads
 
--- src/main.rt:55:20
 room-requires : tie.Need-room-requires
 room-requires c κs = search needs
 
--- src/main.rt:56:28
 slice-aggregate-read-input : tie.Need-slice-aggregate-read-input
 slice-aggregate-read-input c = search needs
 
--- src/main.rt:56:9
 read-input-requires : tie.Need-read-input-requires
 read-input-requires c κs = search needs
 
--- src/main.rt:58:35
 enum-told : tie.Need-enum-told
 enum-told c = search needs
 
--- src/main.rt:58:35
 slice-aggregate-fail : tie.Need-slice-aggregate-fail
 slice-aggregate-fail c = search needs
 
--- src/main.rt:58:26
 fail-requires : tie.Need-fail-requires
 fail-requires c κs = search needs
 
--- src/main.rt:59:22
 enum-known-input : tie.Need-enum-known-input
 enum-known-input c = search needs
 
--- src/main.rt:59:39
 array-share-prefix-text : tie.Need-array-share-prefix-text
 array-share-prefix-text c = rw (c .before .input .given .1) at (c .before .before .before .before .read-input .ensures)
 
--- src/main.rt:59:39
 slice-aggregate-print-list : tie.Need-slice-aggregate-print-list
 slice-aggregate-print-list c = sym (length-take-le _ _ (rw (c .before .before .input .given .1) at (c .before .before .before .before .before .read-input .ensures)))
 
--- src/main.rt:59:28
 print-list-requires : tie.Need-print-list-requires
 print-list-requires c κs = search needs
 
--- src/main.rt:54:1
 returns : tie.Need-returns
 returns c = search needs
 
--- src/main.rt:54:1
 returns-2 : tie.Need-returns-2
 returns-2 c = search needs
 

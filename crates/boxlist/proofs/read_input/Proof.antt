@@ -1,3 +1,4 @@
+-- Generated skeleton (tools/proof/write-skeletons), answers by hand.
 use Prim.Native.Nat.{_-_, _≤_}
 use mathlib.Core.Path.{_≡_}
 use lib.ListN.{length}
@@ -15,75 +16,57 @@ Inv-loop text₀ n₀ text n = (n ≤ length text) × (length text ≡ length te
 abbrev μ-loop : tie.MeasureT-loop
 μ-loop text₀ n₀ text n = length text - n
 
--- src/main.rt:31:5
 loop-holds : tie.Need-loop-holds Inv-loop μ-loop
 loop-holds c = search needs
 
--- src/main.rt:32:44
 sub-read : tie.Need-sub-read Inv-loop μ-loop
 sub-read c = search needs
 
--- src/main.rt:32:44
 part-read-start : tie.Need-part-read-start Inv-loop μ-loop
 part-read-start c = search needs
 
--- src/main.rt:32:44
 part-read-end : tie.Need-part-read-end Inv-loop μ-loop
 part-read-end c = search needs
 
--- src/main.rt:32:13
 read-requires : tie.Need-read-requires Inv-loop μ-loop
 read-requires c κs = search needs
 
--- src/main.rt:34:13
 same-length : tie.Need-same-length Inv-loop μ-loop
 same-length c = search needs
 
--- src/main.rt:34:13
 returns : tie.Need-returns Inv-loop μ-loop
 returns c = search needs
 
--- src/main.rt:36:35
 sub-count : tie.Need-sub-count Inv-loop μ-loop
 sub-count c = search needs
 
--- src/main.rt:36:35
 part-count-start : tie.Need-part-count-start Inv-loop μ-loop
 part-count-start c = search needs
 
--- src/main.rt:36:35
 part-count-end : tie.Need-part-count-end Inv-loop μ-loop
 part-count-end c = search needs
 
--- src/main.rt:36:13
 count-requires : tie.Need-count-requires Inv-loop μ-loop
 count-requires c κs = search needs
 
--- src/main.rt:38:13
 same-length-2 : tie.Need-same-length-2 Inv-loop μ-loop
 same-length-2 c = search needs
 
--- src/main.rt:38:13
 returns-2 : tie.Need-returns-2 Inv-loop μ-loop
 returns-2 c = search needs
 
--- src/main.rt:40:9
 add-n : tie.Need-add-n Inv-loop μ-loop
 add-n c = search needs
 
--- src/main.rt:31:5
 loop-less : tie.Need-loop-less Inv-loop μ-loop
 loop-less c = search needs
 
--- src/main.rt:31:5
 loop-again : tie.Need-loop-again Inv-loop μ-loop
 loop-again c = search needs
 
--- src/main.rt:27:1
 same-length-3 : tie.Need-same-length-3 Inv-loop μ-loop
 same-length-3 c = search needs
 
--- src/main.rt:27:1
 returns-3 : tie.Need-returns-3 Inv-loop μ-loop
 returns-3 c = search needs
 

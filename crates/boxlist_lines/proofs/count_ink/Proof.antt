@@ -1,3 +1,4 @@
+-- Generated: tools/proof/write-skeletons, then tools/proof/list-facts --fill.
 use Rattle.boxlist_lines.specs.Column.{countInk}
 use borrow.Author.Needs.{needs}
 use Rattle.boxlist_lines.proofs.count_ink.Statement.{statement}
@@ -5,20 +6,16 @@ use Rattle.boxlist_lines.proofs.count_ink.Tie as tie
 use Rattle.boxlist_lines.proofs.count_ink.Reads as reads
 use Rattle.boxlist_lines.proofs.count_ink.Lts as lts
 
--- src/lib.rt:80:28
 enum-told : tie.Need-enum-told
 enum-told c = search needs
 
--- src/lib.rt:81:22
 enum-known-count : tie.Need-enum-known-count
 enum-known-count c = search needs
 
--- src/lib.rt:76:1
 returns : tie.Need-returns
 unfolding countInk
 returns c = simp (c .enum-told .given .1)
 
--- src/lib.rt:76:1
 returns-2 : tie.Need-returns-2
 unfolding countInk
 returns-2 c = simp (c .before .count .given .1)

@@ -1,3 +1,4 @@
+-- Generated: tools/proof/write-skeletons, then tools/proof/list-facts --fill.
 use Rattle.boxlist_lines.specs.Column.{leftOf}
 use borrow.Author.Tests.{le-leb, le-ltb, lt-leb, lt-ltb}
 use borrow.Author.Needs.{needs}
@@ -6,48 +7,38 @@ use Rattle.boxlist_lines.proofs.left_of.Tie as tie
 use Rattle.boxlist_lines.proofs.left_of.Reads as reads
 use Rattle.boxlist_lines.proofs.left_of.Lts as lts
 
--- src/lib.rt:46:21
 enum-known-ink : tie.Need-enum-known-ink
 enum-known-ink c = search needs
 
--- src/lib.rt:48:17
 returns : tie.Need-returns
 unfolding leftOf
 returns c = simp (c .before .before .ink .given .1, le-leb _ _ (c .if1 .taken), le-ltb _ _ (c .if1 .taken))
 
--- src/lib.rt:51:17
 returns-2 : tie.Need-returns-2
 unfolding leftOf
 returns-2 c = simp (c .before .before .before .ink .given .1, lt-ltb _ _ (c .before .if1 .left), lt-leb _ _ (c .before .if1 .left), c .if2 .taken)
 
--- src/lib.rt:55:22
 enum-told : tie.Need-enum-told
 enum-told c = search needs
 
--- src/lib.rt:56:22
 enum-told-2 : tie.Need-enum-told-2
 enum-told-2 c = search needs
 
--- src/lib.rt:57:23
 enum-told-3 : tie.Need-enum-told-3
 enum-told-3 c = search needs
 
--- src/lib.rt:42:1
 returns-3 : tie.Need-returns-3
 unfolding leftOf
 returns-3 c = simp (c .before .before .before .ink .given .1, lt-ltb _ _ (c .before .if1 .left), lt-leb _ _ (c .before .if1 .left), c .if2 .left)
 
--- src/lib.rt:42:1
 returns-4 : tie.Need-returns-4
 unfolding leftOf
 returns-4 c = simp (c .enum-told .given .1)
 
--- src/lib.rt:42:1
 returns-5 : tie.Need-returns-5
 unfolding leftOf
 returns-5 c = simp (c .enum-told2 .given .1)
 
--- src/lib.rt:42:1
 returns-6 : tie.Need-returns-6
 unfolding leftOf
 returns-6 c = simp (c .enum-told3 .given .1)

@@ -1,3 +1,4 @@
+-- Generated skeleton (tools/proof/write-skeletons), answers by hand.
 use Rattle.boxlist_lines.specs.Column.{codeText}
 use borrow.Author.Needs.{needs}
 use Rattle.boxlist_lines.proofs.put_code.Statement.{statement}
@@ -7,19 +8,15 @@ use Rattle.boxlist_lines.proofs.put_code.Lts as lts
 use Rattle.boxlist_lines.proofs.code_ink.Reads as code-ink-reads
 use Rattle.boxlist_lines.proofs.put.Reads as put-reads
 
--- src/lib.rt:109:26
 code-ink-requires : tie.Need-code-ink-requires
 code-ink-requires c κs = search needs
 
--- src/lib.rt:109:5
 put-requires : tie.Need-put-requires
 put-requires c κs = search needs
 
--- src/lib.rt:105:1
 same-length : tie.Need-same-length
 same-length c = search needs
 
--- src/lib.rt:105:1
 returns : tie.Need-returns
 unfolding codeText
 returns c = rw (← c .before .before .before .code-ink .ensures) (c .before .before .put .ensures)

@@ -1,3 +1,4 @@
+-- Generated skeleton (tools/proof/write-skeletons), answers by hand.
 use Rattle.boxlist_lines.specs.Column.{eighthsText}
 use borrow.Author.Needs.{needs}
 use Rattle.boxlist_lines.proofs.put_eighths.Statement.{statement}
@@ -8,23 +9,18 @@ use Rattle.boxlist_lines.proofs.count_ink.Reads as count-ink-reads
 use Rattle.boxlist_lines.proofs.put.Reads as put-reads
 use Rattle.util.proofs.eighths.to_eighths.Reads as to-eighths-reads
 
--- src/lib.rt:101:36
 to-eighths-requires : tie.Need-to-eighths-requires
 to-eighths-requires c κs = search needs
 
--- src/lib.rt:101:26
 count-ink-requires : tie.Need-count-ink-requires
 count-ink-requires c κs = search needs
 
--- src/lib.rt:101:5
 put-requires : tie.Need-put-requires
 put-requires c κs = search needs
 
--- src/lib.rt:97:1
 same-length : tie.Need-same-length
 same-length c = search needs
 
--- src/lib.rt:97:1
 returns : tie.Need-returns
 unfolding eighthsText
 returns c = rw (← c .before .before .before .before .to-eighths .ensures, ← c .before .before .before .count-ink .ensures) (c .before .before .put .ensures)

@@ -1,3 +1,4 @@
+-- Generated skeleton (tools/proof/write-skeletons), answers by hand.
 use mathlib.Core.Path.{sym}
 use lib.Seq.{length-take-le}
 use borrow.Author.Needs.{needs}
@@ -8,67 +9,51 @@ use Rattle.boxlist_print.proofs.list_parts.Lts as lts
 use Rattle.boxlist_print.proofs.list_run.Reads as list-run-reads
 use Rattle.boxlist_print.proofs.opening_of.Reads as opening-of-reads
 
--- src/lib.rt:116:22
 mul-styles-end : tie.Need-mul-styles-end
 mul-styles-end c = search needs
 
--- src/lib.rt:117:23
 mul-replies-end : tie.Need-mul-replies-end
 mul-replies-end c = search needs
 
--- src/lib.rt:118:26
 mul-candidates-end : tie.Need-mul-candidates-end
 mul-candidates-end c = search needs
 
--- src/lib.rt:119:23
 mul-layouts-end : tie.Need-mul-layouts-end
 mul-layouts-end c = search needs
 
--- src/lib.rt:121:9
 opening-of-requires : tie.Need-opening-of-requires
 opening-of-requires c κs = search needs
 
--- src/lib.rt:122:9
 slice-aggregate-list-run : tie.Need-slice-aggregate-list-run
 slice-aggregate-list-run c = sym (length-take-le _ _ (c .before .before .before .before .before .before .before .before .before .before .pre .0 .1))
 
--- src/lib.rt:123:9
 slice-aggregate-list-run-2 : tie.Need-slice-aggregate-list-run-2
 slice-aggregate-list-run-2 c = sym (length-take-le _ _ (c .before .before .before .before .before .before .before .before .before .before .before .pre .0 .0))
 
--- src/lib.rt:124:9
 slice-aggregate-list-run-3 : tie.Need-slice-aggregate-list-run-3
 slice-aggregate-list-run-3 c = sym (length-take-le _ _ (c .before .before .before .before .before .before .before .before .before .before .before .before .pre .0 .2))
 
--- src/lib.rt:125:9
 slice-relend-prefix-list-run : tie.Need-slice-relend-prefix-list-run
 slice-relend-prefix-list-run c = search needs
 
--- src/lib.rt:125:9
 slice-aggregate-list-run-4 : tie.Need-slice-aggregate-list-run-4
 slice-aggregate-list-run-4 c = sym (length-take-le _ _ (c .before .before .before .before .before .before .before .before .before .before .before .before .before .pre .0 .3))
 
--- src/lib.rt:120:5
 list-run-requires : tie.Need-list-run-requires
 list-run-requires c κs = search needs
 
--- src/lib.rt:100:1
 same-length : tie.Need-same-length
 same-length c = search needs
 
--- src/lib.rt:100:1
 same-length-2 : tie.Need-same-length-2
 same-length-2 c = search needs
 
--- src/lib.rt:100:1
 same-length-3 : tie.Need-same-length-3
 same-length-3 c = search needs
 
--- src/lib.rt:100:1
 same-length-4 : tie.Need-same-length-4
 same-length-4 c = search needs
 
--- src/lib.rt:100:1
 returns : tie.Need-returns
 returns c = rw (c .before .before .before .before .before .before .before .before .before .before .before .before .before .before .before .before .opening-of .ensures) at (c .before .before .before .before .before .before .before .before .list-run .ensures)
 

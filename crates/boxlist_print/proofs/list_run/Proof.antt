@@ -1,3 +1,4 @@
+-- Generated skeleton (tools/proof/write-skeletons), answers by hand.
 use Rattle.run.specs.Call.{lent}
 use Rattle.run.proofs.Call.{left-step}
 use Rattle.boxlist_print.proofs.Lists.{list-asked, list-finished, list-refused, list-fits}
@@ -11,90 +12,69 @@ use Rattle.boxlist_print.proofs.rows.put_refused.Reads as put-refused-r
 use Rattle.refusal.proofs.Refusal.number.Reads as number-reads
 use Rattle.script.proofs.play_out.Reads as play-out-reads
 
--- src/lib.rt:73:9
 play-out-requires : tie.Need-play-out-requires
 play-out-requires c κs = search needs
 
--- src/lib.rt:86:27
 enum-told : tie.Need-enum-told
 enum-told c = search needs
 
--- src/lib.rt:87:24
 enum-known-answer : tie.Need-enum-known-answer
 enum-known-answer c = search needs
 
--- src/lib.rt:89:13
 put-list-requires : tie.Need-put-list-requires
 put-list-requires c κs =
     let p = c .before .before .before .before .before .before .before .before .before .before .before .before .before .before .play-out .ensures in
     let a = c .before .before .before .before .before .before .before .before .before .before .before .before .before .before .before .before .before .before .before .before .before .before .before .before .before .args in
     list-fits (a .o) (a .replies .now) (a .candidates .now) (lent (a .styles .now) (a .layouts .now) (a .working .now) (a .unclaimed .now)) _ _ (left-step p) (c .before .before .before .before .before .before .before .before .before .before .before .before .before .before .before .before .before .before .before .before .before .before .before .before .before .pre .0) (c .before .before .before .before .before .before .before .before .before .before .before .before .before .before .before .before .before .before .before .before .before .before .before .before .before .pre .1)
 
--- src/lib.rt:91:25
 enum-known-answer-2 : tie.Need-enum-known-answer-2
 enum-known-answer-2 c = search needs
 
--- src/lib.rt:91:60
 number-requires : tie.Need-number-requires
 number-requires c κs = search needs
 
--- src/lib.rt:91:37
 put-refused-requires : tie.Need-put-refused-requires
 put-refused-requires c κs = search needs
 
--- src/lib.rt:59:1
 same-length : tie.Need-same-length
 same-length c = search needs
 
--- src/lib.rt:59:1
 same-length-2 : tie.Need-same-length-2
 same-length-2 c = search needs
 
--- src/lib.rt:59:1
 same-length-3 : tie.Need-same-length-3
 same-length-3 c = search needs
 
--- src/lib.rt:59:1
 returns : tie.Need-returns
 returns c = list-asked _ _ _ _ _ (c .before .before .before .before .before .before .before .before .before .play-out .ensures) _ (c .enum-told .given .1)
 
--- src/lib.rt:59:1
 same-length-4 : tie.Need-same-length-4
 same-length-4 c = search needs
 
--- src/lib.rt:59:1
 same-length-5 : tie.Need-same-length-5
 same-length-5 c = search needs
 
--- src/lib.rt:59:1
 same-length-6 : tie.Need-same-length-6
 same-length-6 c = search needs
 
--- src/lib.rt:59:1
 same-length-7 : tie.Need-same-length-7
 same-length-7 c = search needs
 
--- src/lib.rt:59:1
 returns-2 : tie.Need-returns-2
 returns-2 c = list-finished _ _ _ _ _ (c .before .before .before .before .before .before .before .before .before .before .before .before .before .before .before .before .before .play-out .ensures) _ (c .before .before .before .before .before .before .before .before .answer .given .1) (c .before .before .put-list .ensures)
 
--- src/lib.rt:59:1
 same-length-8 : tie.Need-same-length-8
 same-length-8 c = search needs
 
--- src/lib.rt:59:1
 same-length-9 : tie.Need-same-length-9
 same-length-9 c = search needs
 
--- src/lib.rt:59:1
 same-length-10 : tie.Need-same-length-10
 same-length-10 c = search needs
 
--- src/lib.rt:59:1
 same-length-11 : tie.Need-same-length-11
 same-length-11 c = search needs
 
--- src/lib.rt:59:1
 returns-3 : tie.Need-returns-3
 returns-3 c = list-refused _ _ _ _ _ (c .before .before .before .before .before .before .before .before .before .before .before .before .before .before .before .play-out .ensures) _ (c .before .before .before .before .before .before .answer2 .given .1) (c .before .before .before .number .ensures) (c .before .before .put-refused .ensures)
 

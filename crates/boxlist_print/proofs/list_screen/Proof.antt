@@ -1,3 +1,4 @@
+-- Generated skeleton (tools/proof/write-skeletons), answers by hand.
 use mathlib.Core.Path.{sym, _∙_}
 use Rattle.screen.proofs.Whole.{read-told, bad-told}
 use Rattle.boxlist_print.proofs.Whole.{printed-bad, printed-read}
@@ -11,39 +12,31 @@ use Rattle.boxlist_print.proofs.rows.put_refused.Reads as put-refused-r
 use Rattle.refusal.proofs.Refusal.number.Reads as number-reads
 use Rattle.screen.proofs.read_screen.Reads as read-screen-reads
 
--- src/lib.rt:170:9
 read-screen-requires : tie.Need-read-screen-requires
 read-screen-requires c κs = search needs
 
--- src/lib.rt:178:46
 enum-told : tie.Need-enum-told
 enum-told c = search needs
 
--- src/lib.rt:178:51
 number-requires : tie.Need-number-requires
 number-requires c κs = search needs
 
--- src/lib.rt:178:28
 put-refused-requires : tie.Need-put-refused-requires
 put-refused-requires c κs = search needs
 
--- src/lib.rt:179:22
 enum-known-answer : tie.Need-enum-known-answer
 enum-known-answer c = search needs
 
--- src/lib.rt:179:31
 list-words-requires : tie.Need-list-words-requires
 list-words-requires c κs =
     let t = read-told (c .before .before .before .before .before .before .before .before .before .before .before .before .before .before .args .text .now) _ _ (sym (c .before .before .before .before .before .before .answer .given .1) ∙ c .before .before .before .before .before .before .before .before .read-screen .ensures .answer) in
     (t .fewItems, t .fewCandidates)
 
--- src/lib.rt:163:1
 returns : tie.Need-returns
 returns c =
     let text = c .before .before .before .before .before .before .before .before .before .before .before .args .text .now in
     printed-bad text (bad-told text (sym (c .before .before .before .enum-told .given .1) ∙ c .before .before .before .before .before .read-screen .ensures .answer)) (rw (c .before .number .ensures) at (c .put-refused .ensures))
 
--- src/lib.rt:163:1
 returns-2 : tie.Need-returns-2
 returns-2 c =
     let text = c .before .before .before .before .before .before .before .before .before .before .before .before .before .before .before .args .text .now in

@@ -1,3 +1,4 @@
+-- Generated skeleton (tools/proof/write-skeletons), answers by hand.
 use Prim.Native.Nat.{_*_}
 use native.Mathlib.Nat.{mul-le-mul-right}
 use Rattle.tree_record.specs.Layout.{layoutWidth}
@@ -10,23 +11,18 @@ use Rattle.boxlist_print.proofs.list_words.Reads as reads
 use Rattle.boxlist_print.proofs.list_words.Lts as lts
 use Rattle.boxlist_print.proofs.list_parts.Reads as list-parts-reads
 
--- src/lib.rt:155:9
 slice-aggregate-list-parts : tie.Need-slice-aggregate-list-parts
 slice-aggregate-list-parts c = search needs
 
--- src/lib.rt:156:9
 slice-aggregate-list-parts-2 : tie.Need-slice-aggregate-list-parts-2
 slice-aggregate-list-parts-2 c = search needs
 
--- src/lib.rt:157:9
 slice-aggregate-list-parts-3 : tie.Need-slice-aggregate-list-parts-3
 slice-aggregate-list-parts-3 c = search needs
 
--- src/lib.rt:148:5
 list-parts-requires : tie.Need-list-parts-requires
 list-parts-requires c κs = search needs
 
--- src/lib.rt:133:1
 returns : tie.Need-returns
 returns c =
     let a = c .before .before .before .before .before .before .before .before .before .before .before .before .args in

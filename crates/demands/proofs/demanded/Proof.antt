@@ -1,3 +1,4 @@
+-- Generated skeleton (tools/proof/write-skeletons), answers by hand.
 use Rattle.demands.proofs.Demands.{three-questions-each, equals-straight-run, laid-out-as-asked, mirror-image}
 use Rattle.run.proofs.EachQuestion.{stage-tells-kind}
 use Rattle.demands.proofs.demanded.Statement.{statement}

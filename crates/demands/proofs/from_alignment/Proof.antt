@@ -1,3 +1,4 @@
+-- Generated skeleton (tools/proof/write-skeletons), answers by hand.
 use borrow.Author.Needs.{needs}
 use Rattle.demands.proofs.Demands.{alignment-demands}
 use Rattle.demands.proofs.from_alignment.Statement.{statement}

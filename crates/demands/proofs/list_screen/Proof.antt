@@ -1,3 +1,4 @@
+-- Generated skeleton (tools/proof/write-skeletons), answers by hand.
 use borrow.Author.Needs.{needs}
 use Rattle.demands.proofs.Demands.{screen-demands}
 use Rattle.demands.proofs.list_screen.Statement.{statement}

@@ -1,10 +1,10 @@
+-- Generated skeleton (tools/proof/write-skeletons), answers by hand.
 use Rattle.demands_c.proofs.Demands.{three-questions-each, equals-straight-run}
 use Rattle.demands_c.proofs.demanded.Statement.{statement}
 use Rattle.demands_c.proofs.demanded.Tie as tie
 use Rattle.demands_c.proofs.demanded.Reads as reads
 use Rattle.demands_c.proofs.demanded.Lts as lts
 
--- src/lib.rt:129:1
 returns : tie.Need-returns
 returns c = record { three-questions-each = three-questions-each; equals-straight-run = equals-straight-run }
 

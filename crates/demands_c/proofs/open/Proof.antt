@@ -1,3 +1,4 @@
+-- Generated skeleton (tools/proof/write-skeletons), answers by hand.
 use Rattle.oof_c.specs.Entry.{words, openingOf}
 use Rattle.demands_c.proofs.Demands.{opening-demands}
 use borrow.Author.Needs.{needs}
@@ -7,23 +8,18 @@ use Rattle.demands_c.proofs.open.Reads as reads
 use Rattle.demands_c.proofs.open.Lts as lts
 use Rattle.oof_c.proofs.oof_open.Reads as oof-open-reads
 
--- src/lib.rt:27:5
 oof-open-requires : tie.Need-oof-open-requires
 oof-open-requires c κs = search needs
 
--- src/lib.rt:8:1
 same-length : tie.Need-same-length
 same-length c = search needs
 
--- src/lib.rt:8:1
 same-length-2 : tie.Need-same-length-2
 same-length-2 c = search needs
 
--- src/lib.rt:8:1
 same-length-3 : tie.Need-same-length-3
 same-length-3 c = search needs
 
--- src/lib.rt:8:1
 returns : tie.Need-returns
 returns c =
     let a = c .before .before .before .before .before .before .before .before .before .before .before .before .before .before .before .before .before .args in

@@ -1,3 +1,4 @@
+-- Generated skeleton (tools/proof/write-skeletons), answers by hand.
 use Rattle.oof_c.specs.Entry.{words}
 use Rattle.demands_c.proofs.Demands.{reply-demands}
 use Rattle.oof_box.specs.declared.question.Reply.the-variants.{LaidOut}
@@ -8,23 +9,18 @@ use Rattle.demands_c.proofs.reply_laid_out.Reads as reads
 use Rattle.demands_c.proofs.reply_laid_out.Lts as lts
 use Rattle.oof_c.proofs.oof_reply_laid_out.Reads as oof-reply-laid-out-reads
 
--- src/lib.rt:113:5
 oof-reply-laid-out-requires : tie.Need-oof-reply-laid-out-requires
 oof-reply-laid-out-requires c κs = search needs
 
--- src/lib.rt:98:1
 same-length : tie.Need-same-length
 same-length c = search needs
 
--- src/lib.rt:98:1
 same-length-2 : tie.Need-same-length-2
 same-length-2 c = search needs
 
--- src/lib.rt:98:1
 same-length-3 : tie.Need-same-length-3
 same-length-3 c = search needs
 
--- src/lib.rt:98:1
 returns : tie.Need-returns
 returns c =
     let a = c .before .before .before .before .before .before .before .before .before .before .before .before .before .before .before .before .before .args in

@@ -1,3 +1,4 @@
+-- Generated: tools/proof/write-skeletons, then tools/proof/list-facts --fill.
 use Rattle.oof_axis.specs.Axis.{centeredBlock}
 use borrow.Author.Needs.{needs}
 use Rattle.oof_axis.proofs.centered_block.Statement.{statement}
@@ -6,20 +7,16 @@ use Rattle.oof_axis.proofs.centered_block.Reads as reads
 use Rattle.oof_axis.proofs.centered_block.Lts as lts
 use Rattle.util.proofs.sys.abs.Reads as abs-reads
 
--- src/lib.rt:179:8
 abs-requires : tie.Need-abs-requires
 abs-requires c κs = search needs
 
--- src/lib.rt:179:28
 abs-requires-2 : tie.Need-abs-requires-2
 abs-requires-2 c κs = search needs
 
--- src/lib.rt:180:9
 returns : tie.Need-returns
 unfolding centeredBlock
 returns c = simp (← c .before .before .abs .ensures, ← c .before .abs2 .ensures, c .if1 .taken)
 
--- src/lib.rt:175:1
 returns-2 : tie.Need-returns-2
 unfolding centeredBlock
 returns-2 c = simp (← c .before .before .abs .ensures, ← c .before .abs2 .ensures, c .if1 .left)

@@ -1,3 +1,4 @@
+-- Generated: tools/proof/write-skeletons, then tools/proof/list-facts --fill.
 use Rattle.oof_axis.specs.StaticOffset.{axisOffset}
 use borrow.Author.Needs.{needs}
 use Rattle.oof_axis.proofs.resolve_static_offset_axis.Statement.{statement}
@@ -7,15 +8,12 @@ use Rattle.oof_axis.proofs.resolve_static_offset_axis.Lts as lts
 use Rattle.oof_axis.proofs.align_in_line.Reads as align-in-line-reads
 use Rattle.oof_axis.proofs.offset_edge.Reads as offset-edge-reads
 
--- src/lib.rt:78:9
 offset-edge-requires : tie.Need-offset-edge-requires
 offset-edge-requires c κs = search needs
 
--- src/lib.rt:79:5
 align-in-line-requires : tie.Need-align-in-line-requires
 align-in-line-requires c κs = search needs
 
--- src/lib.rt:73:1
 returns : tie.Need-returns
 unfolding axisOffset
 returns c = simp (← c .before .before .offset-edge .ensures, ← c .before .align-in-line .ensures)

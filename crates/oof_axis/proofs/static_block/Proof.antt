@@ -1,3 +1,4 @@
+-- Generated: tools/proof/write-skeletons, then tools/proof/list-facts --fill.
 use Rattle.oof_axis.specs.Axis.{staticBlock}
 use borrow.Author.Needs.{needs}
 use Rattle.oof_axis.proofs.static_block.Statement.{statement}
@@ -6,33 +7,26 @@ use Rattle.oof_axis.proofs.static_block.Reads as reads
 use Rattle.oof_axis.proofs.static_block.Lts as lts
 use Rattle.oof_axis.proofs.centered_block.Reads as centered-block-reads
 
--- src/lib.rt:196:34
 enum-told : tie.Need-enum-told
 enum-told c = search needs
 
--- src/lib.rt:200:51
 enum-told-2 : tie.Need-enum-told-2
 enum-told-2 c = search needs
 
--- src/lib.rt:200:35
 centered-block-requires : tie.Need-centered-block-requires
 centered-block-requires c κs = search needs
 
--- src/lib.rt:201:32
 enum-told-3 : tie.Need-enum-told-3
 enum-told-3 c = search needs
 
--- src/lib.rt:192:1
 returns : tie.Need-returns
 unfolding staticBlock
 returns c = simp (c .enum-told .given .1)
 
--- src/lib.rt:192:1
 returns-2 : tie.Need-returns-2
 unfolding staticBlock
 returns-2 c = simp (c .before .before .enum-told2 .given .1, ← c .centered-block .ensures)
 
--- src/lib.rt:192:1
 returns-3 : tie.Need-returns-3
 unfolding staticBlock
 returns-3 c = simp (c .enum-told3 .given .1)

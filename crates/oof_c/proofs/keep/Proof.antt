@@ -1,3 +1,4 @@
+-- Generated: tools/proof/write-skeletons, then tools/proof/list-facts --fill.
 use Rattle.oof_c.specs.Entry.{stateLeft}
 use borrow.Author.Needs.{needs}
 use Rattle.oof_c.proofs.keep.Statement.{statement}
@@ -7,20 +8,16 @@ use Rattle.oof_c.proofs.keep.Lts as lts
 use Rattle.oof_c.proofs.is_refused.Reads as is-refused-reads
 use Rattle.oof_c.proofs.state.state_words.Reads as state-words-reads
 
--- src/lib.rt:52:9
 state-words-requires : tie.Need-state-words-requires
 state-words-requires c κs = search needs
 
--- src/lib.rt:53:8
 is-refused-requires : tie.Need-is-refused-requires
 is-refused-requires c κs = search needs
 
--- src/lib.rt:54:9
 returns : tie.Need-returns
 unfolding stateLeft
 returns c = simp (← c .before .is-refused .ensures, c .if1 .taken)
 
--- src/lib.rt:47:1
 returns-2 : tie.Need-returns-2
 unfolding stateLeft
 returns-2 c = simp (← c .before .is-refused .ensures, c .if1 .left, ← c .before .before .state-words .ensures)

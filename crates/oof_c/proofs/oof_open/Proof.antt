@@ -1,3 +1,4 @@
+-- Generated skeleton (tools/proof/write-skeletons), answers by hand.
 use Rattle.run.specs.declared.Step.{Step}
 use Rattle.oof_c.specs.StateWords.{stateWords}
 use Rattle.oof_c.specs.Entry.{openedInWords}
@@ -11,31 +12,24 @@ use Rattle.oof_c.proofs.state.state_words.Reads as state-words-reads
 use Rattle.oof_c.proofs.tell.Reads as tell-reads
 use Rattle.placer.proofs.open.Reads as open-reads
 
--- src/lib.rt:90:9
 open-requires : tie.Need-open-requires
 open-requires c κs = search needs
 
--- src/lib.rt:93:14
 state-words-requires : tie.Need-state-words-requires
 state-words-requires c κs = search needs
 
--- src/lib.rt:94:5
 tell-requires : tie.Need-tell-requires
 tell-requires c κs = search needs
 
--- src/lib.rt:59:1
 same-length : tie.Need-same-length
 same-length c = search needs
 
--- src/lib.rt:59:1
 same-length-2 : tie.Need-same-length-2
 same-length-2 c = search needs
 
--- src/lib.rt:59:1
 same-length-3 : tie.Need-same-length-3
 same-length-3 c = search needs
 
--- src/lib.rt:59:1
 returns : tie.Need-returns
 unfolding openedInWords
 returns c =

@@ -1,3 +1,4 @@
+-- Generated skeleton (tools/proof/write-skeletons), answers by hand.
 use Rattle.run.specs.declared.Step.{Step}
 use Rattle.oof_c.specs.Entry.{stateLeft, repliedInWords}
 use Rattle.oof_c.proofs.Calls.{in-words}
@@ -11,35 +12,27 @@ use Rattle.oof_c.proofs.state.state_of.Reads as state-of-reads
 use Rattle.oof_c.proofs.tell.Reads as tell-reads
 use Rattle.placer.proofs.reply.Reads as reply-reads
 
--- src/lib.rt:110:9
 state-of-requires : tie.Need-state-of-requires
 state-of-requires c κs = search needs
 
--- src/lib.rt:111:9
 reply-requires : tie.Need-reply-requires
 reply-requires c κs = search needs
 
--- src/lib.rt:113:5
 keep-requires : tie.Need-keep-requires
 keep-requires c κs = search needs
 
--- src/lib.rt:114:5
 tell-requires : tie.Need-tell-requires
 tell-requires c κs = search needs
 
--- src/lib.rt:98:1
 same-length : tie.Need-same-length
 same-length c = search needs
 
--- src/lib.rt:98:1
 same-length-2 : tie.Need-same-length-2
 same-length-2 c = search needs
 
--- src/lib.rt:98:1
 same-length-3 : tie.Need-same-length-3
 same-length-3 c = search needs
 
--- src/lib.rt:98:1
 returns : tie.Need-returns
 unfolding repliedInWords
 returns c =

@@ -1,3 +1,4 @@
+-- Generated: tools/proof/write-skeletons, then tools/proof/list-facts --fill.
 use Rattle.oof_c.specs.Entry.{resultOf, answerLeft}
 use borrow.Author.Needs.{needs}
 use Rattle.oof_c.proofs.tell.Statement.{statement}
@@ -8,41 +9,32 @@ use Rattle.oof_c.proofs.answer.finish_words.Reads as finish-words-reads
 use Rattle.oof_c.proofs.answer.question_words.Reads as question-words-reads
 use Rattle.refusal.proofs.Refusal.number.Reads as number-reads
 
--- src/lib.rt:24:25
 enum-known-a : tie.Need-enum-known-a
 enum-known-a c = search needs
 
--- src/lib.rt:24:37
 number-requires : tie.Need-number-requires
 number-requires c κs = search needs
 
--- src/lib.rt:25:21
 enum-known-a-2 : tie.Need-enum-known-a-2
 enum-known-a-2 c = search needs
 
--- src/lib.rt:26:23
 question-words-requires : tie.Need-question-words-requires
 question-words-requires c κs = search needs
 
--- src/lib.rt:29:24
 enum-known-a-3 : tie.Need-enum-known-a-3
 enum-known-a-3 c = search needs
 
--- src/lib.rt:30:23
 finish-words-requires : tie.Need-finish-words-requires
 finish-words-requires c κs = search needs
 
--- src/lib.rt:20:1
 returns : tie.Need-returns
 unfolding resultOf answerLeft
 returns c = simp (c .before .before .a .given .1, ← c .number .ensures)
 
--- src/lib.rt:20:1
 returns-2 : tie.Need-returns-2
 unfolding resultOf answerLeft
 returns-2 c = simp (c .before .before .a2 .given .1, ← c .question-words .ensures)
 
--- src/lib.rt:20:1
 returns-3 : tie.Need-returns-3
 unfolding resultOf answerLeft
 returns-3 c = simp (c .before .before .a3 .given .1, ← c .finish-words .ensures)

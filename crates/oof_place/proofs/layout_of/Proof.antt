@@ -1,3 +1,4 @@
+-- Generated: tools/proof/write-skeletons, then tools/proof/list-facts --fill.
 use Rattle.oof_place.specs.Placing.{layoutOf}
 use borrow.Author.Needs.{needs}
 use Rattle.oof_place.proofs.layout_of.Statement.{statement}
@@ -8,27 +9,21 @@ use Rattle.geometry.proofs.Rect.from_components.Reads as from-components-reads
 use Rattle.oof_axis.proofs.OofAxis.placement.Reads as placement-reads
 use Rattle.oof_place.proofs.scrollbar_of.Reads as scrollbar-of-reads
 
--- src/lib.rt:49:9
 placement-requires : tie.Need-placement-requires
 placement-requires c κs = search needs
 
--- src/lib.rt:50:9
 placement-requires-2 : tie.Need-placement-requires-2
 placement-requires-2 c κs = search needs
 
--- src/lib.rt:58:20
 scrollbar-of-requires : tie.Need-scrollbar-of-requires
 scrollbar-of-requires c κs = search needs
 
--- src/lib.rt:59:21
 scrollbar-of-requires-2 : tie.Need-scrollbar-of-requires-2
 scrollbar-of-requires-2 c κs = search needs
 
--- src/lib.rt:67:17
 from-components-requires : tie.Need-from-components-requires
 from-components-requires c κs = search needs
 
--- src/lib.rt:31:1
 returns : tie.Need-returns
 unfolding layoutOf
 returns c = simp (← c .before .before .before .before .before .before .before .before .before .before .placement .ensures, ← c .before .before .before .before .before .before .before .before .before .placement2 .ensures, ← c .before .before .before .before .before .before .scrollbar-of .ensures, ← c .before .before .before .before .before .scrollbar-of2 .ensures, ← c .from-components .ensures)

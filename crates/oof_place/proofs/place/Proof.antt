@@ -1,3 +1,4 @@
+-- Generated: tools/proof/write-skeletons, then tools/proof/list-facts --fill.
 use Rattle.oof_place.specs.Placing.{boxLayout}
 use borrow.Author.Needs.{needs}
 use Rattle.oof_place.proofs.place.Statement.{statement}
@@ -9,24 +10,19 @@ use Rattle.oof_place.proofs.from_origin.Reads as from-origin-reads
 use Rattle.oof_place.proofs.layout_of.Reads as layout-of-reads
 use Rattle.style.proofs.OverflowPoint.is_scroll_container.Reads as is-scroll-container-reads
 
--- src/lib.rt:101:9
 layout-of-requires : tie.Need-layout-of-requires
 layout-of-requires c κs = search needs
 
--- src/lib.rt:103:9
 from-origin-requires : tie.Need-from-origin-requires
 from-origin-requires c κs = search needs
 
--- src/lib.rt:110:9
 is-scroll-container-requires : tie.Need-is-scroll-container-requires
 is-scroll-container-requires c κs = search needs
 
--- src/lib.rt:104:9
 compute-scrollable-overflow-contribution-requires :
     tie.Need-compute-scrollable-overflow-contribution-requires
 compute-scrollable-overflow-contribution-requires c κs = search needs
 
--- src/lib.rt:88:1
 returns : tie.Need-returns
 unfolding boxLayout
 returns c = simp (← c .before .before .before .before .layout-of .ensures, ← c .before .before .from-origin .ensures, ← c .before .is-scroll-container .ensures, ← c .compute-scrollable-overflow-contribution .ensures)

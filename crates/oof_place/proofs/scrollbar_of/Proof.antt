@@ -1,3 +1,4 @@
+-- Generated: tools/proof/write-skeletons, then tools/proof/list-facts --fill.
 use Rattle.oof_place.specs.Placing.{scrollbarOf}
 use borrow.Author.Needs.{needs}
 use Rattle.oof_place.proofs.scrollbar_of.Statement.{statement}
@@ -6,16 +7,13 @@ use Rattle.oof_place.proofs.scrollbar_of.Reads as reads
 use Rattle.oof_place.proofs.scrollbar_of.Lts as lts
 use Rattle.style.proofs.Overflow.is_scroll.Reads as is-scroll-reads
 
--- src/lib.rt:24:8
 is-scroll-requires : tie.Need-is-scroll-requires
 is-scroll-requires c κs = search needs
 
--- src/lib.rt:25:9
 returns : tie.Need-returns
 unfolding scrollbarOf
 returns c = simp (← c .before .is-scroll .ensures, c .if1 .taken)
 
--- src/lib.rt:21:1
 returns-2 : tie.Need-returns-2
 unfolding scrollbarOf
 returns-2 c = simp (← c .before .is-scroll .ensures, c .if1 .left)

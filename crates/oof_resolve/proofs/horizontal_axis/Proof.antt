@@ -1,3 +1,4 @@
+-- Generated skeleton (tools/proof/write-skeletons), answers by hand.
 use Rattle.oof_resolve.specs.Resolved.{horizontal}
 use borrow.Author.Needs.{needs}
 use Rattle.oof_resolve.proofs.horizontal_axis.Statement.{statement}
@@ -13,43 +14,33 @@ use Rattle.style.proofs.Direction.is_rtl.Reads as is-rtl-reads
 use Rattle.style.proofs.Overflow.is_scroll_container.Reads as is-scroll-container-reads
 use Rattle.style.proofs.alignment.AlignItems.resolve_self_relative.Reads as resolve-self-relative-reads
 
--- src/lib.rt:88:9
 resolve-self-relative-requires : tie.Need-resolve-self-relative-requires
 resolve-self-relative-requires c κs = search needs
 
--- src/lib.rt:92:16
 of-each-axis-requires : tie.Need-of-each-axis-requires
 of-each-axis-requires c κs = search needs
 
--- src/lib.rt:92:16
 horizontal-components-requires : tie.Need-horizontal-components-requires
 horizontal-components-requires c κs = search needs
 
--- src/lib.rt:93:17
 of-width-requires : tie.Need-of-width-requires
 of-width-requires c κs = search needs
 
--- src/lib.rt:93:17
 horizontal-components-requires-2 : tie.Need-horizontal-components-requires-2
 horizontal-components-requires-2 c κs = search needs
 
--- src/lib.rt:94:16
 less-offset-requires : tie.Need-less-offset-requires
 less-offset-requires c κs = search needs
 
--- src/lib.rt:95:20
 from-resolved-requires : tie.Need-from-resolved-requires
 from-resolved-requires c κs = search needs
 
--- src/lib.rt:98:19
 is-rtl-requires : tie.Need-is-rtl-requires
 is-rtl-requires c κs = search needs
 
--- src/lib.rt:99:18
 is-scroll-container-requires : tie.Need-is-scroll-container-requires
 is-scroll-container-requires c κs = search needs
 
--- src/lib.rt:73:1
 returns : tie.Need-returns
 unfolding horizontal
 returns c = rw (c .is-scroll-container .ensures, c .before .is-rtl .ensures, c .before .before .from-resolved .ensures, c .before .before .before .less-offset .ensures, c .before .before .before .before .horizontal-components2 .ensures, c .before .before .before .before .before .of-width .ensures, c .before .before .before .before .before .before .horizontal-components .ensures, c .before .before .before .before .before .before .before .of-each-axis .ensures, c .before .before .before .before .before .before .before .before .resolve-self-relative .ensures)

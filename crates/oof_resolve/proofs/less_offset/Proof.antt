@@ -1,3 +1,4 @@
+-- Generated: tools/proof/write-skeletons, then tools/proof/list-facts --fill.
 use Rattle.oof_resolve.specs.Resolved.{lessOffset}
 use borrow.Author.Needs.{needs}
 use Rattle.oof_resolve.proofs.less_offset.Statement.{statement}
@@ -6,11 +7,9 @@ use Rattle.oof_resolve.proofs.less_offset.Reads as reads
 use Rattle.oof_resolve.proofs.less_offset.Lts as lts
 use Rattle.geometry.proofs.Line.relative_to.Reads as relative-to-reads
 
--- src/lib.rt:68:15
 relative-to-requires : tie.Need-relative-to-requires
 relative-to-requires c κs = search needs
 
--- src/lib.rt:62:1
 returns : tie.Need-returns
 unfolding lessOffset
 returns c = simp (← c .relative-to .ensures)

@@ -1,3 +1,4 @@
+-- Generated: tools/proof/write-skeletons, then tools/proof/list-facts --fill.
 use Rattle.oof_resolve.specs.Resolved.{minSize}
 use borrow.Author.Needs.{needs}
 use Rattle.oof_resolve.proofs.min_size.Statement.{statement}
@@ -9,23 +10,18 @@ use Rattle.geometry.proofs.MaybeSize.or.Reads as or-reads
 use Rattle.geometry.proofs.Size.some.Reads as some-reads
 use Rattle.oof_resolve.proofs.style_size.Reads as style-size-reads
 
--- src/lib.rt:160:5
 style-size-requires : tie.Need-style-size-requires
 style-size-requires c κs = search needs
 
--- src/lib.rt:161:13
 some-requires : tie.Need-some-requires
 some-requires c κs = search needs
 
--- src/lib.rt:160:5
 or-requires : tie.Need-or-requires
 or-requires c κs = search needs
 
--- src/lib.rt:160:5
 maybe-max-requires : tie.Need-maybe-max-requires
 maybe-max-requires c κs = search needs
 
--- src/lib.rt:156:1
 returns : tie.Need-returns
 unfolding minSize
 returns c = simp (← c .before .before .before .style-size .ensures, ← c .before .before .some .ensures, ← c .before .or .ensures, ← c .maybe-max .ensures)

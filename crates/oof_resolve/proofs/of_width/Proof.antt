@@ -1,3 +1,4 @@
+-- Generated: tools/proof/write-skeletons, then tools/proof/list-facts --fill.
 use Rattle.oof_resolve.specs.Resolved.{ofWidth}
 use borrow.Author.Needs.{needs}
 use Rattle.oof_resolve.proofs.of_width.Statement.{statement}
@@ -6,11 +7,9 @@ use Rattle.oof_resolve.proofs.of_width.Reads as reads
 use Rattle.oof_resolve.proofs.of_width.Lts as lts
 use Rattle.style.proofs.resolve.maybe_resolve_rect.Reads as maybe-resolve-rect-reads
 
--- src/lib.rt:51:5
 maybe-resolve-rect-requires : tie.Need-maybe-resolve-rect-requires
 maybe-resolve-rect-requires c κs = search needs
 
--- src/lib.rt:48:1
 returns : tie.Need-returns
 unfolding ofWidth
 returns c = simp (← c .maybe-resolve-rect .ensures)

@@ -1,3 +1,4 @@
+-- Generated: tools/proof/write-skeletons, then tools/proof/list-facts --fill.
 use Rattle.oof_resolve.specs.Resolved.{paddingOrBorder}
 use borrow.Author.Needs.{needs}
 use Rattle.oof_resolve.proofs.padding_or_border.Statement.{statement}
@@ -7,15 +8,12 @@ use Rattle.oof_resolve.proofs.padding_or_border.Lts as lts
 use Rattle.geometry.proofs.MaybeRect.unwrap_or_zero.Reads as unwrap-or-zero-reads
 use Rattle.oof_resolve.proofs.of_width.Reads as of-width-reads
 
--- src/lib.rt:139:5
 of-width-requires : tie.Need-of-width-requires
 of-width-requires c κs = search needs
 
--- src/lib.rt:139:5
 unwrap-or-zero-requires : tie.Need-unwrap-or-zero-requires
 unwrap-or-zero-requires c κs = search needs
 
--- src/lib.rt:136:1
 returns : tie.Need-returns
 unfolding paddingOrBorder
 returns c = simp (← c .before .of-width .ensures, ← c .unwrap-or-zero .ensures)

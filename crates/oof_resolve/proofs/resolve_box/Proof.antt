@@ -1,3 +1,4 @@
+-- Generated: tools/proof/write-skeletons, then tools/proof/list-facts --fill.
 use Rattle.oof_resolve.specs.Resolved.{resolvedBox}
 use borrow.Author.Needs.{needs}
 use Rattle.oof_resolve.proofs.resolve_box.Statement.{statement}
@@ -17,67 +18,51 @@ use Rattle.oof_resolve.proofs.vertical_axis.Reads as vertical-axis-read
 use Rattle.style.proofs.available_space.AvailableSize.definite.Reads as definite-reads
 use Rattle.style.proofs.available_space.AvailableSize.maybe_clamp.Reads as available-space-AvailableSize-maybe-clamp-reads
 
--- src/lib.rt:200:9
 horizontal-axis-requires : tie.Need-horizontal-axis-requires
 horizontal-axis-requires c κs = search needs
 
--- src/lib.rt:201:9
 vertical-axis-requires : tie.Need-vertical-axis-requires
 vertical-axis-requires c κs = search needs
 
--- src/lib.rt:202:9
 padding-or-border-requires : tie.Need-padding-or-border-requires
 padding-or-border-requires c κs = search needs
 
--- src/lib.rt:203:9
 padding-or-border-requires-2 : tie.Need-padding-or-border-requires-2
 padding-or-border-requires-2 c κs = search needs
 
--- src/lib.rt:204:17
 add-requires : tie.Need-add-requires
 add-requires c κs = search needs
 
--- src/lib.rt:204:9
 sum-axes-requires : tie.Need-sum-axes-requires
 sum-axes-requires c κs = search needs
 
--- src/lib.rt:205:9
 min-size-requires : tie.Need-min-size-requires
 min-size-requires c κs = search needs
 
--- src/lib.rt:206:9
 style-size-requires : tie.Need-style-size-requires
 style-size-requires c κs = search needs
 
--- src/lib.rt:207:9
 style-size-requires-2 : tie.Need-style-size-requires-2
 style-size-requires-2 c κs = search needs
 
--- src/lib.rt:209:16
 stretch-fit-size-requires : tie.Need-stretch-fit-size-requires
 stretch-fit-size-requires c κs = search needs
 
--- src/lib.rt:210:17
 stretch-fit-size-requires-2 : tie.Need-stretch-fit-size-requires-2
 stretch-fit-size-requires-2 c κs = search needs
 
--- src/lib.rt:212:41
 space-for-requires : tie.Need-space-for-requires
 space-for-requires c κs = search needs
 
--- src/lib.rt:212:9
 definite-requires : tie.Need-definite-requires
 definite-requires c κs = search needs
 
--- src/lib.rt:218:15
 maybe-clamp-requires : tie.Need-maybe-clamp-requires
 maybe-clamp-requires c κs = search needs
 
--- src/lib.rt:222:16
 maybe-clamp-requires-2 : tie.Need-maybe-clamp-requires-2
 maybe-clamp-requires-2 c κs = search needs
 
--- src/lib.rt:191:1
 returns : tie.Need-returns
 unfolding resolvedBox
 returns c = simp (← c .before .before .before .before .before .before .before .before .before .before .before .before .before .before .horizontal-axis .ensures, ← c .before .before .before .before .before .before .before .before .before .before .before .before .before .vertical-axis .ensures, ← c .before .before .before .before .before .before .before .before .before .before .before .before .padding-or-border .ensures, ← c .before .before .before .before .before .before .before .before .before .before .before .padding-or-border2 .ensures, ← c .before .before .before .before .before .before .before .before .before .before .add .ensures, ← c .before .before .before .before .before .before .before .before .before .sum-axes .ensures, ← c .before .before .before .before .before .before .before .before .min-size .ensures, ← c .before .before .before .before .before .before .before .style-size .ensures, ← c .before .before .before .before .before .before .style-size2 .ensures, ← c .before .before .before .before .before .stretch-fit-size .ensures, ← c .before .before .before .before .stretch-fit-size2 .ensures, ← c .before .before .before .space-for .ensures, ← c .before .before .definite .ensures, ← c .before .maybe-clamp .ensures, ← c .maybe-clamp2 .ensures)

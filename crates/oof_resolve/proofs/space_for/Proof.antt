@@ -1,3 +1,4 @@
+-- Generated: tools/proof/write-skeletons, then tools/proof/list-facts --fill.
 use Rattle.oof_resolve.specs.Resolved.{spaceFor}
 use borrow.Author.Needs.{needs}
 use Rattle.oof_resolve.proofs.space_for.Statement.{statement}
@@ -9,28 +10,22 @@ use Rattle.geometry.proofs.Size.f32_min.Reads as f32-min-reads
 use Rattle.oof_resolve.proofs.less_margins.Reads as less-margins-reads
 use Rattle.oof_resolve.proofs.of_width.Reads as of-width-reads
 
--- src/lib.rt:183:22
 of-width-requires : tie.Need-of-width-requires
 of-width-requires c κs = search needs
 
--- src/lib.rt:183:13
 unwrap-or-zero-requires : tie.Need-unwrap-or-zero-requires
 unwrap-or-zero-requires c κs = search needs
 
--- src/lib.rt:184:28
 less-margins-requires : tie.Need-less-margins-requires
 less-margins-requires c κs = search needs
 
--- src/lib.rt:184:9
 f32-min-requires : tie.Need-f32-min-requires
 f32-min-requires c κs = search needs
 
--- src/lib.rt:184:9
 returns : tie.Need-returns
 unfolding spaceFor
 returns c = simp (c .before .before .before .before .if1 .taken, ← c .before .before .before .of-width .ensures, ← c .before .before .unwrap-or-zero .ensures, ← c .before .less-margins .ensures, ← c .f32-min .ensures)
 
--- src/lib.rt:178:1
 returns-2 : tie.Need-returns-2
 unfolding spaceFor
 returns-2 c = simp (c .if1 .left)

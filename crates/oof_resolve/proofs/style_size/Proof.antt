@@ -1,3 +1,4 @@
+-- Generated: tools/proof/write-skeletons, then tools/proof/list-facts --fill.
 use Rattle.oof_resolve.specs.Resolved.{styleSize}
 use borrow.Author.Needs.{needs}
 use Rattle.oof_resolve.proofs.style_size.Statement.{statement}
@@ -9,32 +10,25 @@ use Rattle.geometry.proofs.MaybeSize.maybe_apply_aspect_ratio.Reads as maybe-ap
 use Rattle.style.proofs.BoxSizing.is_content_box.Reads as is-content-box-reads
 use Rattle.style.proofs.resolve.maybe_resolve_size.Reads as maybe-resolve-size-reads
 
--- src/lib.rt:148:16
 maybe-resolve-size-requires : tie.Need-maybe-resolve-size-requires
 maybe-resolve-size-requires c κs = search needs
 
--- src/lib.rt:148:9
 maybe-apply-aspect-ratio-requires : tie.Need-maybe-apply-aspect-ratio-requires
 maybe-apply-aspect-ratio-requires c κs = search needs
 
--- src/lib.rt:149:8
 is-content-box-requires : tie.Need-is-content-box-requires
 is-content-box-requires c κs = search needs
 
--- src/lib.rt:150:9
 maybe-add-requires : tie.Need-maybe-add-requires
 maybe-add-requires c κs = search needs
 
--- src/lib.rt:150:9
 returns : tie.Need-returns
 unfolding styleSize
 returns c = simp (← c .before .before .before .before .maybe-resolve-size .ensures, ← c .before .before .before .maybe-apply-aspect-ratio .ensures, ← c .before .before .is-content-box .ensures, c .before .if1 .taken, ← c .maybe-add .ensures)
 
--- src/lib.rt:152:5
 maybe-add-requires-2 : tie.Need-maybe-add-requires-2
 maybe-add-requires-2 c κs = search needs
 
--- src/lib.rt:143:1
 returns-2 : tie.Need-returns-2
 unfolding styleSize
 returns-2 c = simp (← c .before .before .before .before .maybe-resolve-size .ensures, ← c .before .before .before .maybe-apply-aspect-ratio .ensures, ← c .before .before .is-content-box .ensures, c .before .if1 .left, ← c .maybe-add2 .ensures)

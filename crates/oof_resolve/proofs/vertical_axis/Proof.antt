@@ -1,3 +1,4 @@
+-- Generated skeleton (tools/proof/write-skeletons), answers by hand.
 use Rattle.oof_resolve.specs.Resolved.{vertical}
 use borrow.Author.Needs.{needs}
 use Rattle.oof_resolve.proofs.vertical_axis.Statement.{statement}
@@ -12,39 +13,30 @@ use Rattle.oof_resolve.proofs.of_width.Reads as of-width-reads
 use Rattle.style.proofs.Overflow.is_scroll_container.Reads as is-scroll-container-reads
 use Rattle.style.proofs.alignment.AlignItems.resolve_self_relative.Reads as resolve-self-relative-reads
 
--- src/lib.rt:118:9
 resolve-self-relative-requires : tie.Need-resolve-self-relative-requires
 resolve-self-relative-requires c κs = search needs
 
--- src/lib.rt:122:16
 of-each-axis-requires : tie.Need-of-each-axis-requires
 of-each-axis-requires c κs = search needs
 
--- src/lib.rt:122:16
 vertical-components-requires : tie.Need-vertical-components-requires
 vertical-components-requires c κs = search needs
 
--- src/lib.rt:123:17
 of-width-requires : tie.Need-of-width-requires
 of-width-requires c κs = search needs
 
--- src/lib.rt:123:17
 vertical-components-requires-2 : tie.Need-vertical-components-requires-2
 vertical-components-requires-2 c κs = search needs
 
--- src/lib.rt:124:16
 less-offset-requires : tie.Need-less-offset-requires
 less-offset-requires c κs = search needs
 
--- src/lib.rt:125:20
 from-resolved-requires : tie.Need-from-resolved-requires
 from-resolved-requires c κs = search needs
 
--- src/lib.rt:129:18
 is-scroll-container-requires : tie.Need-is-scroll-container-requires
 is-scroll-container-requires c κs = search needs
 
--- src/lib.rt:103:1
 returns : tie.Need-returns
 unfolding vertical
 returns c = rw (c .is-scroll-container .ensures, c .before .from-resolved .ensures, c .before .before .less-offset .ensures, c .before .before .before .vertical-components2 .ensures, c .before .before .before .before .of-width .ensures, c .before .before .before .before .before .vertical-components .ensures, c .before .before .before .before .before .before .of-each-axis .ensures, c .before .before .before .before .before .before .before .resolve-self-relative .ensures)

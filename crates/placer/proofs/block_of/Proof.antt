@@ -1,3 +1,4 @@
+-- Generated: tools/proof/write-skeletons, then tools/proof/list-facts --fill.
 use borrow.Author.Needs.{needs}
 use Rattle.placer.proofs.block_of.Statement.{statement}
 use Rattle.placer.proofs.block_of.Tie as tie
@@ -6,19 +7,15 @@ use Rattle.placer.proofs.block_of.Lts as lts
 use Rattle.style.proofs.Direction.from_code.Reads as Direction-from-code-reads
 use Rattle.style.proofs.Overflow.from_code.Reads as Overflow-from-code-reads
 
--- src/lib.rt:43:12
 from-code-requires : tie.Need-from-code-requires
 from-code-requires c κs = search needs
 
--- src/lib.rt:44:12
 from-code-requires-2 : tie.Need-from-code-requires-2
 from-code-requires-2 c κs = search needs
 
--- src/lib.rt:48:20
 from-code-requires-3 : tie.Need-from-code-requires-3
 from-code-requires-3 c κs = search needs
 
--- src/lib.rt:38:1
 returns : tie.Need-returns
 returns c = simp (← c .before .before .from-code .ensures, ← c .before .from-code2 .ensures, ← c .from-code3 .ensures)
 

@@ -1,3 +1,4 @@
+-- Generated: tools/proof/write-skeletons, then tools/proof/list-facts --fill.
 use borrow.Author.Needs.{needs}
 use Rattle.placer.proofs.claims_of.Statement.{statement}
 use Rattle.placer.proofs.claims_of.Tie as tie
@@ -6,15 +7,12 @@ use Rattle.placer.proofs.claims_of.Lts as lts
 use Rattle.style.proofs.bits.bit0.Reads as bit0-reads
 use Rattle.style.proofs.bits.bit1.Reads as bit1-reads
 
--- src/lib.rt:57:19
 bit0-requires : tie.Need-bit0-requires
 bit0-requires c κs = search needs
 
--- src/lib.rt:58:16
 bit1-requires : tie.Need-bit1-requires
 bit1-requires c κs = search needs
 
--- src/lib.rt:53:1
 returns : tie.Need-returns
 returns c = simp (c .before .bit0 .ensures, c .bit1 .ensures)
 

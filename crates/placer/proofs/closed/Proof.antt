@@ -1,3 +1,4 @@
+-- Generated: tools/proof/write-skeletons, then tools/proof/list-facts --fill.
 use Rattle.run.specs.Run.{closed}
 use borrow.Author.Needs.{needs}
 use Rattle.placer.proofs.closed.Statement.{statement}
@@ -6,11 +7,9 @@ use Rattle.placer.proofs.closed.Reads as reads
 use Rattle.placer.proofs.closed.Lts as lts
 use Rattle.placer.proofs.extents_of.Reads as extents-of-reads
 
--- src/lib.rt:105:18
 extents-of-requires : tie.Need-extents-of-requires
 extents-of-requires c κs = search needs
 
--- src/lib.rt:94:1
 returns : tie.Need-returns
 unfolding closed
 returns c = simp (← c .extents-of .ensures)

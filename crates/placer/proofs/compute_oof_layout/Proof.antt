@@ -1,3 +1,4 @@
+-- Generated: tools/proof/write-skeletons, then tools/proof/list-facts --fill.
 use borrow.Author.Needs.{needs}
 use Rattle.placer.proofs.compute_oof_layout.Statement.{statement}
 use Rattle.placer.proofs.compute_oof_layout.Tie as tie
@@ -6,19 +7,15 @@ use Rattle.placer.proofs.compute_oof_layout.Lts as lts
 use Rattle.geometry.proofs.Rect.union.Reads as union-reads
 use Rattle.placer.proofs.is_pass_needed.Reads as is-pass-needed-reads
 
--- src/lib.rt:228:8
 is-pass-needed-requires : tie.Need-is-pass-needed-requires
 is-pass-needed-requires c κs = search needs
 
--- src/lib.rt:229:9
 union-requires : tie.Need-union-requires
 union-requires c κs = search needs
 
--- src/lib.rt:229:9
 returns : tie.Need-returns
 returns c = simp (← c .before .before .is-pass-needed .ensures, c .before .if1 .taken, ← c .union .ensures)
 
--- src/lib.rt:225:1
 returns-2 : tie.Need-returns-2
 returns-2 c = simp (← c .before .is-pass-needed .ensures, c .if1 .left)
 

@@ -1,3 +1,4 @@
+-- Generated skeleton (tools/proof/write-skeletons), answers by hand.
 use Rattle.placer.proofs.Replies.{turned-down, not-wrong, kept, cleared-laid, laid}
 use Rattle.placer.proofs.Calls.{reply-passed, counted, at-hand}
 use Rattle.run.specs.Call.{lent}
@@ -13,39 +14,30 @@ use Rattle.placer.proofs.boxes.settle.Reads as settle-reads
 use Rattle.placer_check.proofs.reply.check_reply.Reads as check-reply-reads
 use Rattle.placer_check.proofs.reply.taken_by.Reads as taken-by-reads
 
--- src/lib.rt:186:11
 check-reply-requires : tie.Need-check-reply-requires
 check-reply-requires c κs = search needs
 
--- src/lib.rt:195:26
 enum-known-refusal : tie.Need-enum-known-refusal
 enum-known-refusal c = search needs
 
--- src/lib.rt:195:38
 refuse-requires : tie.Need-refuse-requires
 refuse-requires c κs = search needs
 
--- src/lib.rt:196:36
 enum-told : tie.Need-enum-told
 enum-told c = search needs
 
--- src/lib.rt:196:36
 taken-by-requires : tie.Need-taken-by-requires
 taken-by-requires c κs = search needs
 
--- src/lib.rt:197:46
 enum-told-2 : tie.Need-enum-told-2
 enum-told-2 c = search needs
 
--- src/lib.rt:197:29
 refuse-requires-2 : tie.Need-refuse-requires-2
 refuse-requires-2 c κs = search needs
 
--- src/lib.rt:198:25
 enum-known-replies : tie.Need-enum-known-replies
 enum-known-replies c = search needs
 
--- src/lib.rt:198:37
 go-on-requires : tie.Need-go-on-requires
 go-on-requires c κs =
     let a = c .before .before .before .before .before .before .before .before .before .before .before .before .before .before .before .before .args in
@@ -53,87 +45,69 @@ go-on-requires c κs =
     let p = reply-passed (a .s) (a .reply) (a .surfaced .now) l (rw (c .before .before .before .before .before .enum-told .given .1) at (c .before .before .before .before .before .before .before .check-reply .ensures)) in
     (at-hand (a .s) (a .reply) (a .surfaced .now) l p, counted l (a .s .counts) (p .counts) .answered)
 
--- src/lib.rt:199:25
 enum-known-overflow : tie.Need-enum-known-overflow
 enum-known-overflow c = search needs
 
--- src/lib.rt:200:17
 settle-requires : tie.Need-settle-requires
 settle-requires c κs =
     let a = c .before .before .before .before .before .before .before .before .before .before .before .before .before .before .before .before .before .before .args in
     cleared-laid (a .s) (a .reply) (a .surfaced .now) (lent (a .styles .now) (a .layouts .now) (a .working .now) (a .unclaimed .now)) _
     (rw (c .before .before .before .before .before .before .before .enum-told .given .1) at (c .before .before .before .before .before .before .before .before .before .check-reply .ensures)) (sym (c .before .before .before .before .before .before .taken-by .ensures) ∙ c .before .before .before .before .overflow .given .1)
 
--- src/lib.rt:175:1
 same-length : tie.Need-same-length
 same-length c = search needs
 
--- src/lib.rt:175:1
 same-length-2 : tie.Need-same-length-2
 same-length-2 c = search needs
 
--- src/lib.rt:175:1
 same-length-3 : tie.Need-same-length-3
 same-length-3 c = search needs
 
--- src/lib.rt:175:1
 returns : tie.Need-returns
 returns c =
     let a = c .before .before .before .before .before .before .before .before .before .before .before .before .before .args in
     turned-down (a .s) (a .reply) (a .surfaced .now) (lent (a .styles .now) (a .layouts .now) (a .working .now) (a .unclaimed .now)) _ _
     (rw (c .before .before .refusal .given .1) at (c .before .before .before .before .check-reply .ensures)) (c .refuse .ensures)
 
--- src/lib.rt:175:1
 same-length-4 : tie.Need-same-length-4
 same-length-4 c = search needs
 
--- src/lib.rt:175:1
 same-length-5 : tie.Need-same-length-5
 same-length-5 c = search needs
 
--- src/lib.rt:175:1
 same-length-6 : tie.Need-same-length-6
 same-length-6 c = search needs
 
--- src/lib.rt:175:1
 returns-2 : tie.Need-returns-2
 returns-2 c =
     let a = c .before .before .before .before .before .before .before .before .before .before .before .before .before .before .before .args in
     not-wrong (a .s) (a .reply) (a .surfaced .now) (lent (a .styles .now) (a .layouts .now) (a .working .now) (a .unclaimed .now))
     (rw (c .before .before .before .before .enum-told .given .1) at (c .before .before .before .before .before .before .check-reply .ensures)) (sym (c .before .before .before .taken-by .ensures) ∙ c .before .enum-told2 .given .1)
 
--- src/lib.rt:175:1
 same-length-7 : tie.Need-same-length-7
 same-length-7 c = search needs
 
--- src/lib.rt:175:1
 same-length-8 : tie.Need-same-length-8
 same-length-8 c = search needs
 
--- src/lib.rt:175:1
 same-length-9 : tie.Need-same-length-9
 same-length-9 c = search needs
 
--- src/lib.rt:175:1
 returns-3 : tie.Need-returns-3
 returns-3 c =
     let a = c .before .before .before .before .before .before .before .before .before .before .before .before .before .before .before .before .before .args in
     kept (a .s) (a .reply) (a .surfaced .now) (lent (a .styles .now) (a .layouts .now) (a .working .now) (a .unclaimed .now)) _ _
     (rw (c .before .before .before .before .before .before .enum-told .given .1) at (c .before .before .before .before .before .before .before .before .check-reply .ensures)) (sym (c .before .before .before .before .before .taken-by .ensures) ∙ c .before .before .before .replies .given .1) (c .go-on .ensures)
 
--- src/lib.rt:175:1
 same-length-10 : tie.Need-same-length-10
 same-length-10 c = search needs
 
--- src/lib.rt:175:1
 same-length-11 : tie.Need-same-length-11
 same-length-11 c = search needs
 
--- src/lib.rt:175:1
 same-length-12 : tie.Need-same-length-12
 same-length-12 c = search needs
 
--- src/lib.rt:175:1
 returns-4 : tie.Need-returns-4
 returns-4 c =
     let a = c .before .before .before .before .before .before .before .before .before .before .before .before .before .before .before .before .before .before .before .before .before .before .before .before .before .args in

@@ -1,3 +1,4 @@
+-- Generated skeleton (tools/proof/write-skeletons), answers by hand.
 use mathlib.Core.Path.{sym}
 use native.Mathlib.Omega.{arith}
 use Rattle.records.proofs.Laws.{room-for, no-room}
@@ -7,15 +8,12 @@ use Rattle.records.proofs.has_room.Tie as tie
 use Rattle.records.proofs.has_room.Reads as reads
 use Rattle.records.proofs.has_room.Lts as lts
 
--- src/lib.rt:21:18
 places-requires : tie.Need-places-requires
 places-requires c κs = search needs
 
--- src/lib.rt:14:9
 returns : tie.Need-returns
 returns c = rw (c .before .places .ensures) (sym (room-for _ _ _ _ (rw (c .before .places .ensures) at (c .if1 .taken))))
 
--- src/lib.rt:8:1
 returns-2 : tie.Need-returns-2
 returns-2 c = sym (no-room _ _ _ _ (omega arith))
 

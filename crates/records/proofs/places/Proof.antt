@@ -1,3 +1,4 @@
+-- Generated skeleton (tools/proof/write-skeletons), answers by hand.
 use mathlib.Core.Path.{sym}
 use native.Mathlib.Nat.{div-zero}
 use borrow.Author.Needs.{needs}
@@ -6,15 +7,12 @@ use Rattle.records.proofs.places.Tie as tie
 use Rattle.records.proofs.places.Reads as reads
 use Rattle.records.proofs.places.Lts as lts
 
--- src/lib.rt:12:9
 returns : tie.Need-returns
 returns c = rw (c .if1 .taken) (sym (div-zero _))
 
--- src/lib.rt:14:5
 div-result : tie.Need-div-result
 div-result c = search needs
 
--- src/lib.rt:8:1
 returns-2 : tie.Need-returns-2
 returns-2 c = search needs
 

@@ -1,3 +1,4 @@
+-- Generated skeleton (tools/proof/write-skeletons), answers by hand.
 use borrow.Author.Needs.{needs}
 use Rattle.records.proofs.Laws.{written-step}
 use Rattle.records.specs.Records.{written}
@@ -17,49 +18,38 @@ Inv-loop list₀ at words j₀ list j =
 abbrev μ-loop : tie.MeasureT-loop
 μ-loop list₀ at words j₀ list j = length words - j
 
--- src/lib.rt:33:5
 loop-holds : tie.Need-loop-holds Inv-loop μ-loop
 loop-holds c = (search needs, refl, simp add-zero)
 
--- src/lib.rt:34:24
 mul-list : tie.Need-mul-list Inv-loop μ-loop
 mul-list c = search needs
 
--- src/lib.rt:34:24
 shared-slice-read-list : tie.Need-shared-slice-read-list Inv-loop μ-loop
 shared-slice-read-list c = search needs
 
--- src/lib.rt:34:14
 add-list : tie.Need-add-list Inv-loop μ-loop
 add-list c = search needs
 
--- src/lib.rt:34:9
 mul-list-2 : tie.Need-mul-list-2 Inv-loop μ-loop
 mul-list-2 c = search needs
 
--- src/lib.rt:34:9
 slice-write-list : tie.Need-slice-write-list Inv-loop μ-loop
 slice-write-list c = search needs
 
--- src/lib.rt:35:9
 add-j : tie.Need-add-j Inv-loop μ-loop
 add-j c = search needs
 
--- src/lib.rt:33:5
 loop-less : tie.Need-loop-less Inv-loop μ-loop
 loop-less c = search needs
 
--- src/lib.rt:33:5
 loop-again : tie.Need-loop-again Inv-loop μ-loop
 loop-again c =
     let i = c .before .before .loop .inv in
     (search needs, simp length-set (i .1), i .2 ∙ written-step _ _ _ _ (c .before .loop-test .taken))
 
--- src/lib.rt:28:1
 same-length : tie.Need-same-length Inv-loop μ-loop
 same-length c = search needs
 
--- src/lib.rt:28:1
 returns : tie.Need-returns Inv-loop μ-loop
 unfolding written
 returns c = sym (c .before .loop .inv .2 ∙ simp (drop-of-length-le (c .before .before .args .words .now) (c .loop-test .left)))

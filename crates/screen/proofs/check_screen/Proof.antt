@@ -1,3 +1,4 @@
+-- Generated skeleton (tools/proof/write-skeletons), answers by hand.
 use native.Mathlib.Omega.{arith}
 use mathlib.Core.Path.{sym, _∙_}
 use Rattle.screen.proofs.Table.{first-bytes, item-bytes, candidate-bytes}
@@ -11,71 +12,54 @@ use Rattle.screen.proofs.count_at.Reads as count-at-reads
 use Rattle.screen.proofs.good_line.Reads as good-line-reads
 use Rattle.screen.proofs.good_lines.Reads as good-lines-reads
 
--- src/lib.rt:132:9
 returns : tie.Need-returns
 returns c = too-short (c .before .before .args .text .now) (c .if1 .taken)
 
--- src/lib.rt:134:8
 good-line-requires : tie.Need-good-line-requires
 good-line-requires c κs = omega (arith, first-bytes)
 
--- src/lib.rt:135:13
 count-at-requires : tie.Need-count-at-requires
 count-at-requires c κs = search needs
 
--- src/lib.rt:136:13
 count-at-requires-2 : tie.Need-count-at-requires-2
 count-at-requires-2 c κs = search needs
 
--- src/lib.rt:138:13
 returns-2 : tie.Need-returns-2
 returns-2 c = items-over (c .before .before .before .before .before .before .before .args .text .now) (c .before .before .count-at .result) (c .before .count-at2 .result) (c .before .before .count-at .ensures ∙ items-told (c .before .before .before .before .before .before .before .args .text .now)) (c .before .count-at2 .ensures ∙ candidates-told (c .before .before .before .before .before .before .before .args .text .now)) (sym (c .before .before .before .before .good-line .ensures) ∙ c .before .before .before .if2 .taken) (c .if3 .taken)
 
--- src/lib.rt:141:13
 returns-3 : tie.Need-returns-3
 returns-3 c = candidates-over (c .before .before .before .before .before .before .before .before .args .text .now) (c .before .before .before .count-at .result) (c .before .before .count-at2 .result) (c .before .before .before .count-at .ensures ∙ items-told (c .before .before .before .before .before .before .before .before .args .text .now)) (c .before .before .count-at2 .ensures ∙ candidates-told (c .before .before .before .before .before .before .before .before .args .text .now)) (sym (c .before .before .before .before .before .good-line .ensures) ∙ c .before .before .before .before .if2 .taken) (c .before .if3 .left) (c .if4 .taken)
 
--- src/lib.rt:143:35
 mul-first : tie.Need-mul-first
 mul-first c = search needs
 
--- src/lib.rt:143:21
 add-first : tie.Need-add-first
 add-first c = search needs
 
--- src/lib.rt:144:34
 mul-if5 : tie.Need-mul-if5
 mul-if5 c = search needs
 
--- src/lib.rt:144:26
 add-if5 : tie.Need-add-if5
 add-if5 c = search needs
 
--- src/lib.rt:145:13
 returns-4 : tie.Need-returns-4
 returns-4 c = bytes-differ (c .before .before .before .before .before .before .before .before .before .args .text .now) (c .before .before .before .before .count-at .result) (c .before .before .before .count-at2 .result) (c .before .before .before .before .count-at .ensures ∙ items-told (c .before .before .before .before .before .before .before .before .before .args .text .now)) (c .before .before .before .count-at2 .ensures ∙ candidates-told (c .before .before .before .before .before .before .before .before .before .args .text .now)) (sym (c .before .before .before .before .before .before .good-line .ensures) ∙ c .before .before .before .before .before .if2 .taken) (c .before .before .if3 .left) (c .before .if4 .left) (c .if5 .taken)
 
--- src/lib.rt:147:12
 good-lines-requires : tie.Need-good-lines-requires
 good-lines-requires c κs = rw item-bytes (omega arith)
 
--- src/lib.rt:148:16
 good-lines-requires-2 : tie.Need-good-lines-requires-2
 good-lines-requires-2 c κs = rw candidate-bytes (omega arith)
 
--- src/lib.rt:149:17
 returns-5 : tie.Need-returns-5
 returns-5 c = all-good (c .before .before .before .before .before .before .before .before .before .before .before .before .before .args .text .now) (c .before .before .before .before .before .before .before .before .count-at .result) (c .before .before .before .before .before .before .before .count-at2 .result) (c .before .before .before .before .before .before .before .before .count-at .ensures ∙ items-told (c .before .before .before .before .before .before .before .before .before .before .before .before .before .args .text .now)) (c .before .before .before .before .before .before .before .count-at2 .ensures ∙ candidates-told (c .before .before .before .before .before .before .before .before .before .before .before .before .before .args .text .now)) (sym (c .before .before .before .before .before .before .before .before .before .before .good-line .ensures) ∙ c .before .before .before .before .before .before .before .before .before .if2 .taken) (c .before .before .before .before .before .before .if3 .left) (c .before .before .before .before .before .if4 .left) (c .before .before .before .before .if5 .left) (sym (c .before .before .before .good-lines .ensures) ∙ c .before .before .if6 .taken) (sym (c .before .good-lines2 .ensures) ∙ c .if7 .taken)
 
--- src/lib.rt:151:13
 returns-6 : tie.Need-returns-6
 returns-6 c = candidates-bad (c .before .before .before .before .before .before .before .before .before .before .before .before .before .args .text .now) (c .before .before .before .before .before .before .before .before .count-at .result) (c .before .before .before .before .before .before .before .count-at2 .result) (c .before .before .before .before .before .before .before .before .count-at .ensures ∙ items-told (c .before .before .before .before .before .before .before .before .before .before .before .before .before .args .text .now)) (c .before .before .before .before .before .before .before .count-at2 .ensures ∙ candidates-told (c .before .before .before .before .before .before .before .before .before .before .before .before .before .args .text .now)) (sym (c .before .before .before .before .before .before .before .before .before .before .good-line .ensures) ∙ c .before .before .before .before .before .before .before .before .before .if2 .taken) (c .before .before .before .before .before .before .if3 .left) (c .before .before .before .before .before .if4 .left) (c .before .before .before .before .if5 .left) (sym (c .before .before .before .good-lines .ensures) ∙ c .before .before .if6 .taken) (sym (c .before .good-lines2 .ensures) ∙ c .if7 .left)
 
--- src/lib.rt:153:9
 returns-7 : tie.Need-returns-7
 returns-7 c = items-bad (c .before .before .before .before .before .before .before .before .before .before .before .args .text .now) (c .before .before .before .before .before .before .count-at .result) (c .before .before .before .before .before .count-at2 .result) (c .before .before .before .before .before .before .count-at .ensures ∙ items-told (c .before .before .before .before .before .before .before .before .before .before .before .args .text .now)) (c .before .before .before .before .before .count-at2 .ensures ∙ candidates-told (c .before .before .before .before .before .before .before .before .before .before .before .args .text .now)) (sym (c .before .before .before .before .before .before .before .before .good-line .ensures) ∙ c .before .before .before .before .before .before .before .if2 .taken) (c .before .before .before .before .if3 .left) (c .before .before .before .if4 .left) (c .before .before .if5 .left) (sym (c .before .good-lines .ensures) ∙ c .if6 .left)
 
--- src/lib.rt:128:1
 returns-8 : tie.Need-returns-8
 returns-8 c = first-bad (c .before .before .before .before .args .text .now) (sym (c .before .good-line .ensures) ∙ c .if2 .left)
 

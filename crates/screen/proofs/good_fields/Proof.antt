@@ -1,3 +1,4 @@
+-- Generated skeleton (tools/proof/write-skeletons), answers by hand.
 use borrow.Author.Needs.{needs}
 use Prim.Native.Nat.{_≤_, _-_, _+_, _*_}
 use native.Mathlib.Nat.{add-zero}
@@ -21,39 +22,30 @@ Inv-loop text at line n j₀ j =
 abbrev μ-loop : tie.MeasureT-loop
 μ-loop text at line n j₀ j = n - j
 
--- src/lib.rt:44:9
 width-of-requires : tie.Need-width-of-requires Inv-loop μ-loop
 width-of-requires c κs = search needs
 
--- src/lib.rt:46:5
 loop-holds : tie.Need-loop-holds Inv-loop μ-loop
 loop-holds c = (search needs, rw add-zero refl)
 
--- src/lib.rt:47:31
 mul-is-good : tie.Need-mul-is-good Inv-loop μ-loop
 mul-is-good c = search needs
 
--- src/lib.rt:47:26
 add-is-good : tie.Need-add-is-good Inv-loop μ-loop
 add-is-good c = search needs
 
--- src/lib.rt:47:44
 kind-of-requires : tie.Need-kind-of-requires Inv-loop μ-loop
 kind-of-requires c κs = search needs
 
--- src/lib.rt:47:12
 is-good-requires : tie.Need-is-good-requires Inv-loop μ-loop
 is-good-requires c κs = search needs
 
--- src/lib.rt:48:13
 add-j : tie.Need-add-j Inv-loop μ-loop
 add-j c = search needs
 
--- src/lib.rt:46:5
 loop-less : tie.Need-loop-less Inv-loop μ-loop
 loop-less c = search needs
 
--- src/lib.rt:46:5
 loop-again : tie.Need-loop-again Inv-loop μ-loop
 loop-again c =
     let w = c .before .before .before .before .before .width-of .ensures in
@@ -61,7 +53,6 @@ loop-again c =
     let e = rw (c .before .before .kind-of .ensures) at (c .before .is-good .ensures) in
     (search needs, c .before .before .before .before .loop .inv .1 ∙ good-goes-on _ _ _ _ h (sym e ∙ c .if1 .taken))
 
--- src/lib.rt:50:13
 returns : tie.Need-returns Inv-loop μ-loop
 returns c =
     let w = c .before .before .before .before .before .width-of .ensures in
@@ -69,7 +60,6 @@ returns c =
     let e = rw (c .before .before .kind-of .ensures) at (c .before .is-good .ensures) in
     sym (c .before .before .before .before .loop .inv .1 ∙ good-stops _ _ _ _ h (sym e ∙ c .if1 .left))
 
--- src/lib.rt:40:1
 returns-2 : tie.Need-returns-2 Inv-loop μ-loop
 returns-2 c = sym (c .before .loop .inv .1 ∙ good-none _ _ _ _ (rw (c .before .before .width-of .ensures) at (c .loop-test .left)))
 

@@ -1,3 +1,4 @@
+-- Generated skeleton (tools/proof/write-skeletons), answers by hand.
 use native.Mathlib.Omega.{arith}
 use mathlib.Core.Path.{sym, _∙_}
 use Rattle.screen.proofs.Lines.{width-small, bytes-are, line-bad, line-fed}
@@ -9,31 +10,24 @@ use Rattle.screen.proofs.good_line.Lts as lts
 use Rattle.screen.proofs.format.width_of.Reads as width-of-reads
 use Rattle.screen.proofs.good_fields.Reads as good-fields-reads
 
--- src/lib.rt:61:8
 good-fields-requires : tie.Need-good-fields-requires
 good-fields-requires c κs = omega (arith, bytes-are (c .before .args .line))
 
--- src/lib.rt:62:36
 width-of-requires : tie.Need-width-of-requires
 width-of-requires c κs = search needs
 
--- src/lib.rt:62:26
 mul-result : tie.Need-mul-result
 mul-result c = omega (arith, width-small (c .before .before .before .before .args .line))
 
--- src/lib.rt:62:21
 add-result : tie.Need-add-result
 add-result c = omega (arith, bytes-are (c .before .before .before .before .args .line))
 
--- src/lib.rt:62:16
 shared-slice-read-result : tie.Need-shared-slice-read-result
 shared-slice-read-result c = omega (arith, bytes-are (c .before .before .before .before .before .args .line))
 
--- src/lib.rt:62:9
 returns : tie.Need-returns
 returns c = rw (c .before .width-of .ensures) (sym (line-fed (c .before .before .before .before .before .args .line) (c .before .before .before .before .before .args .text .now) (c .before .before .before .before .before .args .at) (sym (c .before .before .before .good-fields .ensures) ∙ c .before .before .if1 .taken)))
 
--- src/lib.rt:57:1
 returns-2 : tie.Need-returns-2
 returns-2 c = sym (line-bad (c .before .before .before .args .line) (c .before .before .before .args .text .now) (c .before .before .before .args .at) (sym (c .before .good-fields .ensures) ∙ c .if1 .left))
 

@@ -1,3 +1,4 @@
+-- Generated skeleton (tools/proof/write-skeletons), answers by hand.
 use borrow.Author.Needs.{needs}
 use Prim.Native.Nat.{_≤_, _-_, _+_, _*_}
 use native.Mathlib.Omega.{arith}
@@ -21,35 +22,27 @@ Inv-loop text at line n step p₀ i₀ p i =
 abbrev μ-loop : tie.MeasureT-loop
 μ-loop text at line n step p₀ i₀ p i = n - i
 
--- src/lib.rt:72:9
 bytes-of-requires : tie.Need-bytes-of-requires Inv-loop μ-loop
 bytes-of-requires c κs = search needs
 
--- src/lib.rt:75:5
 loop-holds : tie.Need-loop-holds Inv-loop μ-loop
 loop-holds c = (search needs, rw sub-zero (c .before .before .pre), rw sub-zero refl)
 
--- src/lib.rt:76:12
 good-line-requires : tie.Need-good-line-requires Inv-loop μ-loop
 good-line-requires c κs = omega (arith, one-less (c .before .loop .i) (c .before .before .before .before .args .n) (bytesOf (c .before .before .before .before .args .line)) (c .loop-test .taken))
 
--- src/lib.rt:77:13
 add-p : tie.Need-add-p Inv-loop μ-loop
 add-p c = omega (arith, one-less (c .before .before .before .loop .i) (c .before .before .before .before .before .before .args .n) (bytesOf (c .before .before .before .before .before .before .args .line)) (c .before .before .loop-test .taken))
 
--- src/lib.rt:79:13
 returns : tie.Need-returns Inv-loop μ-loop
 returns c = sym (c .before .before .before .loop .inv .2 ∙ lines-stop (c .before .before .before .before .before .before .args .line) (c .before .before .before .before .before .before .args .text .now) (c .before .before .before .loop .p) (c .before .before .before .loop .i) (c .before .before .before .before .before .before .args .n) (c .before .before .loop-test .taken) (sym (c .before .good-line .ensures) ∙ c .if1 .left))
 
--- src/lib.rt:81:9
 add-i : tie.Need-add-i Inv-loop μ-loop
 add-i c = search needs
 
--- src/lib.rt:75:5
 loop-less : tie.Need-loop-less Inv-loop μ-loop
 loop-less c = search needs
 
--- src/lib.rt:75:5
 loop-again : tie.Need-loop-again Inv-loop μ-loop
 loop-again c =
     let w = c .before .before .before .before .bytes-of .ensures in
@@ -58,7 +51,6 @@ loop-again c =
     let e = sym (c .before .good-line .ensures) ∙ c .if1 .taken in
     (search needs, rw w (omega (arith, one-less (c .before .before .before .loop .i) (c .before .before .before .before .before .before .args .n) (bytesOf (c .before .before .before .before .before .before .args .line)) (c .before .before .loop-test .taken))), inv .2 ∙ rw w (lines-go-on (c .before .before .before .before .before .before .args .line) (c .before .before .before .before .before .before .args .text .now) (c .before .before .before .loop .p) (c .before .before .before .loop .i) (c .before .before .before .before .before .before .args .n) h e))
 
--- src/lib.rt:68:1
 returns-2 : tie.Need-returns-2 Inv-loop μ-loop
 returns-2 c = sym (c .before .loop .inv .2 ∙ lines-none (c .before .before .before .before .args .line) (c .before .before .before .before .args .text .now) (c .before .loop .p) (c .before .loop .i) (c .before .before .before .before .args .n) (c .loop-test .left))
 

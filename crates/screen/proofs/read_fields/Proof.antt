@@ -1,3 +1,4 @@
+-- Generated skeleton (tools/proof/write-skeletons), answers by hand.
 use native.Mathlib.Omega.{arith}
 use Prim.Native.Nat.{_≤_, _-_, _+_, _*_}
 use native.Mathlib.Nat.{add-zero, sub-zero}
@@ -25,51 +26,39 @@ Inv-loop text at line first n out₀ to j₀ out j =
 abbrev μ-loop : tie.MeasureT-loop
 μ-loop text at line first n out₀ to j₀ out j = n - j
 
--- src/lib.rt:94:5
 loop-holds : tie.Need-loop-holds Inv-loop μ-loop
 loop-holds c = (search needs, refl, simp (add-zero, sub-zero))
 
--- src/lib.rt:95:43
 mul-value-at : tie.Need-mul-value-at Inv-loop μ-loop
 mul-value-at c = search needs
 
--- src/lib.rt:95:38
 add-value-at : tie.Need-add-value-at Inv-loop μ-loop
 add-value-at c = search needs
 
--- src/lib.rt:95:70
 add-kind-of : tie.Need-add-kind-of Inv-loop μ-loop
 add-kind-of c = omega (arith, width-small (c .before .before .before .before .args .line))
 
--- src/lib.rt:95:56
 kind-of-requires : tie.Need-kind-of-requires Inv-loop μ-loop
 kind-of-requires c κs = search needs
 
--- src/lib.rt:95:23
 value-at-requires : tie.Need-value-at-requires Inv-loop μ-loop
 value-at-requires c κs = search needs
 
--- src/lib.rt:95:13
 add-out : tie.Need-add-out Inv-loop μ-loop
 add-out c = search needs
 
--- src/lib.rt:95:9
 mul-out : tie.Need-mul-out Inv-loop μ-loop
 mul-out c = search needs
 
--- src/lib.rt:95:9
 slice-write-out : tie.Need-slice-write-out Inv-loop μ-loop
 slice-write-out c = search needs
 
--- src/lib.rt:96:9
 add-j : tie.Need-add-j Inv-loop μ-loop
 add-j c = search needs
 
--- src/lib.rt:94:5
 loop-less : tie.Need-loop-less Inv-loop μ-loop
 loop-less c = search needs
 
--- src/lib.rt:94:5
 loop-again : tie.Need-loop-again Inv-loop μ-loop
 loop-again c =
     let inv = c .before .before .before .loop .inv in
@@ -77,11 +66,9 @@ loop-again c =
     let k = c .before .before .before .before .before .before .pre .1 .0 in
     (search needs, simp length-set (inv .1), inv .2 ∙ rw (c .value-at .ensures, c .before .kind-of .ensures) (words-stored _ _ _ _ _ _ h k _ _))
 
--- src/lib.rt:87:1
 same-length : tie.Need-same-length Inv-loop μ-loop
 same-length c = search needs
 
--- src/lib.rt:87:1
 returns : tie.Need-returns Inv-loop μ-loop
 returns c = sym (c .before .loop .inv .2 ∙ rw (words-none _ _ _ _ _ _ (c .loop-test .left)) refl)
 

@@ -1,3 +1,4 @@
+-- Generated skeleton (tools/proof/write-skeletons), answers by hand.
 use borrow.Author.Needs.{needs}
 use Prim.Native.Nat.{_≤_, _-_, _+_, _*_}
 use native.Mathlib.Omega.{arith}
@@ -28,43 +29,33 @@ Inv-loop text at line first n rows out₀ step p₀ q₀ i₀ out p q i =
 abbrev μ-loop : tie.MeasureT-loop
 μ-loop text at line first n rows out₀ step p₀ q₀ i₀ out p q i = rows - i
 
--- src/lib.rt:107:9
 bytes-of-requires : tie.Need-bytes-of-requires Inv-loop μ-loop
 bytes-of-requires c κs = search needs
 
--- src/lib.rt:111:5
 loop-holds : tie.Need-loop-holds Inv-loop μ-loop
 loop-holds c = (search needs, rw sub-zero (c .before .before .before .pre .0), rw sub-zero (omega arith), refl, rw sub-zero refl)
 
--- src/lib.rt:112:31
 mul-read-fields : tie.Need-mul-read-fields Inv-loop μ-loop
 mul-read-fields c = omega (arith, width-small (c .before .before .before .before .before .args .line))
 
--- src/lib.rt:112:27
 add-read-fields : tie.Need-add-read-fields Inv-loop μ-loop
 add-read-fields c = omega (arith, bytes-are (c .before .before .before .before .before .args .line), one-less (c .before .loop .i) (c .before .before .before .before .before .args .rows) (bytesOf (c .before .before .before .before .before .args .line)) (c .loop-test .taken))
 
--- src/lib.rt:112:9
 read-fields-requires : tie.Need-read-fields-requires Inv-loop μ-loop
 read-fields-requires c κs = omega (arith, bytes-are (c .before .before .before .before .before .before .args .line), one-less (c .before .before .loop .i) (c .before .before .before .before .before .before .args .rows) (bytesOf (c .before .before .before .before .before .before .args .line)) (c .before .loop-test .taken), one-less (c .before .before .loop .i) (c .before .before .before .before .before .before .args .rows) (c .before .before .before .before .before .before .args .n) (c .before .loop-test .taken))
 
--- src/lib.rt:113:9
 add-p : tie.Need-add-p Inv-loop μ-loop
 add-p c = omega (arith, one-less (c .before .before .before .before .before .loop .i) (c .before .before .before .before .before .before .before .before .before .args .rows) (bytesOf (c .before .before .before .before .before .before .before .before .before .args .line)) (c .before .before .before .before .loop-test .taken))
 
--- src/lib.rt:114:9
 add-q : tie.Need-add-q Inv-loop μ-loop
 add-q c = omega (arith, one-less (c .before .before .before .before .before .loop .i) (c .before .before .before .before .before .before .before .before .before .args .rows) (c .before .before .before .before .before .before .before .before .before .args .n) (c .before .before .before .before .loop-test .taken))
 
--- src/lib.rt:115:9
 add-i : tie.Need-add-i Inv-loop μ-loop
 add-i c = search needs
 
--- src/lib.rt:111:5
 loop-less : tie.Need-loop-less Inv-loop μ-loop
 loop-less c = search needs
 
--- src/lib.rt:111:5
 loop-again : tie.Need-loop-again Inv-loop μ-loop
 loop-again c =
     let w = c .before .before .before .before .before .before .bytes-of .ensures in
@@ -79,11 +70,9 @@ loop-again c =
       inv .4 ∙ rw (w, e) (rows-stored _ _ _ _ _ _ _ h _ _ _ (part-length _ _ _ k)),
     )
 
--- src/lib.rt:101:1
 same-length : tie.Need-same-length Inv-loop μ-loop
 same-length c = search needs
 
--- src/lib.rt:101:1
 returns : tie.Need-returns Inv-loop μ-loop
 returns c = sym (c .before .loop .inv .4 ∙ rw (rows-none _ _ _ _ _ _ _ (c .loop-test .left)) refl)
 

@@ -1,3 +1,4 @@
+-- Generated skeleton (tools/proof/write-skeletons), answers by hand.
 use native.Mathlib.Nat.{add-zero}
 use native.Mathlib.Omega.{arith}
 use mathlib.Core.Path.{refl, sym, _∙_}
@@ -13,43 +14,33 @@ use Rattle.screen.proofs.check_screen.Reads as check-screen-reads
 use Rattle.screen.proofs.read_fields.Reads as read-fields-reads
 use Rattle.screen.proofs.read_rows.Reads as read-rows-reads
 
--- src/lib.rt:168:9
 check-screen-requires : tie.Need-check-screen-requires
 check-screen-requires c κs = search needs
 
--- src/lib.rt:170:28
 enum-told : tie.Need-enum-told
 enum-told c = search needs
 
--- src/lib.rt:171:22
 enum-known-answer : tie.Need-enum-known-answer
 enum-known-answer c = search needs
 
--- src/lib.rt:172:13
 read-fields-requires : tie.Need-read-fields-requires
 read-fields-requires c κs = let t = read-told (c .before .before .before .before .before .before .args .text .now) _ _ (sym (c .before .before .answer .given .1) ∙ c .before .before .before .before .check-screen .ensures) in let e = t .bytes in omega (arith, first-width)
 
--- src/lib.rt:173:13
 read-rows-requires : tie.Need-read-rows-requires
 read-rows-requires c κs = let t = read-told (c .before .before .before .before .before .before .before .before .args .text .now) _ _ (sym (c .before .before .before .before .answer .given .1) ∙ c .before .before .before .before .before .before .check-screen .ensures) in let e = t .bytes in let f = t .fewItems in rw item-bytes (omega (arith, item-width))
 
--- src/lib.rt:174:13
 read-rows-requires-2 : tie.Need-read-rows-requires-2
 read-rows-requires-2 c κs = let t = read-told (c .before .before .before .before .before .before .before .before .before .before .args .text .now) _ _ (sym (c .before .before .before .before .before .before .answer .given .1) ∙ c .before .before .before .before .before .before .before .before .check-screen .ensures) in let e = t .bytes in let f = t .fewItems in rw item-bytes (omega (arith, item-width))
 
--- src/lib.rt:175:38
 mul-last : tie.Need-mul-last
 mul-last c = let t = read-told (c .before .before .before .before .before .before .before .before .before .before .before .args .text .now) _ _ (sym (c .before .before .before .before .before .before .before .answer .given .1) ∙ c .before .before .before .before .before .before .before .before .before .check-screen .ensures) in let f = t .fewItems in omega arith
 
--- src/lib.rt:175:24
 add-last : tie.Need-add-last
 add-last c = let t = read-told (c .before .before .before .before .before .before .before .before .before .before .before .args .text .now) _ _ (sym (c .before .before .before .before .before .before .before .answer .given .1) ∙ c .before .before .before .before .before .before .before .before .before .check-screen .ensures) in let f = t .fewItems in omega arith
 
--- src/lib.rt:176:13
 read-rows-requires-3 : tie.Need-read-rows-requires-3
 read-rows-requires-3 c κs = let t = read-told (c .before .before .before .before .before .before .before .before .before .before .before .before .args .text .now) _ _ (sym (c .before .before .before .before .before .before .before .before .answer .given .1) ∙ c .before .before .before .before .before .before .before .before .before .before .check-screen .ensures) in let e = t .bytes in let f = t .fewCandidates in rw candidate-bytes (omega (arith, candidate-width))
 
--- src/lib.rt:159:1
 returns : tie.Need-returns
 unfolding written
 returns c =
@@ -57,7 +48,6 @@ returns c =
     let f = bad-told (c .before .before .before .before .args .text .now) e in
     record { answer = e; header = rw f refl; styles = rw f refl; replies = rw f refl; candidates = rw f refl }
 
--- src/lib.rt:159:1
 returns-2 : tie.Need-returns-2
 returns-2 c =
     let e = sym (c .before .before .before .before .before .before .before .before .before .answer .given .1) ∙ c .before .before .before .before .before .before .before .before .before .before .before .check-screen .ensures in

@@ -1,3 +1,4 @@
+-- Generated skeleton (tools/proof/write-skeletons), answers by hand.
 use mathlib.Core.Path.{refl}
 use Rattle.script.proofs.Steps.{asked, finished, refused}
 use borrow.Author.Needs.{needs}
@@ -8,51 +9,39 @@ use Rattle.script.proofs.play_on.Lts as lts
 use Rattle.placer.proofs.reply.Reads as reply-reads
 use Rattle.script.proofs.scripted_reply.Reads as scripted-reply-reads
 
--- src/lib.rt:86:21
 enum-known-answer : tie.Need-enum-known-answer
 enum-known-answer c = search needs
 
--- src/lib.rt:88:13
 scripted-reply-requires : tie.Need-scripted-reply-requires
 scripted-reply-requires c κs = search needs
 
--- src/lib.rt:89:13
 slice-aggregate-reply : tie.Need-slice-aggregate-reply
 slice-aggregate-reply c = search needs
 
--- src/lib.rt:86:34
 reply-requires : tie.Need-reply-requires
 reply-requires c κs = search needs
 
--- src/lib.rt:95:30
 enum-told : tie.Need-enum-told
 enum-told c = search needs
 
--- src/lib.rt:96:31
 enum-told-2 : tie.Need-enum-told-2
 enum-told-2 c = search needs
 
--- src/lib.rt:73:1
 same-length : tie.Need-same-length
 same-length c = search needs
 
--- src/lib.rt:73:1
 same-length-2 : tie.Need-same-length-2
 same-length-2 c = search needs
 
--- src/lib.rt:73:1
 same-length-3 : tie.Need-same-length-3
 same-length-3 c = search needs
 
--- src/lib.rt:73:1
 returns : tie.Need-returns
 returns c = asked _ _ _ _ _ _ (c .before .before .before .before .before .before .before .before .before .before .before .before .before .answer .given .1) (c .before .before .before .before .before .before .before .before .before .before .before .scripted-reply .ensures) refl (c .before .before .before .before .before .before .reply .ensures)
 
--- src/lib.rt:73:1
 returns-2 : tie.Need-returns-2
 returns-2 c = finished _ _ _ _ _ _ (c .enum-told .given .1)
 
--- src/lib.rt:73:1
 returns-3 : tie.Need-returns-3
 returns-3 c = refused _ _ _ _ _ _ (c .enum-told2 .given .1)
 

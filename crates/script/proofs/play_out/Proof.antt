@@ -1,3 +1,4 @@
+-- Generated skeleton (tools/proof/write-skeletons), answers by hand.
 use native.Mathlib.Omega.{arith}
 use lib.ListN.{length}
 use mathlib.Core.Path.{_≡_, refl, _∙_}
@@ -21,50 +22,39 @@ abbrev μ-loop : tie.MeasureT-loop
 μ-loop replies styles candidates layouts₀ working₀ unclaimed₀ step₀ left₀ layouts working unclaimed step left =
     left
 
--- src/lib.rt:112:9
 open-requires : tie.Need-open-requires Inv-loop μ-loop
 open-requires c κs = search needs
 
--- src/lib.rt:113:20
 mul-left : tie.Need-mul-left Inv-loop μ-loop
 mul-left c = record { fits = omega (arith, c .before .before .before .before .before .before .before .before .before .before .before .before .before .before .before .before .good .1 .1 .1 .0 .0) }
 
--- src/lib.rt:114:5
 loop-holds : tie.Need-loop-holds Inv-loop μ-loop
 loop-holds c = (refl, refl, refl, refl)
 
--- src/lib.rt:115:9
 play-on-requires : tie.Need-play-on-requires Inv-loop μ-loop
 play-on-requires c κs = search needs
 
--- src/lib.rt:116:9
 sub-left : tie.Need-sub-left Inv-loop μ-loop
 sub-left c = search needs
 
--- src/lib.rt:114:5
 loop-less : tie.Need-loop-less Inv-loop μ-loop
 loop-less c = search needs
 
--- src/lib.rt:114:5
 loop-again : tie.Need-loop-again Inv-loop μ-loop
 loop-again c =
     let l = c .before .before .before .before .before .before .before .before .before .before .before .loop in
     let p = c .before .before .before .before .before .before .play-on .ensures in
     (search needs, search needs, search needs, l .inv .3 ∙ turned _ _ _ _ _ _ (l .left) (omega (arith, c .before .before .before .before .before .before .before .before .before .before .loop-test .taken)) p)
 
--- src/lib.rt:101:1
 same-length : tie.Need-same-length Inv-loop μ-loop
 same-length c = search needs
 
--- src/lib.rt:101:1
 same-length-2 : tie.Need-same-length-2 Inv-loop μ-loop
 same-length-2 c = search needs
 
--- src/lib.rt:101:1
 same-length-3 : tie.Need-same-length-3 Inv-loop μ-loop
 same-length-3 c = search needs
 
--- src/lib.rt:101:1
 returns : tie.Need-returns Inv-loop μ-loop
 returns c =
     ended _ _ _ _ _ _ _ _ _ _ _ (c .before .loop .left) (omega (arith, c .loop-test .left)) (c .before .before .before .before .before .before .before .before .«open» .ensures) (c .before .loop .inv .3)

@@ -1,3 +1,4 @@
+-- Generated skeleton (tools/proof/write-skeletons), answers by hand.
 use lib.Ieee.{ofBits, binary32}
 use lib.ListN.{List·getD-eq-default}
 use mathlib.Core.Path.{sym, ap, _∙_}
@@ -10,44 +11,34 @@ use Rattle.script.proofs.scripted.Lts as lts
 use Rattle.script.proofs.wide.Reads as wide-reads
 use Rattle.util.proofs.bits.from_word.Reads as from-word-reads
 
--- src/lib.rt:33:28
 wide-requires : tie.Need-wide-requires
 wide-requires c κs = search needs
 
--- src/lib.rt:33:14
 mul-at : tie.Need-mul-at
 mul-at c = search needs
 
--- src/lib.rt:33:41
 wide-requires-2 : tie.Need-wide-requires-2
 wide-requires-2 c κs = search needs
 
--- src/lib.rt:33:14
 add-at : tie.Need-add-at
 add-at c = search needs
 
--- src/lib.rt:35:32
 mul-from-word : tie.Need-mul-from-word
 mul-from-word c = search needs
 
--- src/lib.rt:35:32
 shared-slice-read-from-word : tie.Need-shared-slice-read-from-word
 shared-slice-read-from-word c = search needs
 
--- src/lib.rt:35:9
 from-word-requires : tie.Need-from-word-requires
 from-word-requires c κs = search needs
 
--- src/lib.rt:35:9
 returns : tie.Need-returns
 unfolding scripted
 returns c = simp (← c .before .before .before .before .wide .ensures, ← c .before .before .before .wide2 .ensures, ← c .from-word .ensures)
 
--- src/lib.rt:37:5
 from-word-requires-2 : tie.Need-from-word-requires-2
 from-word-requires-2 c κs = search needs
 
--- src/lib.rt:30:1
 returns-2 : tie.Need-returns-2
 unfolding scripted
 returns-2 c = c .from-word2 .ensures ∙ ap (ofBits binary32) (sym (rw (← c .before .before .before .wide .ensures, ← c .before .before .wide2 .ensures) (List·getD-eq-default (c .before .before .before .before .before .args .replies .now) _ (c .before .if1 .left))))

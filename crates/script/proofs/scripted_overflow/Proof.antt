@@ -1,3 +1,4 @@
+-- Generated: tools/proof/write-skeletons, then tools/proof/list-facts --fill.
 use borrow.Author.Needs.{needs}
 use Rattle.script.proofs.scripted_overflow.Statement.{statement}
 use Rattle.script.proofs.scripted_overflow.Tie as tie
@@ -5,23 +6,18 @@ use Rattle.script.proofs.scripted_overflow.Reads as reads
 use Rattle.script.proofs.scripted_overflow.Lts as lts
 use Rattle.script.proofs.scripted.Reads as scripted-reads
 
--- src/lib.rt:53:15
 scripted-requires : tie.Need-scripted-requires
 scripted-requires c κs = search needs
 
--- src/lib.rt:54:16
 scripted-requires-2 : tie.Need-scripted-requires-2
 scripted-requires-2 c κs = search needs
 
--- src/lib.rt:55:14
 scripted-requires-3 : tie.Need-scripted-requires-3
 scripted-requires-3 c κs = search needs
 
--- src/lib.rt:56:17
 scripted-requires-4 : tie.Need-scripted-requires-4
 scripted-requires-4 c κs = search needs
 
--- src/lib.rt:49:1
 returns : tie.Need-returns
 returns c = simp (← c .before .before .before .scripted .ensures, ← c .before .before .scripted2 .ensures, ← c .before .scripted3 .ensures, ← c .scripted4 .ensures)
 

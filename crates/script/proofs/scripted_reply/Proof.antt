@@ -1,3 +1,4 @@
+-- Generated: tools/proof/write-skeletons, then tools/proof/list-facts --fill.
 use borrow.Author.Needs.{needs}
 use Rattle.script.proofs.scripted_reply.Statement.{statement}
 use Rattle.script.proofs.scripted_reply.Tie as tie
@@ -7,51 +8,39 @@ use Rattle.script.proofs.scripted.Reads as scripted-reads
 use Rattle.script.proofs.scripted_overflow.Reads as scripted-overflow-reads
 use Rattle.script.proofs.scripted_size.Reads as scripted-size-reads
 
--- src/lib.rt:65:31
 enum-known-question : tie.Need-enum-known-question
 enum-known-question c = search needs
 
--- src/lib.rt:65:53
 scripted-size-requires : tie.Need-scripted-size-requires
 scripted-size-requires c κs = search needs
 
--- src/lib.rt:66:32
 enum-known-question-2 : tie.Need-enum-known-question-2
 enum-known-question-2 c = search needs
 
--- src/lib.rt:66:55
 scripted-requires : tie.Need-scripted-requires
 scripted-requires c κs = search needs
 
--- src/lib.rt:67:33
 enum-known-question-3 : tie.Need-enum-known-question-3
 enum-known-question-3 c = search needs
 
--- src/lib.rt:67:57
 scripted-requires-2 : tie.Need-scripted-requires-2
 scripted-requires-2 c κs = search needs
 
--- src/lib.rt:68:26
 enum-known-question-4 : tie.Need-enum-known-question-4
 enum-known-question-4 c = search needs
 
--- src/lib.rt:68:51
 scripted-overflow-requires : tie.Need-scripted-overflow-requires
 scripted-overflow-requires c κs = search needs
 
--- src/lib.rt:61:1
 returns : tie.Need-returns
 returns c = simp (c .before .before .question .given .1, ← c .scripted-size .ensures)
 
--- src/lib.rt:61:1
 returns-2 : tie.Need-returns-2
 returns-2 c = simp (c .before .before .question2 .given .1, ← c .scripted .ensures)
 
--- src/lib.rt:61:1
 returns-3 : tie.Need-returns-3
 returns-3 c = simp (c .before .before .question3 .given .1, ← c .scripted2 .ensures)
 
--- src/lib.rt:61:1
 returns-4 : tie.Need-returns-4
 returns-4 c = simp (c .before .before .question4 .given .1, ← c .scripted-overflow .ensures)
 

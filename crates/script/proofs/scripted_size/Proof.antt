@@ -1,3 +1,4 @@
+-- Generated: tools/proof/write-skeletons, then tools/proof/list-facts --fill.
 use borrow.Author.Needs.{needs}
 use Rattle.script.proofs.scripted_size.Statement.{statement}
 use Rattle.script.proofs.scripted_size.Tie as tie
@@ -5,15 +6,12 @@ use Rattle.script.proofs.scripted_size.Reads as reads
 use Rattle.script.proofs.scripted_size.Lts as lts
 use Rattle.script.proofs.scripted.Reads as scripted-reads
 
--- src/lib.rt:44:16
 scripted-requires : tie.Need-scripted-requires
 scripted-requires c κs = search needs
 
--- src/lib.rt:45:17
 scripted-requires-2 : tie.Need-scripted-requires-2
 scripted-requires-2 c κs = search needs
 
--- src/lib.rt:40:1
 returns : tie.Need-returns
 returns c = simp (← c .before .scripted .ensures, ← c .scripted2 .ensures)
 

@@ -1,3 +1,4 @@
+-- Generated skeleton (tools/proof/write-skeletons), answers by hand.
 use borrow.Author.Needs.{needs}
 use Rattle.sweep.proofs.Steps.{from, from-start, from-end, count-step, append-step, appended-none}
 use Rattle.sweep.specs.Sweep.{moved, keep, appended}
@@ -22,13 +23,11 @@ Inv-loop claims claimed shift candidates list₀ held n k₀ i₀ list k i =
 abbrev μ-loop : tie.MeasureT-loop
 μ-loop claims claimed shift candidates list₀ held n k₀ i₀ list k i = n - i
 
--- src/lib.rt:109:5
 loop-holds : tie.Need-loop-holds Inv-loop μ-loop
 loop-holds c =
     let a = c .before .before .args in
     (search needs, refl, rw (from-start (a .candidates .now)) at (c .before .before .pre), refl)
 
--- src/lib.rt:110:9
 append-one-requires : tie.Need-append-one-requires Inv-loop μ-loop
 append-one-requires c κs =
     let l = c .before .before .loop in
@@ -36,15 +35,12 @@ append-one-requires c κs =
     let s = count-step (a .claims) (a .claimed) (a .candidates .now) _ (l .i) (c .before .loop-test .taken) in
     (search needs, omega arith)
 
--- src/lib.rt:111:9
 add-i : tie.Need-add-i Inv-loop μ-loop
 add-i c = search needs
 
--- src/lib.rt:109:5
 loop-less : tie.Need-loop-less Inv-loop μ-loop
 loop-less c = search needs
 
--- src/lib.rt:109:5
 loop-again : tie.Need-loop-again Inv-loop μ-loop
 loop-again c =
     let d = c .before .before .before .before in
@@ -54,11 +50,9 @@ loop-again c =
     let s = count-step (a .claims) (a .claimed) (a .candidates .now) _ (l .i) (d .loop-test .taken) in
     (search needs, search needs, omega (arith, p .0), l .inv .3 ∙ append-step _ _ _ _ _ _ _ _ _ _ (d .loop-test .taken) (p .0) (p .1))
 
--- src/lib.rt:95:1
 same-length : tie.Need-same-length Inv-loop μ-loop
 same-length c = c .before .loop .inv .1
 
--- src/lib.rt:95:1
 returns : tie.Need-returns Inv-loop μ-loop
 unfolding keep
 returns c =

@@ -1,3 +1,4 @@
+-- Generated skeleton (tools/proof/write-skeletons), answers by hand.
 use Rattle.sweep.proofs.Steps.{one-in, append-in, append-out}
 use Rattle.tree_record.specs.Candidate.{candidateWidth, candidateOf}
 use Rattle.records.specs.Records.{recordAt}
@@ -13,34 +14,27 @@ use Rattle.sweep.proofs.goes.Reads as goes-reads
 use Rattle.tree_record.proofs.candidate.candidate_at.Reads as candidate-at-reads
 use Rattle.tree_record.proofs.candidate.write_candidate.Reads as write-candidate-reads
 
--- src/lib.rt:94:9
 candidate-at-requires : tie.Need-candidate-at-requires
 candidate-at-requires c κs = search needs
 
--- src/lib.rt:96:8
 goes-requires : tie.Need-goes-requires
 goes-requires c κs = search needs
 
--- src/lib.rt:97:20
 add-next : tie.Need-add-next
 add-next c = search needs
 
--- src/lib.rt:98:48
 moved-requires : tie.Need-moved-requires
 moved-requires c κs = search needs
 
--- src/lib.rt:98:9
 write-candidate-requires : tie.Need-write-candidate-requires
 write-candidate-requires c κs =
     let a = c .before .before .before .before .before .before .before .args in
     let t = rw (c .before .before .before .before .candidate-at .ensures) at (sym (c .before .before .before .goes .ensures) ∙ c .before .before .if1 .taken) in
     omega (arith, one-in (a .claims) (a .claimed) (candidateOf (recordAt candidateWidth (a .candidates .now) (a .i))) t)
 
--- src/lib.rt:99:9
 same-length : tie.Need-same-length
 same-length c = search needs
 
--- src/lib.rt:99:9
 returns : tie.Need-returns
 returns c =
     let e = c .before .before .before .before .before .before .before .candidate-at .ensures in
@@ -49,7 +43,6 @@ returns c =
     let p = append-in (a .claims) (a .claimed) (candidateOf (recordAt candidateWidth (a .candidates .now) (a .i))) (a .shift) (a .list .now) (a .held) t in
     (p .0, c .before .before .write-candidate .ensures ∙ rw (c .before .before .before .moved .ensures, e) (p .1))
 
--- src/lib.rt:82:1
 returns-2 : tie.Need-returns-2
 returns-2 c =
     let a = c .before .before .before .before .before .args in

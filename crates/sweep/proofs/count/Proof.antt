@@ -1,3 +1,4 @@
+-- Generated skeleton (tools/proof/write-skeletons), answers by hand.
 use borrow.Author.Needs.{needs}
 use Rattle.sweep.proofs.Steps.{from, from-start, from-end, at-most-one, count-step}
 use Rattle.sweep.specs.Sweep.{keep}
@@ -21,30 +22,24 @@ Inv-loop claims claimed candidates n count₀ i₀ count i =
 abbrev μ-loop : tie.MeasureT-loop
 μ-loop claims claimed candidates n count₀ i₀ count i = n - i
 
--- src/lib.rt:74:5
 loop-holds : tie.Need-loop-holds Inv-loop μ-loop
 loop-holds c = (search needs, search needs, simp zero-add)
 
--- src/lib.rt:75:18
 count-one-requires : tie.Need-count-one-requires Inv-loop μ-loop
 count-one-requires c κs = search needs
 
--- src/lib.rt:75:9
 add-count : tie.Need-add-count Inv-loop μ-loop
 add-count c =
     let l = c .before .before .loop in
     let a = c .before .before .before .before .args in
     record { fits = omega (arith, at-most-one (a .claims) (a .claimed) (candidateOf (recordAt candidateWidth (a .candidates .now) (l .i)))) }
 
--- src/lib.rt:76:9
 add-i : tie.Need-add-i Inv-loop μ-loop
 add-i c = search needs
 
--- src/lib.rt:74:5
 loop-less : tie.Need-loop-less Inv-loop μ-loop
 loop-less c = search needs
 
--- src/lib.rt:74:5
 loop-again : tie.Need-loop-again Inv-loop μ-loop
 loop-again c =
     let l = c .before .before .loop in
@@ -52,7 +47,6 @@ loop-again c =
     let x = candidateOf (recordAt candidateWidth (a .candidates .now) (l .i)) in
     (search needs, omega (arith, at-most-one (a .claims) (a .claimed) x), omega (arith, count-step (a .claims) (a .claimed) (a .candidates .now) _ (l .i) (c .before .loop-test .taken)))
 
--- src/lib.rt:68:1
 returns : tie.Need-returns Inv-loop μ-loop
 unfolding keep
 returns c =

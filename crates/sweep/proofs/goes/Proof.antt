@@ -1,3 +1,4 @@
+-- Generated: tools/proof/write-skeletons, then tools/proof/list-facts --fill.
 use Rattle.sweep.specs.Sweep.{side}
 use borrow.Author.Needs.{needs}
 use Rattle.sweep.proofs.goes.Statement.{statement}
@@ -6,20 +7,16 @@ use Rattle.sweep.proofs.goes.Reads as reads
 use Rattle.sweep.proofs.goes.Lts as lts
 use Rattle.style.proofs.ContainingBlockClaims.for_position.Reads as for-position-reads
 
--- src/lib.rt:51:9
 for-position-requires : tie.Need-for-position-requires
 for-position-requires c κs = search needs
 
--- src/lib.rt:51:9
 returns : tie.Need-returns
 unfolding side
 returns c = simp (c .before .if1 .taken, ← c .for-position .ensures)
 
--- src/lib.rt:53:6
 for-position-requires-2 : tie.Need-for-position-requires-2
 for-position-requires-2 c κs = search needs
 
--- src/lib.rt:47:1
 returns-2 : tie.Need-returns-2
 unfolding side
 returns-2 c = simp (c .before .if1 .left, ← c .for-position2 .ensures)

@@ -1,3 +1,4 @@
+-- Generated skeleton (tools/proof/write-skeletons), answers by hand.
 use Rattle.sweep.specs.Sweep.{candidatesIn}
 use Rattle.sweep.proofs.Steps.{no-room-in, no-room-out, room-both}
 use Rattle.records.proofs.Laws.{room-words}
@@ -12,55 +13,44 @@ use Rattle.records.proofs.has_room.Reads as has-room-reads
 use Rattle.sweep.proofs.append.Reads as append-reads
 use Rattle.sweep.proofs.count.Reads as count-reads
 
--- src/lib.rt:136:9
 count-requires : tie.Need-count-requires
 count-requires c κs = search needs
 
--- src/lib.rt:137:9
 count-requires-2 : tie.Need-count-requires-2
 count-requires-2 c κs = search needs
 
--- src/lib.rt:138:8
 has-room-requires : tie.Need-has-room-requires
 has-room-requires c κs = search needs
 
--- src/lib.rt:139:12
 has-room-requires-2 : tie.Need-has-room-requires-2
 has-room-requires-2 c κs = search needs
 
--- src/lib.rt:141:26
 add-t14 : tie.Need-add-t14
 add-t14 c =
     let q = room-words _ _ _ _ (sym (c .before .before .before .before .has-room .ensures) ∙ c .before .before .before .if1 .taken) in
     record { fits = omega arith }
 
--- src/lib.rt:142:28
 add-t15 : tie.Need-add-t15
 add-t15 c =
     let q = room-words _ _ _ _ (sym (c .before .before .before .has-room2 .ensures) ∙ c .before .before .if2 .taken) in
     record { fits = omega arith }
 
--- src/lib.rt:144:13
 append-requires : tie.Need-append-requires
 append-requires c κs =
     let q = room-words _ _ _ _ (sym (c .before .before .before .before .before .before .has-room .ensures) ∙ c .before .before .before .before .before .if1 .taken) in
     rw (c .before .before .before .before .before .before .before .before .count .ensures) at q
 
--- src/lib.rt:145:13
 append-requires-2 : tie.Need-append-requires-2
 append-requires-2 c κs =
     let q = room-words _ _ _ _ (sym (c .before .before .before .before .before .before .before .before .has-room2 .ensures) ∙ c .before .before .before .before .before .before .before .if2 .taken) in
     rw (c .before .before .before .before .before .before .before .before .before .before .before .count2 .ensures) at q
 
--- src/lib.rt:146:13
 same-length : tie.Need-same-length
 same-length c = search needs
 
--- src/lib.rt:146:13
 same-length-2 : tie.Need-same-length-2
 same-length-2 c = search needs
 
--- src/lib.rt:146:13
 returns : tie.Need-returns
 returns c =
     let a = c .before .before .before .before .before .before .before .before .before .before .before .before .before .before .before .before .before .before .before .args in
@@ -71,14 +61,12 @@ returns c =
     rw (room-both (a .claims) (a .shift) (candidatesIn (a .candidates .now)) (a .working .now) (a .unclaimed .now) (a .filled) d e)
     (record { answer = rw (i, o) refl; working = c .before .before .before .before .before .before .append .ensures; unclaimed = c .before .before .append2 .ensures })
 
--- src/lib.rt:148:9
 returns-2 : tie.Need-returns-2
 returns-2 c =
     let d = rw (c .before .before .before .before .before .count .ensures) at (sym (c .before .before .before .has-room .ensures) ∙ c .before .before .if1 .taken) in
     let e = rw (c .before .before .before .before .count2 .ensures) at (sym (c .before .has-room2 .ensures) ∙ c .if2 .left) in
     rw (no-room-out _ _ _ _ _ _ d e) (record { answer = refl; working = refl; unclaimed = refl })
 
--- src/lib.rt:126:1
 returns-3 : tie.Need-returns-3
 returns-3 c =
     let a = c .before .before .before .before .before .before .before .args in

@@ -1,3 +1,4 @@
+-- Generated skeleton (tools/proof/write-skeletons), answers by hand.
 use mathlib.Core.Path.{sym}
 use lib.Dec.{lit≤}
 use lib.Seq.{length-take-le}
@@ -10,23 +11,18 @@ use Rattle.test_boxlist.proofs.show.Lts as lts
 use Rattle.io.proofs.write_all.Reads as write-all-reads
 use Rattle.boxlist_print.proofs.list_screen.Reads as list-screen-reads
 
--- src/main.rt:20:9
 list-screen-requires : tie.Need-list-screen-requires
 list-screen-requires c κs = search needs
 
--- src/main.rt:21:34
 array-share-prefix-out : tie.Need-array-share-prefix-out
 array-share-prefix-out c = printed-there _ _ _ _ (lit≤ tt) (c .list-screen .ensures)
 
--- src/main.rt:21:34
 slice-aggregate-write-all : tie.Need-slice-aggregate-write-all
 slice-aggregate-write-all c = sym (length-take-le _ _ (printed-there _ _ _ _ (lit≤ tt) (c .before .list-screen .ensures)))
 
--- src/main.rt:21:5
 write-all-requires : tie.Need-write-all-requires
 write-all-requires c κs = search needs
 
--- src/main.rt:18:1
 returns : tie.Need-returns
 returns c = search needs
 

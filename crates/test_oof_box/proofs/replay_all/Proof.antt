@@ -1,3 +1,4 @@
+-- Generated skeleton (tools/proof/write-skeletons), answers by hand.
 use Prim.Native.Nat.{_≤_, _-_}
 use mathlib.Core.Path.{_≡_}
 use lib.ListN.{length}
@@ -17,59 +18,45 @@ Inv-loop n bytes₀ there₀ agree₀ i₀ t7 t8 bytes there agree i = (i ≤ n)
 abbrev μ-loop : tie.MeasureT-loop
 μ-loop n bytes₀ there₀ agree₀ i₀ t7 t8 bytes there agree i = n - i
 
--- src/main.rt:60:5
 loop-holds : tie.Need-loop-holds Inv-loop μ-loop
 loop-holds c = search needs
 
--- src/main.rt:61:37
 slice-aggregate-read-full : tie.Need-slice-aggregate-read-full Inv-loop μ-loop
 slice-aggregate-read-full c = search needs
 
--- src/main.rt:61:20
 read-full-requires : tie.Need-read-full-requires Inv-loop μ-loop
 read-full-requires c κs = search needs
 
--- src/main.rt:62:9
 counted-requires : tie.Need-counted-requires Inv-loop μ-loop
 counted-requires c κs = search needs
 
--- src/main.rt:63:32
 is-replayed-requires : tie.Need-is-replayed-requires Inv-loop μ-loop
 is-replayed-requires c κs = search needs
 
--- src/main.rt:63:9
 counted-requires-2 : tie.Need-counted-requires-2 Inv-loop μ-loop
 counted-requires-2 c κs = search needs
 
--- src/main.rt:64:9
 add-i : tie.Need-add-i Inv-loop μ-loop
 add-i c = search needs
 
--- src/main.rt:60:5
 loop-less : tie.Need-loop-less Inv-loop μ-loop
 loop-less c = search needs
 
--- src/main.rt:60:5
 loop-again : tie.Need-loop-again Inv-loop μ-loop
 loop-again c = search needs
 
--- src/main.rt:66:24
 slice-aggregate-print-count : tie.Need-slice-aggregate-print-count Inv-loop μ-loop
 slice-aggregate-print-count c = search needs
 
--- src/main.rt:66:5
 print-count-requires : tie.Need-print-count-requires Inv-loop μ-loop
 print-count-requires c κs = search needs
 
--- src/main.rt:67:24
 slice-aggregate-print-count-2 : tie.Need-slice-aggregate-print-count-2 Inv-loop μ-loop
 slice-aggregate-print-count-2 c = search needs
 
--- src/main.rt:67:5
 print-count-requires-2 : tie.Need-print-count-requires-2 Inv-loop μ-loop
 print-count-requires-2 c κs = search needs
 
--- src/main.rt:55:1
 returns : tie.Need-returns Inv-loop μ-loop
 returns c = search needs
 

@@ -1,3 +1,4 @@
+-- Generated skeleton (tools/proof/write-skeletons), answers by hand.
 use Prim.Native.Nat.{_≤_, _-_}
 use mathlib.Core.Path.{_≡_, refl}
 use lib.ListN.{length, length-set}
@@ -14,79 +15,60 @@ Inv-loop bytes words₀ i₀ words i = (i ≤ 127) × (127 ≡ length words)
 abbrev μ-loop : tie.MeasureT-loop
 μ-loop bytes words₀ i₀ words i = 127 - i
 
--- src/main.rt:18:5
 loop-holds : tie.Need-loop-holds Inv-loop μ-loop
 loop-holds c = (search needs, refl)
 
--- src/main.rt:20:19
 mul-word : tie.Need-mul-word Inv-loop μ-loop
 mul-word c = search needs
 
--- src/main.rt:20:13
 element-copy-out-word : tie.Need-element-copy-out-word Inv-loop μ-loop
 element-copy-out-word c = search needs
 
--- src/main.rt:21:19
 mul-word-2 : tie.Need-mul-word-2 Inv-loop μ-loop
 mul-word-2 c = search needs
 
--- src/main.rt:21:19
 add-word : tie.Need-add-word Inv-loop μ-loop
 add-word c = search needs
 
--- src/main.rt:21:13
 element-copy-out-word-2 : tie.Need-element-copy-out-word-2 Inv-loop μ-loop
 element-copy-out-word-2 c = search needs
 
--- src/main.rt:22:19
 mul-word-3 : tie.Need-mul-word-3 Inv-loop μ-loop
 mul-word-3 c = search needs
 
--- src/main.rt:22:19
 add-word-2 : tie.Need-add-word-2 Inv-loop μ-loop
 add-word-2 c = search needs
 
--- src/main.rt:22:13
 element-copy-out-word-3 : tie.Need-element-copy-out-word-3 Inv-loop μ-loop
 element-copy-out-word-3 c = search needs
 
--- src/main.rt:23:19
 mul-word-4 : tie.Need-mul-word-4 Inv-loop μ-loop
 mul-word-4 c = search needs
 
--- src/main.rt:23:19
 add-word-3 : tie.Need-add-word-3 Inv-loop μ-loop
 add-word-3 c = search needs
 
--- src/main.rt:23:13
 element-copy-out-word-4 : tie.Need-element-copy-out-word-4 Inv-loop μ-loop
 element-copy-out-word-4 c = search needs
 
--- src/main.rt:19:20
 word-requires : tie.Need-word-requires Inv-loop μ-loop
 word-requires c κs = search needs
 
--- src/main.rt:19:9
 mul-words : tie.Need-mul-words Inv-loop μ-loop
 mul-words c = search needs
 
--- src/main.rt:19:9
 array-write-words : tie.Need-array-write-words Inv-loop μ-loop
 array-write-words c = search needs
 
--- src/main.rt:25:9
 add-i : tie.Need-add-i Inv-loop μ-loop
 add-i c = search needs
 
--- src/main.rt:18:5
 loop-less : tie.Need-loop-less Inv-loop μ-loop
 loop-less c = search needs
 
--- src/main.rt:18:5
 loop-again : tie.Need-loop-again Inv-loop μ-loop
 loop-again c = (search needs, simp length-set (search needs))
 
--- src/main.rt:13:1
 returns : tie.Need-returns Inv-loop μ-loop
 returns c = c .before .loop .inv .1
 

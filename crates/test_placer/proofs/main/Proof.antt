@@ -1,3 +1,4 @@
+-- Generated skeleton (tools/proof/write-skeletons), answers by hand.
 use Prim.Native.Nat.{_≤_, _-_}
 use borrow.Author.Needs.{needs}
 use Rattle.test_placer.proofs.main.Statement.{statement}
@@ -13,31 +14,24 @@ Inv-loop n i₀ i = i ≤ n
 abbrev μ-loop : tie.MeasureT-loop
 μ-loop n i₀ i = n - i
 
--- src/main.rt:135:9
 read-count-requires : tie.Need-read-count-requires Inv-loop μ-loop
 read-count-requires c κs = search needs
 
--- src/main.rt:137:5
 loop-holds : tie.Need-loop-holds Inv-loop μ-loop
 loop-holds c = search needs
 
--- src/main.rt:138:9
 play-run-requires : tie.Need-play-run-requires Inv-loop μ-loop
 play-run-requires c κs = search needs
 
--- src/main.rt:139:9
 add-i : tie.Need-add-i Inv-loop μ-loop
 add-i c = search needs
 
--- src/main.rt:137:5
 loop-less : tie.Need-loop-less Inv-loop μ-loop
 loop-less c = search needs
 
--- src/main.rt:137:5
 loop-again : tie.Need-loop-again Inv-loop μ-loop
 loop-again c = search needs
 
--- src/main.rt:134:1
 returns : tie.Need-returns Inv-loop μ-loop
 returns c = search needs
 

@@ -1,3 +1,4 @@
+-- Generated skeleton (tools/proof/write-skeletons), answers by hand.
 use mathlib.Core.Path.{_∙_}
 use borrow.Author.Needs.{needs}
 use Rattle.test_placer.proofs.play.Statement.{statement}
@@ -11,75 +12,57 @@ use Rattle.test_placer.proofs.output.print_step.Reads as print-step-rea
 use Rattle.test_placer.proofs.output.print_words.Reads as print-words-reads
 use Rattle.test_placer.proofs.play_calls.Reads as play-calls-reads
 
--- src/main.rt:94:9
 read-opening-requires : tie.Need-read-opening-requires
 read-opening-requires c κs = search needs
 
--- src/main.rt:95:5
 read-words-requires : tie.Need-read-words-requires
 read-words-requires c κs = search needs
 
--- src/main.rt:96:5
 read-words-requires-2 : tie.Need-read-words-requires-2
 read-words-requires-2 c κs = search needs
 
--- src/main.rt:97:9
 open-requires : tie.Need-open-requires
 open-requires c κs = search needs
 
--- src/main.rt:106:5
 print-step-requires : tie.Need-print-step-requires
 print-step-requires c κs = search needs
 
--- src/main.rt:107:5
 play-calls-requires : tie.Need-play-calls-requires
 play-calls-requires c κs = search needs
 
--- src/main.rt:108:25
 slice-aggregate-print-words : tie.Need-slice-aggregate-print-words
 slice-aggregate-print-words c = search needs
 
--- src/main.rt:108:5
 print-words-requires : tie.Need-print-words-requires
 print-words-requires c κs = search needs
 
--- src/main.rt:109:25
 slice-aggregate-print-words-2 : tie.Need-slice-aggregate-print-words-2
 slice-aggregate-print-words-2 c = search needs
 
--- src/main.rt:109:5
 print-words-requires-2 : tie.Need-print-words-requires-2
 print-words-requires-2 c κs = search needs
 
--- src/main.rt:110:25
 slice-aggregate-print-words-3 : tie.Need-slice-aggregate-print-words-3
 slice-aggregate-print-words-3 c = search needs
 
--- src/main.rt:110:5
 print-words-requires-3 : tie.Need-print-words-requires-3
 print-words-requires-3 c κs = search needs
 
--- src/main.rt:87:1
 same-length : tie.Need-same-length
 same-length c = c .before .before .before .before .before .before .before .before .before .before .before .before .before .before .before .before .before .play-calls .kept .1 .0 ∙ c .before .before .before .before .before .before .before .before .before .before .before .before .before .before .before .before .before .before .before .before .before .before .before .before .before .before .before .before .before .before .before .before .before .before .before .before .before .before .before .before .before .before .read-words .kept .0
 
--- src/main.rt:87:1
 same-length-2 : tie.Need-same-length-2
 same-length-2 c = c .before .before .before .before .before .before .before .before .before .before .before .before .before .before .before .before .before .before .before .before .before .before .before .before .before .before .before .before .before .before .before .before .before .before .before .before .before .before .read-words2 .kept .0
 
--- src/main.rt:87:1
 same-length-3 : tie.Need-same-length-3
 same-length-3 c = search needs
 
--- src/main.rt:87:1
 same-length-4 : tie.Need-same-length-4
 same-length-4 c = search needs
 
--- src/main.rt:87:1
 same-length-5 : tie.Need-same-length-5
 same-length-5 c = search needs
 
--- src/main.rt:87:1
 returns : tie.Need-returns
 returns c = search needs
 

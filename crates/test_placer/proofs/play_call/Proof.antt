@@ -1,3 +1,4 @@
+-- Generated skeleton (tools/proof/write-skeletons), answers by hand.
 use mathlib.Core.Path.{_∙_}
 use borrow.Author.Needs.{needs}
 use Rattle.test_placer.proofs.play_call.Statement.{statement}
@@ -9,43 +10,33 @@ use Rattle.test_placer.proofs.kept.Reads as kept-reads
 use Rattle.test_placer.proofs.play_reply.Reads as play-reply-reads
 use Rattle.test_placer.proofs.rewrite.Reads as rewrite-reads
 
--- src/main.rt:63:9
 read-forged-requires : tie.Need-read-forged-requires
 read-forged-requires c κs = search needs
 
--- src/main.rt:64:5
 rewrite-requires : tie.Need-rewrite-requires
 rewrite-requires c κs = search needs
 
--- src/main.rt:65:5
 rewrite-requires-2 : tie.Need-rewrite-requires-2
 rewrite-requires-2 c κs = search needs
 
--- src/main.rt:66:9
 play-reply-requires : tie.Need-play-reply-requires
 play-reply-requires c κs = search needs
 
--- src/main.rt:67:5
 kept-requires : tie.Need-kept-requires
 kept-requires c κs = search needs
 
--- src/main.rt:56:1
 same-length : tie.Need-same-length
 same-length c = c .before .before .before .before .before .before .before .before .before .before .before .before .before .before .before .before .before .before .rewrite .kept .0
 
--- src/main.rt:56:1
 same-length-2 : tie.Need-same-length-2
 same-length-2 c = search needs
 
--- src/main.rt:56:1
 same-length-3 : tie.Need-same-length-3
 same-length-3 c = c .before .before .before .before .before .before .before .play-reply .kept .1 .1 .1 .0 ∙ c .before .before .before .before .before .before .before .before .before .before .before .before .before .before .rewrite2 .kept .0
 
--- src/main.rt:56:1
 same-length-4 : tie.Need-same-length-4
 same-length-4 c = search needs
 
--- src/main.rt:56:1
 returns : tie.Need-returns
 returns c = search needs
 

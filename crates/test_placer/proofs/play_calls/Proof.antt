@@ -1,3 +1,4 @@
+-- Generated skeleton (tools/proof/write-skeletons), answers by hand.
 use Prim.Native.Nat.{_≤_, _-_}
 use lib.ListN.{length}
 use mathlib.Core.Path.{_≡_}
@@ -17,47 +18,36 @@ abbrev μ-loop : tie.MeasureT-loop
 μ-loop styles₀ layouts₀ working₀ unclaimed₀ state₀ n i₀ styles layouts working unclaimed state i =
     n - i
 
--- src/main.rt:79:9
 read-count-requires : tie.Need-read-count-requires Inv-loop μ-loop
 read-count-requires c κs = search needs
 
--- src/main.rt:81:5
 loop-holds : tie.Need-loop-holds Inv-loop μ-loop
 loop-holds c = search needs
 
--- src/main.rt:82:9
 play-call-requires : tie.Need-play-call-requires Inv-loop μ-loop
 play-call-requires c κs = search needs
 
--- src/main.rt:83:9
 add-i : tie.Need-add-i Inv-loop μ-loop
 add-i c = search needs
 
--- src/main.rt:81:5
 loop-less : tie.Need-loop-less Inv-loop μ-loop
 loop-less c = search needs
 
--- src/main.rt:81:5
 loop-again : tie.Need-loop-again Inv-loop μ-loop
 loop-again c = search needs
 
--- src/main.rt:71:1
 same-length : tie.Need-same-length Inv-loop μ-loop
 same-length c = search needs
 
--- src/main.rt:71:1
 same-length-2 : tie.Need-same-length-2 Inv-loop μ-loop
 same-length-2 c = search needs
 
--- src/main.rt:71:1
 same-length-3 : tie.Need-same-length-3 Inv-loop μ-loop
 same-length-3 c = search needs
 
--- src/main.rt:71:1
 same-length-4 : tie.Need-same-length-4 Inv-loop μ-loop
 same-length-4 c = search needs
 
--- src/main.rt:71:1
 returns : tie.Need-returns Inv-loop μ-loop
 returns c = search needs
 

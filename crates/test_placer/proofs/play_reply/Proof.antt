@@ -1,3 +1,4 @@
+-- Generated skeleton (tools/proof/write-skeletons), answers by hand.
 use mathlib.Core.Path.{sym}
 use lib.Seq.{length-take-le}
 use borrow.Author.Needs.{needs}
@@ -11,47 +12,36 @@ use Rattle.test_placer.proofs.input.read_reply.Reads as read-reply-read
 use Rattle.test_placer.proofs.input.read_words.Reads as read-words-reads
 use Rattle.test_placer.proofs.output.print_step.Reads as print-step-reads
 
--- src/main.rt:37:9
 read-reply-requires : tie.Need-read-reply-requires
 read-reply-requires c κs = search needs
 
--- src/main.rt:39:9
 read-length-requires : tie.Need-read-length-requires
 read-length-requires c κs = search needs
 
--- src/main.rt:40:32
 array-borrow-prefix-space : tie.Need-array-borrow-prefix-space
 array-borrow-prefix-space c = search needs
 
--- src/main.rt:40:9
 slice-aggregate-surfaced : tie.Need-slice-aggregate-surfaced
 slice-aggregate-surfaced c = sym (length-take-le _ _ (c .before .read-length .ensures))
 
--- src/main.rt:41:5
 read-words-requires : tie.Need-read-words-requires
 read-words-requires c κs = search needs
 
--- src/main.rt:42:9
 reply-requires : tie.Need-reply-requires
 reply-requires c κs = search needs
 
--- src/main.rt:51:5
 print-step-requires : tie.Need-print-step-requires
 print-step-requires c κs = search needs
 
--- src/main.rt:30:1
 same-length : tie.Need-same-length
 same-length c = search needs
 
--- src/main.rt:30:1
 same-length-2 : tie.Need-same-length-2
 same-length-2 c = search needs
 
--- src/main.rt:30:1
 same-length-3 : tie.Need-same-length-3
 same-length-3 c = search needs
 
--- src/main.rt:30:1
 returns : tie.Need-returns
 returns c = search needs
 

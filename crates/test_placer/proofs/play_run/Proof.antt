@@ -1,3 +1,4 @@
+-- Generated skeleton (tools/proof/write-skeletons), answers by hand.
 use mathlib.Core.Path.{sym}
 use lib.Seq.{length-take-le}
 use borrow.Author.Needs.{needs}
@@ -8,71 +9,54 @@ use Rattle.test_placer.proofs.play_run.Lts as lts
 use Rattle.test_placer.proofs.input.read_length.Reads as read-length-reads
 use Rattle.test_placer.proofs.play.Reads as play-reads
 
--- src/main.rt:120:9
 read-length-requires : tie.Need-read-length-requires
 read-length-requires c κs = search needs
 
--- src/main.rt:121:9
 read-length-requires-2 : tie.Need-read-length-requires-2
 read-length-requires-2 c κs = search needs
 
--- src/main.rt:122:9
 read-length-requires-3 : tie.Need-read-length-requires-3
 read-length-requires-3 c κs = search needs
 
--- src/main.rt:123:9
 read-length-requires-4 : tie.Need-read-length-requires-4
 read-length-requires-4 c κs = search needs
 
--- src/main.rt:124:9
 read-length-requires-5 : tie.Need-read-length-requires-5
 read-length-requires-5 c κs = search needs
 
--- src/main.rt:126:9
 array-borrow-prefix-styles : tie.Need-array-borrow-prefix-styles
 array-borrow-prefix-styles c = search needs
 
--- src/main.rt:126:9
 slice-aggregate-play : tie.Need-slice-aggregate-play
 slice-aggregate-play c = sym (length-take-le _ _ (c .before .before .before .before .before .read-length .ensures))
 
--- src/main.rt:127:9
 array-borrow-prefix-candidates : tie.Need-array-borrow-prefix-candidates
 array-borrow-prefix-candidates c = search needs
 
--- src/main.rt:127:9
 slice-aggregate-play-2 : tie.Need-slice-aggregate-play-2
 slice-aggregate-play-2 c = sym (length-take-le _ _ (c .before .before .before .before .before .read-length2 .ensures))
 
--- src/main.rt:128:9
 array-borrow-prefix-layouts : tie.Need-array-borrow-prefix-layouts
 array-borrow-prefix-layouts c = search needs
 
--- src/main.rt:128:9
 slice-aggregate-play-3 : tie.Need-slice-aggregate-play-3
 slice-aggregate-play-3 c = sym (length-take-le _ _ (c .before .before .before .before .before .read-length3 .ensures))
 
--- src/main.rt:129:9
 array-borrow-prefix-working : tie.Need-array-borrow-prefix-working
 array-borrow-prefix-working c = search needs
 
--- src/main.rt:129:9
 slice-aggregate-play-4 : tie.Need-slice-aggregate-play-4
 slice-aggregate-play-4 c = sym (length-take-le _ _ (c .before .before .before .before .before .read-length4 .ensures))
 
--- src/main.rt:130:9
 array-borrow-prefix-unclaimed : tie.Need-array-borrow-prefix-unclaimed
 array-borrow-prefix-unclaimed c = search needs
 
--- src/main.rt:130:9
 slice-aggregate-play-5 : tie.Need-slice-aggregate-play-5
 slice-aggregate-play-5 c = sym (length-take-le _ _ (c .before .before .before .before .before .read-length5 .ensures))
 
--- src/main.rt:125:5
 play-requires : tie.Need-play-requires
 play-requires c κs = search needs
 
--- src/main.rt:114:1
 returns : tie.Need-returns
 returns c = search needs
 

@@ -1,3 +1,4 @@
+-- Generated skeleton (tools/proof/write-skeletons), answers by hand.
 use Prim.Native.Nat.{_≤_, _-_}
 use lib.ListN.{length}
 use borrow.Author.Needs.{needs}
@@ -13,39 +14,30 @@ Inv-loop words n sum₀ k₀ sum k = 0 ≤ k
 abbrev μ-loop : tie.MeasureT-loop
 μ-loop words n sum₀ k₀ sum k = length words - k
 
--- src/main.rt:53:5
 loop-holds : tie.Need-loop-holds Inv-loop μ-loop
 loop-holds c = search needs
 
--- src/main.rt:55:13
 returns : tie.Need-returns Inv-loop μ-loop
 returns c = search needs
 
--- src/main.rt:57:26
 mul-mixed : tie.Need-mul-mixed Inv-loop μ-loop
 mul-mixed c = search needs
 
--- src/main.rt:57:26
 shared-slice-read-mixed : tie.Need-shared-slice-read-mixed Inv-loop μ-loop
 shared-slice-read-mixed c = search needs
 
--- src/main.rt:57:9
 mixed-requires : tie.Need-mixed-requires Inv-loop μ-loop
 mixed-requires c κs = search needs
 
--- src/main.rt:58:9
 add-k : tie.Need-add-k Inv-loop μ-loop
 add-k c = search needs
 
--- src/main.rt:53:5
 loop-less : tie.Need-loop-less Inv-loop μ-loop
 loop-less c = search needs
 
--- src/main.rt:53:5
 loop-again : tie.Need-loop-again Inv-loop μ-loop
 loop-again c = search needs
 
--- src/main.rt:50:1
 returns-2 : tie.Need-returns-2 Inv-loop μ-loop
 returns-2 c = search needs
 

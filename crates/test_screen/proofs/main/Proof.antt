@@ -1,3 +1,4 @@
+-- Generated skeleton (tools/proof/write-skeletons), answers by hand.
 use Prim.Native.Nat.{_≤_, _-_}
 use borrow.Author.Needs.{needs}
 use Rattle.test_screen.proofs.main.Statement.{statement}
@@ -15,51 +16,39 @@ Inv-loop n i₀ i = 0 ≤ i
 abbrev μ-loop : tie.MeasureT-loop
 μ-loop n i₀ i = n - i
 
--- src/main.rt:351:9
 arg-count-requires : tie.Need-arg-count-requires Inv-loop μ-loop
 arg-count-requires c κs = search needs
 
--- src/main.rt:353:5
 loop-holds : tie.Need-loop-holds Inv-loop μ-loop
 loop-holds c = search needs
 
--- src/main.rt:354:9
 show-file-requires : tie.Need-show-file-requires Inv-loop μ-loop
 show-file-requires c κs = search needs
 
--- src/main.rt:355:9
 add-i : tie.Need-add-i Inv-loop μ-loop
 add-i c = search needs
 
--- src/main.rt:353:5
 loop-less : tie.Need-loop-less Inv-loop μ-loop
 loop-less c = search needs
 
--- src/main.rt:353:5
 loop-again : tie.Need-loop-again Inv-loop μ-loop
 loop-again c = search needs
 
--- src/main.rt:357:5
 show-zeros-requires : tie.Need-show-zeros-requires Inv-loop μ-loop
 show-zeros-requires c κs = search needs
 
--- src/main.rt:358:5
 show-zeros-requires-2 : tie.Need-show-zeros-requires-2 Inv-loop μ-loop
 show-zeros-requires-2 c κs = search needs
 
--- src/main.rt:359:5
 show-zeros-requires-3 : tie.Need-show-zeros-requires-3 Inv-loop μ-loop
 show-zeros-requires-3 c κs = search needs
 
--- src/main.rt:360:5
 show-zeros-requires-4 : tie.Need-show-zeros-requires-4 Inv-loop μ-loop
 show-zeros-requires-4 c κs = search needs
 
--- src/main.rt:361:5
 show-rows-requires : tie.Need-show-rows-requires Inv-loop μ-loop
 show-rows-requires c κs = search needs
 
--- src/main.rt:350:1
 returns : tie.Need-returns Inv-loop μ-loop
 returns c = search needs
 

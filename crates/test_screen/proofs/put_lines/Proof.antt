@@ -1,3 +1,4 @@
+-- Generated skeleton (tools/proof/write-skeletons), answers by hand.
 use Prim.Native.Nat.{_≤_, _-_}
 use mathlib.Core.Path.{_≡_}
 use lib.ListN.{length}
@@ -14,31 +15,24 @@ Inv-loop text₀ at fields n p₀ i₀ text p i = (p ≤ length text₀) × (len
 abbrev μ-loop : tie.MeasureT-loop
 μ-loop text₀ at fields n p₀ i₀ text p i = n - i
 
--- src/main.rt:202:5
 loop-holds : tie.Need-loop-holds Inv-loop μ-loop
 loop-holds c = search needs
 
--- src/main.rt:203:9
 put-zeros-requires : tie.Need-put-zeros-requires Inv-loop μ-loop
 put-zeros-requires c κs = search needs
 
--- src/main.rt:204:9
 add-i : tie.Need-add-i Inv-loop μ-loop
 add-i c = search needs
 
--- src/main.rt:202:5
 loop-less : tie.Need-loop-less Inv-loop μ-loop
 loop-less c = search needs
 
--- src/main.rt:202:5
 loop-again : tie.Need-loop-again Inv-loop μ-loop
 loop-again c = search needs
 
--- src/main.rt:196:1
 same-length : tie.Need-same-length Inv-loop μ-loop
 same-length c = search needs
 
--- src/main.rt:196:1
 returns : tie.Need-returns Inv-loop μ-loop
 returns c = search needs
 

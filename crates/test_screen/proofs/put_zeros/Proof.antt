@@ -1,3 +1,4 @@
+-- Generated skeleton (tools/proof/write-skeletons), answers by hand.
 use Prim.Native.Nat.{_≤_, _-_}
 use mathlib.Core.Path.{_≡_}
 use lib.ListN.{length}
@@ -15,35 +16,27 @@ Inv-loop text₀ at fields p₀ j₀ text p j = (p ≤ length text₀) × (lengt
 abbrev μ-loop : tie.MeasureT-loop
 μ-loop text₀ at fields p₀ j₀ text p j = fields - j
 
--- src/main.rt:187:5
 loop-holds : tie.Need-loop-holds Inv-loop μ-loop
 loop-holds c = search needs
 
--- src/main.rt:188:9
 put-number-requires : tie.Need-put-number-requires Inv-loop μ-loop
 put-number-requires c κs = search needs
 
--- src/main.rt:189:9
 add-j : tie.Need-add-j Inv-loop μ-loop
 add-j c = search needs
 
--- src/main.rt:187:5
 loop-less : tie.Need-loop-less Inv-loop μ-loop
 loop-less c = search needs
 
--- src/main.rt:187:5
 loop-again : tie.Need-loop-again Inv-loop μ-loop
 loop-again c = search needs
 
--- src/main.rt:191:5
 put-feed-requires : tie.Need-put-feed-requires Inv-loop μ-loop
 put-feed-requires c κs = search needs
 
--- src/main.rt:181:1
 same-length : tie.Need-same-length Inv-loop μ-loop
 same-length c = search needs
 
--- src/main.rt:181:1
 returns : tie.Need-returns Inv-loop μ-loop
 returns c = search needs
 

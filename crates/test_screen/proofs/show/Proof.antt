@@ -1,3 +1,4 @@
+-- Generated skeleton (tools/proof/write-skeletons), answers by hand.
 use mathlib.Core.Path.{sym, _∙_}
 use Rattle.screen.proofs.Whole.{read-told}
 use borrow.Author.Needs.{needs}
@@ -9,33 +10,26 @@ use Rattle.screen.proofs.read_screen.Reads as read-screen-reads
 use Rattle.test_screen.proofs.print_refusal.Reads as print-refusal-reads
 use Rattle.test_screen.proofs.show_words.Reads as show-words-reads
 
--- src/main.rt:145:9
 read-screen-requires : tie.Need-read-screen-requires
 read-screen-requires c κs = search needs
 
--- src/main.rt:148:13
 enum-told : tie.Need-enum-told
 enum-told c = search needs
 
--- src/main.rt:148:13
 print-refusal-requires : tie.Need-print-refusal-requires
 print-refusal-requires c κs = search needs
 
--- src/main.rt:150:22
 enum-known-answer : tie.Need-enum-known-answer
 enum-known-answer c = search needs
 
--- src/main.rt:151:13
 show-words-requires : tie.Need-show-words-requires
 show-words-requires c κs =
     let t = read-told (c .before .before .before .before .before .before .before .before .before .before .before .before .before .args .text .now) _ _ (sym (c .before .before .before .before .before .answer .given .1) ∙ c .before .before .before .before .before .before .before .read-screen .ensures .answer) in
     (t .fewItems, t .fewCandidates)
 
--- src/main.rt:140:1
 returns : tie.Need-returns
 returns c = search needs
 
--- src/main.rt:140:1
 returns-2 : tie.Need-returns-2
 returns-2 c = search needs
 

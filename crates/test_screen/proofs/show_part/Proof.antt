@@ -1,3 +1,4 @@
+-- Generated skeleton (tools/proof/write-skeletons), answers by hand.
 use mathlib.Core.Path.{sym}
 use lib.Seq.{length-take-le}
 use borrow.Author.Needs.{needs}
@@ -7,19 +8,15 @@ use Rattle.test_screen.proofs.show_part.Reads as reads
 use Rattle.test_screen.proofs.show_part.Lts as lts
 use Rattle.test_screen.proofs.show.Reads as show-reads
 
--- src/main.rt:226:14
 slice-aggregate-show : tie.Need-slice-aggregate-show
 slice-aggregate-show c = sym (length-take-le _ _ (c .before .if1 .taken))
 
--- src/main.rt:226:9
 show-requires : tie.Need-show-requires
 show-requires c κs = search needs
 
--- src/main.rt:224:1
 returns : tie.Need-returns
 returns c = search needs
 
--- src/main.rt:224:1
 returns-2 : tie.Need-returns-2
 returns-2 c = search needs
 

@@ -1,3 +1,4 @@
+-- Generated skeleton (tools/proof/write-skeletons), answers by hand.
 use Prim.Native.Nat.{_≤_, _-_}
 use mathlib.Core.Path.{_≡_, refl}
 use lib.ListN.{length, length-set}
@@ -15,43 +16,33 @@ Inv-loop table₀ state₀ i₀ table state i = (i ≤ length table) × (length 
 abbrev μ-loop : tie.MeasureT-loop
 μ-loop table₀ state₀ i₀ table state i = length table - i
 
--- src/main.rt:95:5
 loop-holds : tie.Need-loop-holds Inv-loop μ-loop
 loop-holds c = (search needs, refl)
 
--- src/main.rt:96:9
 draw-requires : tie.Need-draw-requires Inv-loop μ-loop
 draw-requires c κs = search needs
 
--- src/main.rt:97:20
 sample-requires : tie.Need-sample-requires Inv-loop μ-loop
 sample-requires c κs = search needs
 
--- src/main.rt:97:9
 mul-table : tie.Need-mul-table Inv-loop μ-loop
 mul-table c = search needs
 
--- src/main.rt:97:9
 slice-write-table : tie.Need-slice-write-table Inv-loop μ-loop
 slice-write-table c = search needs
 
--- src/main.rt:98:9
 add-i : tie.Need-add-i Inv-loop μ-loop
 add-i c = search needs
 
--- src/main.rt:95:5
 loop-less : tie.Need-loop-less Inv-loop μ-loop
 loop-less c = simp length-set (search needs)
 
--- src/main.rt:95:5
 loop-again : tie.Need-loop-again Inv-loop μ-loop
 loop-again c = (simp length-set (search needs), simp length-set (c .before .before .before .loop .inv .1))
 
--- src/main.rt:92:1
 same-length : tie.Need-same-length Inv-loop μ-loop
 same-length c = c .before .loop .inv .1
 
--- src/main.rt:92:1
 returns : tie.Need-returns Inv-loop μ-loop
 returns c = tt
 

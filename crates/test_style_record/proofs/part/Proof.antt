@@ -1,3 +1,4 @@
+-- Generated skeleton (tools/proof/write-skeletons), answers by hand.
 use lib.Seq.{length-take-le}
 use mathlib.Core.Path.{sym}
 use borrow.Author.Needs.{needs}
@@ -7,19 +8,15 @@ use Rattle.test_style_record.proofs.part.Reads as reads
 use Rattle.test_style_record.proofs.part.Lts as lts
 use Rattle.test_style_record.proofs.report.Reads as report-reads
 
--- src/main.rt:164:16
 slice-aggregate-report : tie.Need-slice-aggregate-report
 slice-aggregate-report c = sym (length-take-le _ _ (c .before .if1 .taken))
 
--- src/main.rt:164:9
 report-requires : tie.Need-report-requires
 report-requires c κs = search needs
 
--- src/main.rt:162:1
 returns : tie.Need-returns
 returns c = search needs
 
--- src/main.rt:162:1
 returns-2 : tie.Need-returns-2
 returns-2 c = search needs
 

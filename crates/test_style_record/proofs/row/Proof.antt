@@ -1,3 +1,4 @@
+-- Generated skeleton (tools/proof/write-skeletons), answers by hand.
 use lib.ListN.{length}
 use mathlib.Core.Path.{_≡_, refl, _∙_}
 use Prim.Native.Nat.{_≤_, _-_}
@@ -15,39 +16,30 @@ Inv-loop table₀ k other code j₀ t6 table j = (j ≤ 24) × (length table ≡
 abbrev μ-loop : tie.MeasureT-loop
 μ-loop table₀ k other code j₀ t6 table j = 24 - j
 
--- src/main.rt:156:5
 loop-holds : tie.Need-loop-holds Inv-loop μ-loop
 loop-holds c = (search needs, refl)
 
--- src/main.rt:157:9
 one-requires : tie.Need-one-requires Inv-loop μ-loop
 one-requires c κs = search needs
 
--- src/main.rt:158:9
 add-j : tie.Need-add-j Inv-loop μ-loop
 add-j c = search needs
 
--- src/main.rt:156:5
 loop-less : tie.Need-loop-less Inv-loop μ-loop
 loop-less c = search needs
 
--- src/main.rt:156:5
 loop-again : tie.Need-loop-again Inv-loop μ-loop
 loop-again c = (search needs, c .before .before .one .kept .0 ∙ c .before .before .before .before .before .loop .inv .1)
 
--- src/main.rt:160:22
 slice-aggregate-write-all : tie.Need-slice-aggregate-write-all Inv-loop μ-loop
 slice-aggregate-write-all c = search needs
 
--- src/main.rt:160:5
 write-all-requires : tie.Need-write-all-requires Inv-loop μ-loop
 write-all-requires c κs = search needs
 
--- src/main.rt:154:1
 same-length : tie.Need-same-length Inv-loop μ-loop
 same-length c = c .before .before .before .loop .inv .1
 
--- src/main.rt:154:1
 returns : tie.Need-returns Inv-loop μ-loop
 returns c = tt
 

@@ -1,3 +1,4 @@
+-- Generated skeleton (tools/proof/write-skeletons), answers by hand.
 use lib.ListN.{length}
 use mathlib.Core.Path.{_≡_, refl, _∙_}
 use Prim.Native.Nat.{_≤_, _-_}
@@ -14,31 +15,24 @@ Inv-loop table₀ k₀ table k = (k ≤ 57) × (length table ≡ length table₀
 abbrev μ-loop : tie.MeasureT-loop
 μ-loop table₀ k₀ table k = 57 - k
 
--- src/main.rt:166:5
 loop-holds : tie.Need-loop-holds Inv-loop μ-loop
 loop-holds c = (search needs, refl)
 
--- src/main.rt:167:9
 row-requires : tie.Need-row-requires Inv-loop μ-loop
 row-requires c κs = search needs
 
--- src/main.rt:168:9
 add-k : tie.Need-add-k Inv-loop μ-loop
 add-k c = search needs
 
--- src/main.rt:166:5
 loop-less : tie.Need-loop-less Inv-loop μ-loop
 loop-less c = search needs
 
--- src/main.rt:166:5
 loop-again : tie.Need-loop-again Inv-loop μ-loop
 loop-again c = (search needs, c .before .before .row .kept .0 ∙ c .before .before .before .before .before .loop .inv .1)
 
--- src/main.rt:164:1
 same-length : tie.Need-same-length Inv-loop μ-loop
 same-length c = c .before .loop .inv .1
 
--- src/main.rt:164:1
 returns : tie.Need-returns Inv-loop μ-loop
 returns c = tt
 

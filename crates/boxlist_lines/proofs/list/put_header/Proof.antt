@@ -1,3 +1,4 @@
+-- Generated skeleton (tools/proof/write-skeletons), answers by hand.
 use Rattle.boxlist_lines.specs.Lines.{headerText, lineText, joined, wordText}
 use borrow.Author.Needs.{needs}
 use Rattle.boxlist_lines.proofs.list.put_header.Statement.{statement}
@@ -6,19 +7,15 @@ use Rattle.boxlist_lines.proofs.list.put_header.Reads as reads
 use Rattle.boxlist_lines.proofs.list.put_header.Lts as lts
 use Rattle.boxlist_lines.proofs.list.put_bytes.Reads as put-bytes-reads
 
--- src/list.rt:58:9
 slice-aggregate-put-bytes : tie.Need-slice-aggregate-put-bytes
 slice-aggregate-put-bytes c = search needs
 
--- src/list.rt:55:5
 put-bytes-requires : tie.Need-put-bytes-requires
 put-bytes-requires c κs = search needs
 
--- src/list.rt:51:1
 same-length : tie.Need-same-length
 same-length c = search needs
 
--- src/list.rt:51:1
 returns : tie.Need-returns
 unfolding headerText lineText joined wordText
 returns c = c .before .before .put-bytes .ensures

@@ -1,3 +1,4 @@
+-- Generated skeleton (tools/proof/write-skeletons), answers by hand.
 use native.Mathlib.Omega.{arith}
 use mathlib.Core.Path.{refl, sym, _∙_}
 use lib.ListN.{length-set}
@@ -10,39 +11,30 @@ use Rattle.boxlist_lines.proofs.list.put_overflow.Lts as lts
 use Rattle.boxlist_lines.proofs.list.put_bytes.Reads as put-bytes-reads
 use Rattle.boxlist_lines.proofs.list.put_rect.Reads as put-rect-reads
 
--- src/list.rt:82:24
 slice-aggregate-put-bytes : tie.Need-slice-aggregate-put-bytes
 slice-aggregate-put-bytes c = search needs
 
--- src/list.rt:82:5
 put-bytes-requires : tie.Need-put-bytes-requires
 put-bytes-requires c κs = search needs
 
--- src/list.rt:83:19
 add-put-rect : tie.Need-add-put-rect
 add-put-rect c = search needs
 
--- src/list.rt:83:5
 put-rect-requires : tie.Need-put-rect-requires
 put-rect-requires c κs = search needs
 
--- src/list.rt:84:14
 mul-out : tie.Need-mul-out
 mul-out c = search needs
 
--- src/list.rt:84:9
 add-out : tie.Need-add-out
 add-out c = search needs
 
--- src/list.rt:84:5
 slice-write-out : tie.Need-slice-write-out
 slice-write-out c = search needs
 
--- src/list.rt:78:1
 same-length : tie.Need-same-length
 same-length c = simp length-set (omega arith)
 
--- src/list.rt:78:1
 returns : tie.Need-returns
 returns c =
     sym (overflow-stores _ _ _ ∙ rw (← c .before .before .before .before .before .before .put-bytes .ensures, ← c .before .before .put-rect .ensures) refl)

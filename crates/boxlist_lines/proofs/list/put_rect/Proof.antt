@@ -1,3 +1,4 @@
+-- Generated skeleton (tools/proof/write-skeletons), answers by hand.
 use mathlib.Core.Path.{refl, sym, _∙_}
 use Rattle.boxlist_lines.proofs.Lines.{then-sides}
 use borrow.Author.Needs.{needs}
@@ -7,47 +8,36 @@ use Rattle.boxlist_lines.proofs.list.put_rect.Reads as reads
 use Rattle.boxlist_lines.proofs.list.put_rect.Lts as lts
 use Rattle.boxlist_lines.proofs.put_eighths.Reads as put-eighths-reads
 
--- src/list.rt:44:5
 put-eighths-requires : tie.Need-put-eighths-requires
 put-eighths-requires c κs = search needs
 
--- src/list.rt:45:22
 add-put-eighths : tie.Need-add-put-eighths
 add-put-eighths c = search needs
 
--- src/list.rt:45:5
 put-eighths-requires-2 : tie.Need-put-eighths-requires-2
 put-eighths-requires-2 c κs = search needs
 
--- src/list.rt:46:27
 mul-put-eighths : tie.Need-mul-put-eighths
 mul-put-eighths c = search needs
 
--- src/list.rt:46:22
 add-put-eighths-2 : tie.Need-add-put-eighths-2
 add-put-eighths-2 c = search needs
 
--- src/list.rt:46:5
 put-eighths-requires-3 : tie.Need-put-eighths-requires-3
 put-eighths-requires-3 c κs = search needs
 
--- src/list.rt:47:27
 mul-put-eighths-2 : tie.Need-mul-put-eighths-2
 mul-put-eighths-2 c = search needs
 
--- src/list.rt:47:22
 add-put-eighths-3 : tie.Need-add-put-eighths-3
 add-put-eighths-3 c = search needs
 
--- src/list.rt:47:5
 put-eighths-requires-4 : tie.Need-put-eighths-requires-4
 put-eighths-requires-4 c κs = search needs
 
--- src/list.rt:40:1
 same-length : tie.Need-same-length
 same-length c = search needs
 
--- src/list.rt:40:1
 returns : tie.Need-returns
 returns c =
     sym (then-sides _ _ _ ∙ rw (← c .before .before .before .before .before .before .before .before .before .before .before .before .before .before .put-eighths .ensures, ← c .before .before .before .before .before .before .before .before .before .before .put-eighths2 .ensures, ← c .before .before .before .before .before .before .put-eighths3 .ensures, ← c .before .before .put-eighths4 .ensures) refl)

@@ -1,3 +1,4 @@
+-- Generated skeleton (tools/proof/write-skeletons), answers by hand.
 use native.Mathlib.Omega.{arith}
 use mathlib.Core.Path.{refl, sym, _∙_}
 use lib.ListN.{length-set}
@@ -10,39 +11,30 @@ use Rattle.boxlist_lines.proofs.list.put_refusal.Lts as lts
 use Rattle.boxlist_lines.proofs.list.put_bytes.Reads as put-bytes-reads
 use Rattle.boxlist_lines.proofs.put_code.Reads as put-code-reads
 
--- src/list.rt:92:24
 slice-aggregate-put-bytes : tie.Need-slice-aggregate-put-bytes
 slice-aggregate-put-bytes c = search needs
 
--- src/list.rt:92:5
 put-bytes-requires : tie.Need-put-bytes-requires
 put-bytes-requires c κs = search needs
 
--- src/list.rt:93:19
 add-put-code : tie.Need-add-put-code
 add-put-code c = search needs
 
--- src/list.rt:93:5
 put-code-requires : tie.Need-put-code-requires
 put-code-requires c κs = search needs
 
--- src/list.rt:94:14
 mul-out : tie.Need-mul-out
 mul-out c = search needs
 
--- src/list.rt:94:9
 add-out : tie.Need-add-out
 add-out c = search needs
 
--- src/list.rt:94:5
 slice-write-out : tie.Need-slice-write-out
 slice-write-out c = search needs
 
--- src/list.rt:88:1
 same-length : tie.Need-same-length
 same-length c = simp length-set (omega arith)
 
--- src/list.rt:88:1
 returns : tie.Need-returns
 returns c =
     sym (refusal-stores _ _ _ ∙ rw (← c .before .before .before .before .before .before .put-bytes .ensures, ← c .before .before .put-code .ensures) refl)

@@ -1,3 +1,4 @@
+-- Generated skeleton (tools/proof/write-skeletons), answers by hand.
 use native.Mathlib.Omega.{arith}
 use mathlib.Core.Path.{refl, sym, _∙_}
 use lib.ListN.{length-set}
@@ -11,83 +12,63 @@ use Rattle.boxlist_lines.proofs.list.put_rect.Reads as put-rect-reads
 use Rattle.boxlist_lines.proofs.put_code.Reads as put-code-reads
 use Rattle.boxlist_lines.proofs.put_eighths.Reads as put-eighths-reads
 
--- src/list.rt:67:5
 put-code-requires : tie.Need-put-code-requires
 put-code-requires c κs = search needs
 
--- src/list.rt:68:22
 add-put-eighths : tie.Need-add-put-eighths
 add-put-eighths c = search needs
 
--- src/list.rt:68:5
 put-eighths-requires : tie.Need-put-eighths-requires
 put-eighths-requires c κs = search needs
 
--- src/list.rt:69:27
 mul-put-eighths : tie.Need-mul-put-eighths
 mul-put-eighths c = search needs
 
--- src/list.rt:69:22
 add-put-eighths-2 : tie.Need-add-put-eighths-2
 add-put-eighths-2 c = search needs
 
--- src/list.rt:69:5
 put-eighths-requires-2 : tie.Need-put-eighths-requires-2
 put-eighths-requires-2 c κs = search needs
 
--- src/list.rt:70:27
 mul-put-eighths-2 : tie.Need-mul-put-eighths-2
 mul-put-eighths-2 c = search needs
 
--- src/list.rt:70:22
 add-put-eighths-3 : tie.Need-add-put-eighths-3
 add-put-eighths-3 c = search needs
 
--- src/list.rt:70:5
 put-eighths-requires-3 : tie.Need-put-eighths-requires-3
 put-eighths-requires-3 c κs = search needs
 
--- src/list.rt:71:27
 mul-put-eighths-3 : tie.Need-mul-put-eighths-3
 mul-put-eighths-3 c = search needs
 
--- src/list.rt:71:22
 add-put-eighths-4 : tie.Need-add-put-eighths-4
 add-put-eighths-4 c = search needs
 
--- src/list.rt:71:5
 put-eighths-requires-4 : tie.Need-put-eighths-requires-4
 put-eighths-requires-4 c κs = search needs
 
--- src/list.rt:73:24
 mul-put-rect : tie.Need-mul-put-rect
 mul-put-rect c = search needs
 
--- src/list.rt:73:19
 add-put-rect : tie.Need-add-put-rect
 add-put-rect c = search needs
 
--- src/list.rt:73:5
 put-rect-requires : tie.Need-put-rect-requires
 put-rect-requires c κs = search needs
 
--- src/list.rt:74:14
 mul-out : tie.Need-mul-out
 mul-out c = search needs
 
--- src/list.rt:74:9
 add-out : tie.Need-add-out
 add-out c = search needs
 
--- src/list.rt:74:5
 slice-write-out : tie.Need-slice-write-out
 slice-write-out c = search needs
 
--- src/list.rt:63:1
 same-length : tie.Need-same-length
 same-length c = simp length-set (omega arith)
 
--- src/list.rt:63:1
 returns : tie.Need-returns
 returns c =
     sym (row-stores _ _ _ ∙ rw (← c .before .before .before .before .before .before .before .before .before .before .before .before .before .before .before .before .before .before .before .before .before .before .before .put-code .ensures, ← c .before .before .before .before .before .before .before .before .before .before .before .before .before .before .before .before .before .before .before .put-eighths .ensures, ← c .before .before .before .before .before .before .before .before .before .before .before .before .before .before .before .put-eighths2 .ensures, ← c .before .before .before .before .before .before .before .before .before .before .before .put-eighths3 .ensures, ← c .before .before .before .before .before .before .before .put-eighths4 .ensures, ← c .before .before .put-rect .ensures) refl)

@@ -1,3 +1,4 @@
+-- Generated: tools/proof/write-skeletons, then tools/proof/list-facts --fill.
 use borrow.Author.Needs.{needs}
 use Rattle.boxlist_print.proofs.rows.float_at.Statement.{statement}
 use Rattle.boxlist_print.proofs.rows.float_at.Tie as tie
@@ -6,15 +7,12 @@ use Rattle.boxlist_print.proofs.rows.float_at.Lts as lts
 use Rattle.boxlist_print.proofs.rows.word_at.Reads as word-at-reads
 use Rattle.util.proofs.bits.from_word.Reads as from-word-reads
 
--- src/rows.rt:42:21
 word-at-requires : tie.Need-word-at-requires
 word-at-requires c κs = search needs
 
--- src/rows.rt:42:5
 from-word-requires : tie.Need-from-word-requires
 from-word-requires c κs = search needs
 
--- src/rows.rt:39:1
 returns : tie.Need-returns
 returns c = simp (← c .before .word-at .ensures, ← c .from-word .ensures)
 

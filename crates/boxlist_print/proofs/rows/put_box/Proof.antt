@@ -1,3 +1,4 @@
+-- Generated skeleton (tools/proof/write-skeletons), answers by hand.
 use mathlib.Core.Path.{refl, _∙_}
 use borrow.Author.Needs.{needs}
 use Rattle.boxlist_print.proofs.rows.put_box.Statement.{statement}
@@ -8,23 +9,18 @@ use Rattle.boxlist_lines.proofs.list.put_row.Reads as put-row-reads
 use Rattle.boxlist_print.proofs.rows.row_of.Reads as row-of-reads
 use Rattle.boxlist_print.proofs.rows.word_at.Reads as word-at-reads
 
--- src/rows.rt:77:44
 word-at-requires : tie.Need-word-at-requires
 word-at-requires c κs = search needs
 
--- src/rows.rt:77:28
 row-of-requires : tie.Need-row-of-requires
 row-of-requires c κs = search needs
 
--- src/rows.rt:77:5
 put-row-requires : tie.Need-put-row-requires
 put-row-requires c κs = search needs
 
--- src/rows.rt:73:1
 same-length : tie.Need-same-length
 same-length c = search needs
 
--- src/rows.rt:73:1
 returns : tie.Need-returns
 returns c = c .before .before .put-row .ensures ∙ rw (c .before .before .before .row-of .ensures, c .before .before .before .before .word-at .ensures) refl
 

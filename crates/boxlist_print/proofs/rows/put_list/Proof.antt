@@ -1,3 +1,4 @@
+-- Generated skeleton (tools/proof/write-skeletons), answers by hand.
 use mathlib.Core.Path.{_∙_}
 use Rattle.boxlist_print.proofs.Boxes.{list-size, list-stored}
 use borrow.Author.Needs.{needs}
@@ -9,35 +10,27 @@ use Rattle.boxlist_lines.proofs.list.put_header.Reads as put-header-reads
 use Rattle.boxlist_lines.proofs.list.put_overflow.Reads as put-overflow-reads
 use Rattle.boxlist_print.proofs.rows.put_rows.Reads as put-rows-reads
 
--- src/rows.rt:101:5
 put-header-requires : tie.Need-put-header-requires
 put-header-requires c κs = search needs
 
--- src/rows.rt:102:5
 put-rows-requires : tie.Need-put-rows-requires
 put-rows-requires c κs = search needs
 
--- src/rows.rt:103:21
 mul-end : tie.Need-mul-end
 mul-end c = search needs
 
--- src/rows.rt:103:15
 add-end : tie.Need-add-end
 add-end c = search needs
 
--- src/rows.rt:104:5
 put-overflow-requires : tie.Need-put-overflow-requires
 put-overflow-requires c κs = search needs
 
--- src/rows.rt:105:5
 add-result : tie.Need-add-result
 add-result c = search needs
 
--- src/rows.rt:97:1
 same-length : tie.Need-same-length
 same-length c = search needs
 
--- src/rows.rt:97:1
 returns : tie.Need-returns
 returns c =
     let a = c .before .before .before .before .before .before .before .before .before .before .before .before .before .before .before .args in

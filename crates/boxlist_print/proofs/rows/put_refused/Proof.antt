@@ -1,3 +1,4 @@
+-- Generated skeleton (tools/proof/write-skeletons), answers by hand.
 use mathlib.Core.Path.{sym}
 use Rattle.boxlist_lines.proofs.Laws.{refusal-bytes}
 use borrow.Author.Needs.{needs}
@@ -7,15 +8,12 @@ use Rattle.boxlist_print.proofs.rows.put_refused.Reads as reads
 use Rattle.boxlist_print.proofs.rows.put_refused.Lts as lts
 use Rattle.boxlist_lines.proofs.list.put_refusal.Reads as put-refusal-reads
 
--- src/rows.rt:113:5
 put-refusal-requires : tie.Need-put-refusal-requires
 put-refusal-requires c κs = search needs
 
--- src/rows.rt:109:1
 same-length : tie.Need-same-length
 same-length c = search needs
 
--- src/rows.rt:109:1
 returns : tie.Need-returns
 returns c = record { size = sym (refusal-bytes _); bytes = c .before .before .put-refusal .ensures }
 

@@ -1,3 +1,4 @@
+-- Generated skeleton (tools/proof/write-skeletons), answers by hand.
 use borrow.Author.Needs.{needs}
 use Prim.Native.Nat.{_≤_, _-_, _+_, _*_}
 use native.Mathlib.Nat.{sub-zero}
@@ -25,31 +26,24 @@ Inv-loop out₀ at working n layouts p₀ word₀ i₀ out p word i =
 abbrev μ-loop : tie.MeasureT-loop
 μ-loop out₀ at working n layouts p₀ word₀ i₀ out p word i = n - i
 
--- src/rows.rt:88:5
 loop-holds : tie.Need-loop-holds Inv-loop μ-loop
 loop-holds c = (search needs, search needs, refl, refl, rw sub-zero refl)
 
--- src/rows.rt:89:9
 put-box-requires : tie.Need-put-box-requires Inv-loop μ-loop
 put-box-requires c κs = search needs
 
--- src/rows.rt:90:9
 add-p : tie.Need-add-p Inv-loop μ-loop
 add-p c = search needs
 
--- src/rows.rt:91:9
 add-word : tie.Need-add-word Inv-loop μ-loop
 add-word c = search needs
 
--- src/rows.rt:92:9
 add-i : tie.Need-add-i Inv-loop μ-loop
 add-i c = search needs
 
--- src/rows.rt:88:5
 loop-less : tie.Need-loop-less Inv-loop μ-loop
 loop-less c = search needs
 
--- src/rows.rt:88:5
 loop-again : tie.Need-loop-again Inv-loop μ-loop
 loop-again c =
     let a = c .before .before .before .before .before .before .before .before .before .args in
@@ -59,11 +53,9 @@ loop-again c =
     let e = c .before .before .put-box .ensures in
     (search needs, search needs, search needs, rw (e, length-sets) (inv .3), inv .4 ∙ rw e (rows-stored (a .working .now) (a .layouts .now) (l .word) (l .i) (a .n) h (l .out) (l .p)))
 
--- src/rows.rt:81:1
 same-length : tie.Need-same-length Inv-loop μ-loop
 same-length c = search needs
 
--- src/rows.rt:81:1
 returns : tie.Need-returns Inv-loop μ-loop
 returns c =
     let a = c .before .before .before .before .before .args in

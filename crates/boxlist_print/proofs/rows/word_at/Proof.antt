@@ -1,3 +1,4 @@
+-- Generated skeleton (tools/proof/write-skeletons), answers by hand.
 use mathlib.Core.Path.{sym}
 use lib.ListN.{List·getD-eq-default}
 use borrow.Author.Needs.{needs}
@@ -6,19 +7,15 @@ use Rattle.boxlist_print.proofs.rows.word_at.Tie as tie
 use Rattle.boxlist_print.proofs.rows.word_at.Reads as reads
 use Rattle.boxlist_print.proofs.rows.word_at.Lts as lts
 
--- src/rows.rt:33:16
 mul-result : tie.Need-mul-result
 mul-result c = search needs
 
--- src/rows.rt:33:16
 shared-slice-read-result : tie.Need-shared-slice-read-result
 shared-slice-read-result c = search needs
 
--- src/rows.rt:33:9
 returns : tie.Need-returns
 returns c = search needs
 
--- src/rows.rt:29:1
 returns-2 : tie.Need-returns-2
 returns-2 c = sym (List·getD-eq-default (c .before .args .words .now) 0 {n = c .before .args .k} (c .if1 .left))
 

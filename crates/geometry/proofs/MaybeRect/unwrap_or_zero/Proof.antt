@@ -1,3 +1,4 @@
+-- Generated: tools/proof/write-skeletons, then tools/proof/list-facts --fill.
 -- `geometry::MaybeRect::unwrap_or_zero` meets its contract. Assumes nothing.
 use Rattle.geometry.specs.Geometry.{rectOrZero}
 use borrow.Author.Needs.{needs}

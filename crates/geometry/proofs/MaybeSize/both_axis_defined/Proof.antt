@@ -1,3 +1,4 @@
+-- Generated: tools/proof/write-skeletons, then tools/proof/list-facts --fill.
 -- `geometry::MaybeSize::both_axis_defined` meets its contract. Assumes nothing.
 use Rattle.geometry.specs.Geometry.{bothPresent}
 use borrow.Author.Needs.{needs}

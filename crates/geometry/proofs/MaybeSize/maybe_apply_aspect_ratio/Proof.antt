@@ -1,3 +1,4 @@
+-- Generated: tools/proof/write-skeletons, then tools/proof/list-facts --fill.
 -- `geometry::MaybeSize::maybe_apply_aspect_ratio` meets its contract. Assumes nothing.
 use Rattle.geometry.specs.Geometry.{withRatio, completed}
 use borrow.Author.Needs.{needs}

@@ -1,3 +1,4 @@
+-- Generated: tools/proof/write-skeletons, then tools/proof/list-facts --fill.
 -- `geometry::MaybeSize::or` meets its contract. Assumes nothing.
 use Rattle.geometry.specs.Geometry.{firstSize}
 use borrow.Author.Needs.{needs}

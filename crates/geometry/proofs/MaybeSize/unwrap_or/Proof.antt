@@ -1,3 +1,4 @@
+-- Generated: tools/proof/write-skeletons, then tools/proof/list-facts --fill.
 -- `geometry::MaybeSize::unwrap_or` meets its contract. Assumes nothing.
 use Rattle.geometry.specs.Geometry.{filledSize}
 use borrow.Author.Needs.{needs}

@@ -1,3 +1,4 @@
+-- Generated: tools/proof/write-skeletons, then tools/proof/list-facts --fill.
 -- `geometry::Rect::sum_axes` meets its contract. Assumes nothing.
 use Rattle.geometry.specs.Geometry.{sums, sumX, sumY}
 use mathlib.Core.Path.{refl}

@@ -1,3 +1,4 @@
+-- Generated: tools/proof/write-skeletons, then tools/proof/list-facts --fill.
 -- `geometry::Rect::vertical_axis_sum` meets its contract. Assumes nothing.
 use Rattle.geometry.specs.Geometry.{sumY}
 use mathlib.Core.Path.{refl}

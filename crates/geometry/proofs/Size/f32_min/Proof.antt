@@ -1,3 +1,4 @@
+-- Generated: tools/proof/write-skeletons, then tools/proof/list-facts --fill.
 -- `geometry::Size::f32_min` meets its contract. Assumes nothing.
 use Rattle.geometry.specs.Geometry.{smallerSize}
 use borrow.Author.Needs.{needs}

@@ -1,3 +1,4 @@
+-- Generated: tools/proof/write-skeletons, then tools/proof/list-facts --fill.
 -- `geometry::Size::some` meets its contract. Assumes nothing.
 use Rattle.geometry.specs.Geometry.{definite}
 use mathlib.Core.Path.{refl}

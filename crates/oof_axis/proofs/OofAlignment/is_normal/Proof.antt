@@ -1,3 +1,4 @@
+-- Generated: tools/proof/write-skeletons, then tools/proof/list-facts --fill.
 use Rattle.oof_axis.specs.Axis.{isNormal}
 use borrow.Author.Needs.{needs}
 use Rattle.oof_axis.proofs.OofAlignment.is_normal.Statement.{statement}
@@ -5,47 +6,37 @@ use Rattle.oof_axis.proofs.OofAlignment.is_normal.Tie as tie
 use Rattle.oof_axis.proofs.OofAlignment.is_normal.Reads as reads
 use Rattle.oof_axis.proofs.OofAlignment.is_normal.Lts as lts
 
--- src/lib.rt:163:37
 enum-told : tie.Need-enum-told
 enum-told c = search needs
 
--- src/lib.rt:164:38
 enum-told-2 : tie.Need-enum-told-2
 enum-told-2 c = search needs
 
--- src/lib.rt:165:36
 enum-told-3 : tie.Need-enum-told-3
 enum-told-3 c = search needs
 
--- src/lib.rt:166:37
 enum-told-4 : tie.Need-enum-told-4
 enum-told-4 c = search needs
 
--- src/lib.rt:167:34
 enum-told-5 : tie.Need-enum-told-5
 enum-told-5 c = search needs
 
--- src/lib.rt:159:5
 returns : tie.Need-returns
 unfolding isNormal
 returns c = simp (c .enum-told .given .1)
 
--- src/lib.rt:159:5
 returns-2 : tie.Need-returns-2
 unfolding isNormal
 returns-2 c = simp (c .enum-told2 .given .1)
 
--- src/lib.rt:159:5
 returns-3 : tie.Need-returns-3
 unfolding isNormal
 returns-3 c = simp (c .enum-told3 .given .1)
 
--- src/lib.rt:159:5
 returns-4 : tie.Need-returns-4
 unfolding isNormal
 returns-4 c = simp (c .enum-told4 .given .1)
 
--- src/lib.rt:159:5
 returns-5 : tie.Need-returns-5
 unfolding isNormal
 returns-5 c = simp (c .enum-told5 .given .1)

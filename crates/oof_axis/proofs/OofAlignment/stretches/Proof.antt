@@ -1,3 +1,4 @@
+-- Generated: tools/proof/write-skeletons, then tools/proof/list-facts --fill.
 use Rattle.oof_axis.specs.Axis.{stretching}
 use borrow.Author.Needs.{needs}
 use Rattle.oof_axis.proofs.OofAlignment.stretches.Statement.{statement}
@@ -5,47 +6,37 @@ use Rattle.oof_axis.proofs.OofAlignment.stretches.Tie as tie
 use Rattle.oof_axis.proofs.OofAlignment.stretches.Reads as reads
 use Rattle.oof_axis.proofs.OofAlignment.stretches.Lts as lts
 
--- src/lib.rt:151:37
 enum-told : tie.Need-enum-told
 enum-told c = search needs
 
--- src/lib.rt:152:38
 enum-told-2 : tie.Need-enum-told-2
 enum-told-2 c = search needs
 
--- src/lib.rt:153:36
 enum-told-3 : tie.Need-enum-told-3
 enum-told-3 c = search needs
 
--- src/lib.rt:154:37
 enum-told-4 : tie.Need-enum-told-4
 enum-told-4 c = search needs
 
--- src/lib.rt:155:34
 enum-told-5 : tie.Need-enum-told-5
 enum-told-5 c = search needs
 
--- src/lib.rt:147:5
 returns : tie.Need-returns
 unfolding stretching
 returns c = simp (c .enum-told .given .1)
 
--- src/lib.rt:147:5
 returns-2 : tie.Need-returns-2
 unfolding stretching
 returns-2 c = simp (c .enum-told2 .given .1)
 
--- src/lib.rt:147:5
 returns-3 : tie.Need-returns-3
 unfolding stretching
 returns-3 c = simp (c .enum-told3 .given .1)
 
--- src/lib.rt:147:5
 returns-4 : tie.Need-returns-4
 unfolding stretching
 returns-4 c = simp (c .enum-told4 .given .1)
 
--- src/lib.rt:147:5
 returns-5 : tie.Need-returns-5
 unfolding stretching
 returns-5 c = simp (c .enum-told5 .given .1)

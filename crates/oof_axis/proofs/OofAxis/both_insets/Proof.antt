@@ -1,3 +1,4 @@
+-- Generated: tools/proof/write-skeletons, then tools/proof/list-facts --fill.
 use Rattle.oof_axis.specs.Axis.{bothInsets}
 use borrow.Author.Needs.{needs}
 use Rattle.oof_axis.proofs.OofAxis.both_insets.Statement.{statement}
@@ -6,20 +7,16 @@ use Rattle.oof_axis.proofs.OofAxis.both_insets.Reads as reads
 use Rattle.oof_axis.proofs.OofAxis.both_insets.Lts as lts
 use Rattle.util.proofs.math.MaybeF32.is_some.Reads as is-some-reads
 
--- src/lib.rt:342:9
 is-some-requires : tie.Need-is-some-requires
 is-some-requires c κs = search needs
 
--- src/lib.rt:342:27
 is-some-requires-2 : tie.Need-is-some-requires-2
 is-some-requires-2 c κs = search needs
 
--- src/lib.rt:336:5
 returns : tie.Need-returns
 unfolding bothInsets
 returns c = simp (← c .before .before .is-some .ensures, c .before .if1 .taken, ← c .is-some2 .ensures)
 
--- src/lib.rt:336:5
 returns-2 : tie.Need-returns-2
 unfolding bothInsets
 returns-2 c = simp (← c .before .is-some .ensures, c .if1 .left)

@@ -1,3 +1,4 @@
+-- Generated: tools/proof/write-skeletons, then tools/proof/list-facts --fill.
 use Rattle.oof_axis.specs.Axis.{filledMargins}
 use borrow.Author.Needs.{needs}
 use Rattle.oof_axis.proofs.OofAxis.filled_margins.Statement.{statement}
@@ -6,50 +7,39 @@ use Rattle.oof_axis.proofs.OofAxis.filled_margins.Reads as reads
 use Rattle.oof_axis.proofs.OofAxis.filled_margins.Lts as lts
 use Rattle.oof_axis.proofs.OofAxis.halves.Reads as halves-reads
 
--- src/lib.rt:407:28
 enum-known-before : tie.Need-enum-known-before
 enum-known-before c = search needs
 
--- src/lib.rt:408:32
 enum-known-after : tie.Need-enum-known-after
 enum-known-after c = search needs
 
--- src/lib.rt:414:26
 enum-told : tie.Need-enum-told
 enum-told c = search needs
 
--- src/lib.rt:417:31
 enum-told-2 : tie.Need-enum-told-2
 enum-told-2 c = search needs
 
--- src/lib.rt:418:32
 enum-known-after-2 : tie.Need-enum-known-after-2
 enum-known-after-2 c = search needs
 
--- src/lib.rt:422:35
 enum-told-3 : tie.Need-enum-told-3
 enum-told-3 c = search needs
 
--- src/lib.rt:422:35
 halves-requires : tie.Need-halves-requires
 halves-requires c κs = search needs
 
--- src/lib.rt:400:5
 returns : tie.Need-returns
 unfolding filledMargins
 returns c = simp (c .before .before .before .before .before2 .given .1, c .before .after .given .1)
 
--- src/lib.rt:400:5
 returns-2 : tie.Need-returns-2
 unfolding filledMargins
 returns-2 c = simp (c .before .before .before .before2 .given .1, c .enum-told .given .1)
 
--- src/lib.rt:400:5
 returns-3 : tie.Need-returns-3
 unfolding filledMargins
 returns-3 c = simp (c .before .before .before .enum-told2 .given .1, c .before .after2 .given .1)
 
--- src/lib.rt:400:5
 returns-4 : tie.Need-returns-4
 unfolding filledMargins
 returns-4 c = simp (c .before .before .before .enum-told2 .given .1, c .before .enum-told3 .given .1, ← c .halves .ensures)

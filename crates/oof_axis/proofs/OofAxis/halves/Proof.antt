@@ -1,3 +1,4 @@
+-- Generated: tools/proof/write-skeletons, then tools/proof/list-facts --fill.
 use Rattle.oof_axis.specs.Axis.{halves}
 use borrow.Author.Needs.{needs}
 use Rattle.oof_axis.proofs.OofAxis.halves.Statement.{statement}
@@ -6,21 +7,17 @@ use Rattle.oof_axis.proofs.OofAxis.halves.Reads as reads
 use Rattle.oof_axis.proofs.OofAxis.halves.Lts as lts
 use Rattle.oof_axis.proofs.OofAxis.overflows_inline.Reads as overflows-inline-reads
 
--- src/lib.rt:387:12
 overflows-inline-requires : tie.Need-overflows-inline-requires
 overflows-inline-requires c κs = search needs
 
--- src/lib.rt:389:17
 returns : tie.Need-returns
 unfolding halves
 returns c = simp (← c .before .before .overflows-inline .ensures, c .before .if1 .taken, c .if2 .taken)
 
--- src/lib.rt:394:13
 returns-2 : tie.Need-returns-2
 unfolding halves
 returns-2 c = simp (← c .before .before .overflows-inline .ensures, c .before .if1 .taken, c .if2 .left)
 
--- src/lib.rt:383:5
 returns-3 : tie.Need-returns-3
 unfolding halves
 returns-3 c = simp (← c .before .overflows-inline .ensures, c .if1 .left)

@@ -1,3 +1,4 @@
+-- Generated: tools/proof/write-skeletons, then tools/proof/list-facts --fill.
 use Rattle.oof_axis.specs.Axis.{block}
 use borrow.Author.Needs.{needs}
 use Rattle.oof_axis.proofs.OofAxis.inset_modified_containing_block.Statement.{statement}
@@ -8,19 +9,15 @@ use Rattle.oof_axis.proofs.OofAxis.inset_block.Reads as inset-block-rea
 use Rattle.oof_axis.proofs.OofAxis.start_is_weaker.Reads as start-is-weaker-reads
 use Rattle.oof_axis.proofs.repaired.Reads as repaired-reads
 
--- src/lib.rt:313:13
 start-is-weaker-requires : tie.Need-start-is-weaker-requires
 start-is-weaker-requires c κs = search needs
 
--- src/lib.rt:314:13
 inset-block-requires : tie.Need-inset-block-requires
 inset-block-requires c κs = search needs
 
--- src/lib.rt:315:9
 repaired-requires : tie.Need-repaired-requires
 repaired-requires c κs = search needs
 
--- src/lib.rt:310:5
 returns : tie.Need-returns
 unfolding block
 returns c = simp (← c .before .before .start-is-weaker .ensures, ← c .before .inset-block .ensures, ← c .repaired .ensures)

@@ -1,3 +1,4 @@
+-- Generated: tools/proof/write-skeletons, then tools/proof/list-facts --fill.
 use borrow.Author.Needs.{needs}
 use Rattle.oof_axis.proofs.OofAxis.inset_modified_containing_block_size.Statement.{
   statement,
@@ -7,11 +8,9 @@ use Rattle.oof_axis.proofs.OofAxis.inset_modified_containing_block_size
 use Rattle.oof_axis.proofs.OofAxis.inset_modified_containing_block_size.Lts as lts
 use Rattle.oof_axis.proofs.OofAxis.inset_modified_containing_block.Reads as inset-modified-containing-block-reads
 
--- src/lib.rt:322:13
 inset-modified-containing-block-requires : tie.Need-inset-modified-containing-block-requires
 inset-modified-containing-block-requires c κs = search needs
 
--- src/lib.rt:319:5
 returns : tie.Need-returns
 returns c = simp (← c .before .inset-modified-containing-block .ensures)
 

@@ -1,3 +1,4 @@
+-- Generated: tools/proof/write-skeletons, then tools/proof/list-facts --fill.
 use Rattle.oof_axis.specs.Axis.{isStretch}
 use borrow.Author.Needs.{needs}
 use Rattle.oof_axis.proofs.OofAxis.is_stretch.Statement.{statement}
@@ -6,11 +7,9 @@ use Rattle.oof_axis.proofs.OofAxis.is_stretch.Reads as reads
 use Rattle.oof_axis.proofs.OofAxis.is_stretch.Lts as lts
 use Rattle.oof_axis.proofs.OofAlignment.stretches.Reads as stretches-reads
 
--- src/lib.rt:370:9
 stretches-requires : tie.Need-stretches-requires
 stretches-requires c κs = search needs
 
--- src/lib.rt:366:5
 returns : tie.Need-returns
 unfolding isStretch
 returns c = simp (← c .stretches .ensures)

@@ -1,3 +1,4 @@
+-- Generated: tools/proof/write-skeletons, then tools/proof/list-facts --fill.
 use Rattle.oof_axis.specs.Axis.{stretches}
 use borrow.Author.Needs.{needs}
 use Rattle.oof_axis.proofs.OofAxis.is_stretch_sized.Statement.{statement}
@@ -8,24 +9,19 @@ use Rattle.oof_axis.proofs.OofAlignment.stretches.Reads as stretches-re
 use Rattle.oof_axis.proofs.OofAxis.both_insets.Reads as both-insets-reads
 use Rattle.oof_axis.proofs.is_plain.Reads as is-plain-reads
 
--- src/lib.rt:361:9
 both-insets-requires : tie.Need-both-insets-requires
 both-insets-requires c κs = search needs
 
--- src/lib.rt:361:51
 is-plain-requires : tie.Need-is-plain-requires
 is-plain-requires c κs = search needs
 
--- src/lib.rt:361:31
 stretches-requires : tie.Need-stretches-requires
 stretches-requires c κs = search needs
 
--- src/lib.rt:357:5
 returns : tie.Need-returns
 unfolding stretches
 returns c = simp (← c .before .before .before .both-insets .ensures, c .before .before .if1 .taken, ← c .before .is-plain .ensures, ← c .stretches .ensures)
 
--- src/lib.rt:357:5
 returns-2 : tie.Need-returns-2
 unfolding stretches
 returns-2 c = simp (← c .before .both-insets .ensures, c .if1 .left)

@@ -1,3 +1,4 @@
+-- Generated: tools/proof/write-skeletons, then tools/proof/list-facts --fill.
 use Rattle.oof_axis.specs.Axis.{keptWithin}
 use borrow.Author.Needs.{needs}
 use Rattle.oof_axis.proofs.OofAxis.kept_within.Statement.{statement}
@@ -9,32 +10,25 @@ use Rattle.oof_axis.proofs.align_in_line.Reads as align-in-line-reads
 use Rattle.util.proofs.sys.f32_max.Reads as f32-max-reads
 use Rattle.util.proofs.sys.f32_min.Reads as f32-min-reads
 
--- src/lib.rt:475:17
 align-in-line-requires : tie.Need-align-in-line-requires
 align-in-line-requires c κs = search needs
 
--- src/lib.rt:476:33
 f32-min-requires : tie.Need-f32-min-requires
 f32-min-requires c κs = search needs
 
--- src/lib.rt:476:13
 f32-max-requires : tie.Need-f32-max-requires
 f32-max-requires c κs = search needs
 
--- src/lib.rt:476:13
 returns : tie.Need-returns
 unfolding keptWithin
 returns c = simp (c .before .before .before .before .if1 .taken, ← c .before .before .before .align-in-line .ensures, ← c .before .f32-min .ensures, ← c .f32-max .ensures)
 
--- src/lib.rt:478:37
 start-edge-requires : tie.Need-start-edge-requires
 start-edge-requires c κs = search needs
 
--- src/lib.rt:478:9
 align-in-line-requires-2 : tie.Need-align-in-line-requires-2
 align-in-line-requires-2 c κs = search needs
 
--- src/lib.rt:471:5
 returns-2 : tie.Need-returns-2
 unfolding keptWithin
 returns-2 c = simp (c .before .before .if1 .left, ← c .before .start-edge .ensures, ← c .align-in-line2 .ensures)

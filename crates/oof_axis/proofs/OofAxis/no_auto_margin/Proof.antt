@@ -1,3 +1,4 @@
+-- Generated: tools/proof/write-skeletons, then tools/proof/list-facts --fill.
 use borrow.Author.Needs.{needs}
 use Rattle.oof_axis.proofs.OofAxis.no_auto_margin.Statement.{statement}
 use Rattle.oof_axis.proofs.OofAxis.no_auto_margin.Tie as tie
@@ -5,19 +6,15 @@ use Rattle.oof_axis.proofs.OofAxis.no_auto_margin.Reads as reads
 use Rattle.oof_axis.proofs.OofAxis.no_auto_margin.Lts as lts
 use Rattle.util.proofs.math.MaybeF32.is_some.Reads as is-some-reads
 
--- src/lib.rt:539:9
 is-some-requires : tie.Need-is-some-requires
 is-some-requires c κs = search needs
 
--- src/lib.rt:539:29
 is-some-requires-2 : tie.Need-is-some-requires-2
 is-some-requires-2 c κs = search needs
 
--- src/lib.rt:533:5
 returns : tie.Need-returns
 returns c = simp (← c .before .before .is-some .ensures, c .before .if1 .taken, ← c .is-some2 .ensures)
 
--- src/lib.rt:533:5
 returns-2 : tie.Need-returns-2
 returns-2 c = simp (← c .before .is-some .ensures, c .if1 .left)
 

@@ -1,3 +1,4 @@
+-- Generated skeleton (tools/proof/write-skeletons), answers by hand.
 use Rattle.oof_axis.proofs.Infinity.{plus-inf, minus-inf}
 use Rattle.oof_axis.specs.Axis.{limit}
 use borrow.Author.Needs.{needs}
@@ -8,25 +9,20 @@ use Rattle.oof_axis.proofs.OofAxis.overflow_limit.Lts as lts
 use Rattle.util.proofs.sys.f32_max.Reads as f32-max-reads
 use Rattle.util.proofs.sys.f32_min.Reads as f32-min-reads
 
--- src/lib.rt:456:13
 f32-min-requires : tie.Need-f32-min-requires
 f32-min-requires c κs = search needs
 
--- src/lib.rt:457:13
 f32-max-requires : tie.Need-f32-max-requires
 f32-max-requires c κs = search needs
 
--- src/lib.rt:461:17
 returns : tie.Need-returns
 unfolding limit
 returns c = simp (← c .before .before .before .f32-min .ensures, ← c .before .before .f32-max .ensures, c .before .if1 .taken, c .if2 .taken, minus-inf)
 
--- src/lib.rt:466:13
 returns-2 : tie.Need-returns-2
 unfolding limit
 returns-2 c = simp (← c .before .before .before .f32-min .ensures, ← c .before .before .f32-max .ensures, c .before .if1 .taken, c .if2 .left, plus-inf)
 
--- src/lib.rt:453:5
 returns-3 : tie.Need-returns-3
 unfolding limit
 returns-3 c = simp (← c .before .before .f32-min .ensures, ← c .before .f32-max .ensures, c .if1 .left)

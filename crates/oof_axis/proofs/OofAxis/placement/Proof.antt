@@ -1,3 +1,4 @@
+-- Generated: tools/proof/write-skeletons, then tools/proof/list-facts --fill.
 use Rattle.oof_axis.specs.Axis.{placement}
 use borrow.Author.Needs.{needs}
 use Rattle.oof_axis.proofs.OofAxis.placement.Statement.{statement}
@@ -7,15 +8,12 @@ use Rattle.oof_axis.proofs.OofAxis.placement.Lts as lts
 use Rattle.oof_axis.proofs.OofAxis.position.Reads as position-reads
 use Rattle.oof_axis.proofs.OofAxis.resolve_margins.Reads as resolve-margins-reads
 
--- src/lib.rt:573:13
 resolve-margins-requires : tie.Need-resolve-margins-requires
 resolve-margins-requires c κs = search needs
 
--- src/lib.rt:575:23
 position-requires : tie.Need-position-requires
 position-requires c κs = search needs
 
--- src/lib.rt:570:5
 returns : tie.Need-returns
 unfolding placement
 returns c = simp (← c .before .resolve-margins .ensures, ← c .position .ensures)

@@ -1,3 +1,4 @@
+-- Generated: tools/proof/write-skeletons, then tools/proof/list-facts --fill.
 use Rattle.oof_axis.specs.Axis.{selfAligned}
 use borrow.Author.Needs.{needs}
 use Rattle.oof_axis.proofs.OofAxis.self_aligned.Statement.{statement}
@@ -10,80 +11,62 @@ use Rattle.oof_axis.proofs.OofAxis.overflow_limit.Reads as overflow-lim
 use Rattle.oof_axis.proofs.OofAxis.start_edge.Reads as start-edge-reads
 use Rattle.oof_axis.proofs.align_in_line.Reads as align-in-line-reads
 
--- src/lib.rt:494:13
 start-edge-requires : tie.Need-start-edge-requires
 start-edge-requires c κs = search needs
 
--- src/lib.rt:496:40
 enum-told : tie.Need-enum-told
 enum-told c = search needs
 
--- src/lib.rt:496:40
 align-in-line-requires : tie.Need-align-in-line-requires
 align-in-line-requires c κs = search needs
 
--- src/lib.rt:498:28
 enum-told-2 : tie.Need-enum-told-2
 enum-told-2 c = search needs
 
--- src/lib.rt:499:21
 align-in-line-requires-2 : tie.Need-align-in-line-requires-2
 align-in-line-requires-2 c κs = search needs
 
--- src/lib.rt:499:21
 returns : tie.Need-returns
 unfolding selfAligned
 returns c = simp (← c .before .before .before .before .before .start-edge .ensures, c .before .before .before .enum-told2 .given .1, c .before .if1 .taken, ← c .align-in-line2 .ensures)
 
--- src/lib.rt:501:17
 align-in-line-requires-3 : tie.Need-align-in-line-requires-3
 align-in-line-requires-3 c κs = search needs
 
--- src/lib.rt:504:29
 enum-told-3 : tie.Need-enum-told-3
 enum-told-3 c = search needs
 
--- src/lib.rt:505:21
 align-in-line-requires-4 : tie.Need-align-in-line-requires-4
 align-in-line-requires-4 c κs = search needs
 
--- src/lib.rt:505:21
 returns-2 : tie.Need-returns-2
 unfolding selfAligned
 returns-2 c = simp (← c .before .before .before .before .before .start-edge .ensures, c .before .before .before .enum-told3 .given .1, c .before .if2 .taken, ← c .align-in-line4 .ensures)
 
--- src/lib.rt:507:20
 is-normal-requires : tie.Need-is-normal-requires
 is-normal-requires c κs = search needs
 
--- src/lib.rt:508:21
 align-in-line-requires-5 : tie.Need-align-in-line-requires-5
 align-in-line-requires-5 c κs = search needs
 
--- src/lib.rt:508:21
 returns-3 : tie.Need-returns-3
 unfolding selfAligned
 returns-3 c = simp (← c .before .before .before .before .before .before .before .start-edge .ensures, c .before .before .before .before .before .enum-told3 .given .1, c .before .before .before .if2 .left, ← c .before .before .is-normal .ensures, c .before .if3 .taken, ← c .align-in-line5 .ensures)
 
--- src/lib.rt:510:21
 overflow-limit-requires : tie.Need-overflow-limit-requires
 overflow-limit-requires c κs = search needs
 
--- src/lib.rt:511:17
 kept-within-requires : tie.Need-kept-within-requires
 kept-within-requires c κs = search needs
 
--- src/lib.rt:489:5
 returns-4 : tie.Need-returns-4
 unfolding selfAligned
 returns-4 c = simp (← c .before .before .before .start-edge .ensures, c .before .enum-told .given .1, ← c .align-in-line .ensures)
 
--- src/lib.rt:489:5
 returns-5 : tie.Need-returns-5
 unfolding selfAligned
 returns-5 c = simp (← c .before .before .before .before .before .start-edge .ensures, c .before .before .before .enum-told2 .given .1, c .before .if1 .left, ← c .align-in-line3 .ensures)
 
--- src/lib.rt:489:5
 returns-6 : tie.Need-returns-6
 unfolding selfAligned
 returns-6 c = simp (← c .before .before .before .before .before .before .before .before .start-edge .ensures, c .before .before .before .before .before .before .enum-told3 .given .1, c .before .before .before .before .if2 .left, ← c .before .before .before .is-normal .ensures, c .before .before .if3 .left, ← c .before .overflow-limit .ensures, ← c .kept-within .ensures)

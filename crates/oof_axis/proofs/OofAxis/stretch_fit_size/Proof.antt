@@ -1,3 +1,4 @@
+-- Generated: tools/proof/write-skeletons, then tools/proof/list-facts --fill.
 use Rattle.oof_axis.specs.Axis.{stretchFit}
 use borrow.Author.Needs.{needs}
 use Rattle.oof_axis.proofs.OofAxis.stretch_fit_size.Statement.{statement}
@@ -8,24 +9,19 @@ use Rattle.oof_axis.proofs.OofAxis.inset_modified_containing_block_size
 use Rattle.util.proofs.math.MaybeF32.unwrap_or.Reads as unwrap-or-reads
 use Rattle.util.proofs.sys.f32_max.Reads as f32-max-reads
 
--- src/lib.rt:347:23
 unwrap-or-requires : tie.Need-unwrap-or-requires
 unwrap-or-requires c κs = search needs
 
--- src/lib.rt:347:47
 unwrap-or-requires-2 : tie.Need-unwrap-or-requires-2
 unwrap-or-requires-2 c κs = search needs
 
--- src/lib.rt:348:22
 inset-modified-containing-block-size-requires :
     tie.Need-inset-modified-containing-block-size-requires
 inset-modified-containing-block-size-requires c κs = search needs
 
--- src/lib.rt:348:9
 f32-max-requires : tie.Need-f32-max-requires
 f32-max-requires c κs = search needs
 
--- src/lib.rt:341:5
 returns : tie.Need-returns
 unfolding stretchFit
 returns c = simp (← c .before .before .before .unwrap-or .ensures, ← c .before .before .unwrap-or2 .ensures, ← c .before .inset-modified-containing-block-size .ensures, ← c .f32-max .ensures)

@@ -1,3 +1,4 @@
+-- Generated: tools/proof/write-skeletons, then tools/proof/list-facts --fill.
 use Rattle.oof_box.specs.Cut.{askedOf}
 use borrow.Author.Needs.{needs}
 use Rattle.oof_box.proofs.dialogue.asked_of.Statement.{statement}
@@ -9,45 +10,35 @@ use Rattle.oof_box.proofs.dialogue.keyword_asked.Reads as keyword-asked
 use Rattle.oof_box.proofs.dialogue.size_asked.Reads as size-asked-reads
 use Rattle.oof_box.proofs.sizing.keyword_stretch.Reads as keyword-stretch-reads
 
--- src/dialogue.rt:241:8
 is-first-requires : tie.Need-is-first-requires
 is-first-requires c κs = search needs
 
--- src/dialogue.rt:242:52
 keyword-stretch-requires : tie.Need-keyword-stretch-requires
 keyword-stretch-requires c κs = search needs
 
--- src/dialogue.rt:242:15
 keyword-asked-requires : tie.Need-keyword-asked-requires
 keyword-asked-requires c κs = search needs
 
--- src/dialogue.rt:243:34
 enum-known-asked : tie.Need-enum-known-asked
 enum-known-asked c = search needs
 
--- src/dialogue.rt:244:17
 returns : tie.Need-returns
 unfolding askedOf
 returns c = simp (← c .before .before .before .before .before .before .is-first .ensures, c .before .before .before .before .before .if1 .taken, ← c .before .before .before .before .keyword-stretch .ensures, ← c .before .before .before .keyword-asked .ensures, c .before .asked .given .1)
 
--- src/dialogue.rt:247:17
 enum-told : tie.Need-enum-told
 enum-told c = search needs
 
--- src/dialogue.rt:247:17
 size-asked-requires : tie.Need-size-asked-requires
 size-asked-requires c κs = search needs
 
--- src/dialogue.rt:247:17
 returns-2 : tie.Need-returns-2
 unfolding askedOf
 returns-2 c = simp (← c .before .before .before .before .before .before .is-first .ensures, c .before .before .before .before .before .if1 .taken, ← c .before .before .before .before .keyword-stretch .ensures, ← c .before .before .before .keyword-asked .ensures, c .before .enum-told .given .1, ← c .size-asked .ensures)
 
--- src/dialogue.rt:251:5
 size-asked-requires-2 : tie.Need-size-asked-requires-2
 size-asked-requires-2 c κs = search needs
 
--- src/dialogue.rt:229:1
 returns-3 : tie.Need-returns-3
 unfolding askedOf
 returns-3 c = simp (← c .before .before .is-first .ensures, c .before .if1 .left, ← c .size-asked2 .ensures)

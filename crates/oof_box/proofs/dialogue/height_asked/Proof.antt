@@ -1,3 +1,4 @@
+-- Generated: tools/proof/write-skeletons, then tools/proof/list-facts --fill.
 use borrow.Author.Needs.{needs}
 use Rattle.oof_box.proofs.dialogue.height_asked.Statement.{statement}
 use Rattle.oof_box.proofs.dialogue.height_asked.Tie as tie
@@ -5,11 +6,9 @@ use Rattle.oof_box.proofs.dialogue.height_asked.Reads as reads
 use Rattle.oof_box.proofs.dialogue.height_asked.Lts as lts
 use Rattle.util.proofs.math.MaybeF32.unwrap_or.Reads as unwrap-or-reads
 
--- src/dialogue.rt:91:43
 unwrap-or-requires : tie.Need-unwrap-or-requires
 unwrap-or-requires c κs = search needs
 
--- src/dialogue.rt:81:1
 returns : tie.Need-returns
 returns c = simp (← c .unwrap-or .ensures)
 

@@ -1,3 +1,4 @@
+-- Generated: tools/proof/write-skeletons, then tools/proof/list-facts --fill.
 use borrow.Author.Needs.{needs}
 use Rattle.oof_box.proofs.dialogue.is_sized.Statement.{statement}
 use Rattle.oof_box.proofs.dialogue.is_sized.Tie as tie
@@ -6,19 +7,15 @@ use Rattle.oof_box.proofs.dialogue.is_sized.Lts as lts
 use Rattle.geometry.proofs.MaybeSize.both_axis_defined.Reads as both-axis-defined-reads
 use Rattle.oof_box.proofs.dialogue.is_filled.Reads as is-filled-reads
 
--- src/dialogue.rt:190:5
 is-filled-requires : tie.Need-is-filled-requires
 is-filled-requires c κs = search needs
 
--- src/dialogue.rt:190:25
 both-axis-defined-requires : tie.Need-both-axis-defined-requires
 both-axis-defined-requires c κs = search needs
 
--- src/dialogue.rt:187:1
 returns : tie.Need-returns
 returns c = search needs
 
--- src/dialogue.rt:187:1
 returns-2 : tie.Need-returns-2
 returns-2 c = simp (← c .before .before .is-filled .ensures, c .before .if1 .left, ← c .both-axis-defined .ensures)
 

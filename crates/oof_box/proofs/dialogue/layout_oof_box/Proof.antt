@@ -1,3 +1,4 @@
+-- Generated: tools/proof/write-skeletons, then tools/proof/list-facts --fill.
 use Rattle.oof_box.specs.Cut.{layoutAfter}
 use borrow.Author.Needs.{needs}
 use Rattle.oof_box.proofs.dialogue.layout_oof_box.Statement.{statement}
@@ -9,23 +10,18 @@ use Rattle.oof_box.proofs.sizing.final_size.Reads as final-size-reads
 use Rattle.oof_box.proofs.sizing.size_keywords.Reads as size-keywords-reads
 use Rattle.oof_resolve.proofs.resolve_box.Reads as resolve-box-reads
 
--- src/dialogue.rt:278:9
 resolve-box-requires : tie.Need-resolve-box-requires
 resolve-box-requires c κs = search needs
 
--- src/dialogue.rt:279:9
 size-keywords-requires : tie.Need-size-keywords-requires
 size-keywords-requires c κs = search needs
 
--- src/dialogue.rt:280:9
 final-size-requires : tie.Need-final-size-requires
 final-size-requires c κs = search needs
 
--- src/dialogue.rt:281:5
 place-requires : tie.Need-place-requires
 place-requires c κs = search needs
 
--- src/dialogue.rt:269:1
 returns : tie.Need-returns
 unfolding layoutAfter
 returns c = simp (← c .before .before .before .resolve-box .ensures, ← c .before .before .size-keywords .ensures, ← c .before .final-size .ensures, ← c .place .ensures)

@@ -1,3 +1,4 @@
+-- Generated: tools/proof/write-skeletons, then tools/proof/list-facts --fill.
 use Rattle.oof_box.specs.Cut.{askedAfter}
 use borrow.Author.Needs.{needs}
 use Rattle.oof_box.proofs.dialogue.next_question.Statement.{statement}
@@ -8,19 +9,15 @@ use Rattle.oof_box.proofs.dialogue.asked_of.Reads as asked-of-reads
 use Rattle.oof_box.proofs.sizing.size_keywords.Reads as size-keywords-reads
 use Rattle.oof_resolve.proofs.resolve_box.Reads as resolve-box-reads
 
--- src/dialogue.rt:263:9
 resolve-box-requires : tie.Need-resolve-box-requires
 resolve-box-requires c κs = search needs
 
--- src/dialogue.rt:264:9
 size-keywords-requires : tie.Need-size-keywords-requires
 size-keywords-requires c κs = search needs
 
--- src/dialogue.rt:265:5
 asked-of-requires : tie.Need-asked-of-requires
 asked-of-requires c κs = search needs
 
--- src/dialogue.rt:255:1
 returns : tie.Need-returns
 unfolding askedAfter
 returns c = simp (← c .before .before .resolve-box .ensures, ← c .before .size-keywords .ensures, ← c .asked-of .ensures)

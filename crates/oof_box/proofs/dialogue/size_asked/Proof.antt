@@ -1,3 +1,4 @@
+-- Generated: tools/proof/write-skeletons, then tools/proof/list-facts --fill.
 use Rattle.oof_box.specs.Cut.{sizeAsked}
 use borrow.Author.Needs.{needs}
 use Rattle.oof_box.proofs.dialogue.size_asked.Statement.{statement}
@@ -10,32 +11,25 @@ use Rattle.oof_box.proofs.dialogue.lay_out_asked.Reads as lay-out-asked
 use Rattle.oof_box.proofs.sizing.fill.Reads as fill-reads
 use Rattle.oof_box.proofs.sizing.stretched_by.Reads as stretched-by-reads
 
--- src/dialogue.rt:205:9
 stretched-by-requires : tie.Need-stretched-by-requires
 stretched-by-requires c κs = search needs
 
--- src/dialogue.rt:207:8
 is-sized-requires : tie.Need-is-sized-requires
 is-sized-requires c κs = search needs
 
--- src/dialogue.rt:208:36
 fill-requires : tie.Need-fill-requires
 fill-requires c κs = search needs
 
--- src/dialogue.rt:208:9
 lay-out-asked-requires : tie.Need-lay-out-asked-requires
 lay-out-asked-requires c κs = search needs
 
--- src/dialogue.rt:208:9
 returns : tie.Need-returns
 unfolding sizeAsked
 returns c = simp (← c .before .before .before .before .before .stretched-by .ensures, ← c .before .before .before .is-sized .ensures, c .before .before .if1 .taken, ← c .before .fill .ensures, ← c .lay-out-asked .ensures)
 
--- src/dialogue.rt:210:5
 fill-asked-requires : tie.Need-fill-asked-requires
 fill-asked-requires c κs = search needs
 
--- src/dialogue.rt:194:1
 returns-2 : tie.Need-returns-2
 unfolding sizeAsked
 returns-2 c = simp (← c .before .before .before .before .stretched-by .ensures, ← c .before .before .is-sized .ensures, c .before .if1 .left, ← c .fill-asked .ensures)

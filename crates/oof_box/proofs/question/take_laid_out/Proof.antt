@@ -1,46 +1,37 @@
+-- Generated: tools/proof/write-skeletons, then tools/proof/list-facts --fill.
 use borrow.Author.Needs.{needs}
 use Rattle.oof_box.proofs.question.take_laid_out.Statement.{statement}
 use Rattle.oof_box.proofs.question.take_laid_out.Tie as tie
 use Rattle.oof_box.proofs.question.take_laid_out.Reads as reads
 use Rattle.oof_box.proofs.question.take_laid_out.Lts as lts
 
--- src/question.rt:160:31
 enum-told : tie.Need-enum-told
 enum-told c = search needs
 
--- src/question.rt:161:32
 enum-told-2 : tie.Need-enum-told-2
 enum-told-2 c = search needs
 
--- src/question.rt:162:33
 enum-told-3 : tie.Need-enum-told-3
 enum-told-3 c = search needs
 
--- src/question.rt:163:24
 enum-told-4 : tie.Need-enum-told-4
 enum-told-4 c = search needs
 
--- src/question.rt:164:26
 enum-told-5 : tie.Need-enum-told-5
 enum-told-5 c = search needs
 
--- src/question.rt:156:1
 returns : tie.Need-returns
 returns c = search needs
 
--- src/question.rt:156:1
 returns-2 : tie.Need-returns-2
 returns-2 c = search needs
 
--- src/question.rt:156:1
 returns-3 : tie.Need-returns-3
 returns-3 c = search needs
 
--- src/question.rt:156:1
 returns-4 : tie.Need-returns-4
 returns-4 c = search needs
 
--- src/question.rt:156:1
 returns-5 : tie.Need-returns-5
 returns-5 c = simp (c .enum-told5 .given .1)
 

@@ -1,3 +1,4 @@
+-- Generated: tools/proof/write-skeletons, then tools/proof/list-facts --fill.
 use borrow.Author.Needs.{needs}
 use Rattle.oof_box.proofs.sizing.both_stretch.Statement.{statement}
 use Rattle.oof_box.proofs.sizing.both_stretch.Tie as tie
@@ -5,19 +6,15 @@ use Rattle.oof_box.proofs.sizing.both_stretch.Reads as reads
 use Rattle.oof_box.proofs.sizing.both_stretch.Lts as lts
 use Rattle.oof_axis.proofs.OofAxis.is_stretch.Reads as is-stretch-reads
 
--- src/sizing.rt:161:5
 is-stretch-requires : tie.Need-is-stretch-requires
 is-stretch-requires c κs = search needs
 
--- src/sizing.rt:161:32
 is-stretch-requires-2 : tie.Need-is-stretch-requires-2
 is-stretch-requires-2 c κs = search needs
 
--- src/sizing.rt:156:1
 returns : tie.Need-returns
 returns c = simp (← c .before .before .is-stretch .ensures, c .before .if1 .taken, ← c .is-stretch2 .ensures)
 
--- src/sizing.rt:156:1
 returns-2 : tie.Need-returns-2
 returns-2 c = simp (← c .before .is-stretch .ensures, c .if1 .left)
 

@@ -1,3 +1,4 @@
+-- Generated: tools/proof/write-skeletons, then tools/proof/list-facts --fill.
 use Rattle.oof_box.specs.Box.{finalSize}
 use borrow.Author.Needs.{needs}
 use Rattle.oof_box.proofs.sizing.fill.Statement.{statement}
@@ -8,19 +9,15 @@ use Rattle.geometry.proofs.MaybeSize.unwrap_or.Reads as unwrap-or-reads
 use Rattle.geometry.proofs.Size.maybe_clamp.Reads as maybe-clamp-reads
 use Rattle.oof_box.proofs.sizing.measured_size.Reads as measured-size-reads
 
--- src/sizing.rt:294:21
 measured-size-requires : tie.Need-measured-size-requires
 measured-size-requires c κs = search needs
 
--- src/sizing.rt:294:5
 unwrap-or-requires : tie.Need-unwrap-or-requires
 unwrap-or-requires c κs = search needs
 
--- src/sizing.rt:294:5
 maybe-clamp-requires : tie.Need-maybe-clamp-requires
 maybe-clamp-requires c κs = search needs
 
--- src/sizing.rt:288:1
 returns : tie.Need-returns
 unfolding finalSize
 returns c = simp (← c .before .before .measured-size .ensures, ← c .before .unwrap-or .ensures, ← c .maybe-clamp .ensures)

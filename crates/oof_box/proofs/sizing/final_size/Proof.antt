@@ -1,3 +1,4 @@
+-- Generated: tools/proof/write-skeletons, then tools/proof/list-facts --fill.
 use Rattle.oof_box.specs.Cut.{sizeBy}
 use borrow.Author.Needs.{needs}
 use Rattle.oof_box.proofs.sizing.final_size.Statement.{statement}
@@ -7,15 +8,12 @@ use Rattle.oof_box.proofs.sizing.final_size.Lts as lts
 use Rattle.oof_box.proofs.sizing.fill.Reads as fill-reads
 use Rattle.oof_box.proofs.sizing.stretched_by.Reads as stretched-by-reads
 
--- src/sizing.rt:307:9
 stretched-by-requires : tie.Need-stretched-by-requires
 stretched-by-requires c κs = search needs
 
--- src/sizing.rt:308:5
 fill-requires : tie.Need-fill-requires
 fill-requires c κs = search needs
 
--- src/sizing.rt:298:1
 returns : tie.Need-returns
 unfolding sizeBy
 returns c = simp (← c .before .stretched-by .ensures, ← c .fill .ensures)

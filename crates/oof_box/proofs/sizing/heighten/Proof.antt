@@ -1,3 +1,4 @@
+-- Generated: tools/proof/write-skeletons, then tools/proof/list-facts --fill.
 use Rattle.oof_box.specs.Box.{heightened}
 use borrow.Author.Needs.{needs}
 use Rattle.oof_box.proofs.sizing.heighten.Statement.{statement}
@@ -7,20 +8,16 @@ use Rattle.oof_box.proofs.sizing.heighten.Lts as lts
 use Rattle.oof_box.proofs.sizing.is_still_absent.Reads as is-still-absent-reads
 use Rattle.oof_box.proofs.sizing.settle.Reads as settle-reads
 
--- src/sizing.rt:207:8
 is-still-absent-requires : tie.Need-is-still-absent-requires
 is-still-absent-requires c κs = search needs
 
--- src/sizing.rt:212:9
 settle-requires : tie.Need-settle-requires
 settle-requires c κs = search needs
 
--- src/sizing.rt:212:9
 returns : tie.Need-returns
 unfolding heightened
 returns c = simp (← c .before .before .is-still-absent .ensures, c .before .if1 .taken, ← c .settle .ensures)
 
--- src/sizing.rt:202:1
 returns-2 : tie.Need-returns-2
 unfolding heightened
 returns-2 c = simp (← c .before .is-still-absent .ensures, c .if1 .left)

@@ -1,3 +1,4 @@
+-- Generated: tools/proof/write-skeletons, then tools/proof/list-facts --fill.
 use Rattle.oof_box.specs.Box.{ignoresRatio}
 use borrow.Author.Needs.{needs}
 use Rattle.oof_box.proofs.sizing.ignores_ratio.Statement.{statement}
@@ -6,21 +7,17 @@ use Rattle.oof_box.proofs.sizing.ignores_ratio.Reads as reads
 use Rattle.oof_box.proofs.sizing.ignores_ratio.Lts as lts
 use Rattle.oof_box.proofs.sizing.both_stretch.Reads as both-stretch-reads
 
--- src/sizing.rt:168:24
 both-stretch-requires : tie.Need-both-stretch-requires
 both-stretch-requires c κs = search needs
 
--- src/sizing.rt:168:9
 returns : tie.Need-returns
 unfolding ignoresRatio
 returns c = simp (c .before .before .if1 .taken, c .before .if2 .taken, ← c .both-stretch .ensures)
 
--- src/sizing.rt:168:9
 returns-2 : tie.Need-returns-2
 unfolding ignoresRatio
 returns-2 c = simp (c .before .if1 .taken, c .if2 .left)
 
--- src/sizing.rt:164:1
 returns-3 : tie.Need-returns-3
 unfolding ignoresRatio
 returns-3 c = simp (c .if1 .left)

@@ -1,3 +1,4 @@
+-- Generated: tools/proof/write-skeletons, then tools/proof/list-facts --fill.
 use borrow.Author.Needs.{needs}
 use Rattle.oof_box.proofs.sizing.is_still_absent.Statement.{statement}
 use Rattle.oof_box.proofs.sizing.is_still_absent.Tie as tie
@@ -5,15 +6,12 @@ use Rattle.oof_box.proofs.sizing.is_still_absent.Reads as reads
 use Rattle.oof_box.proofs.sizing.is_still_absent.Lts as lts
 use Rattle.util.proofs.math.MaybeF32.is_none.Reads as is-none-reads
 
--- src/sizing.rt:198:13
 is-none-requires : tie.Need-is-none-requires
 is-none-requires c κs = search needs
 
--- src/sizing.rt:195:1
 returns : tie.Need-returns
 returns c = simp (c .before .if1 .taken, ← c .is-none .ensures)
 
--- src/sizing.rt:195:1
 returns-2 : tie.Need-returns-2
 returns-2 c = search needs
 

@@ -1,3 +1,4 @@
+-- Generated: tools/proof/write-skeletons, then tools/proof/list-facts --fill.
 use Rattle.oof_box.specs.Box.{keywordStretch}
 use borrow.Author.Needs.{needs}
 use Rattle.oof_box.proofs.sizing.keyword_stretch.Statement.{statement}
@@ -6,15 +7,12 @@ use Rattle.oof_box.proofs.sizing.keyword_stretch.Reads as reads
 use Rattle.oof_box.proofs.sizing.keyword_stretch.Lts as lts
 use Rattle.oof_common.proofs.sizing_keyword.absolute_stretch_size.Reads as absolute-stretch-size-reads
 
--- src/sizing.rt:41:16
 absolute-stretch-size-requires : tie.Need-absolute-stretch-size-requires
 absolute-stretch-size-requires c κs = search needs
 
--- src/sizing.rt:42:17
 absolute-stretch-size-requires-2 : tie.Need-absolute-stretch-size-requires-2
 absolute-stretch-size-requires-2 c κs = search needs
 
--- src/sizing.rt:31:1
 returns : tie.Need-returns
 unfolding keywordStretch
 returns c = simp (← c .before .absolute-stretch-size .ensures, ← c .absolute-stretch-size2 .ensures)

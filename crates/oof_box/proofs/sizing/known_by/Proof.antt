@@ -1,3 +1,4 @@
+-- Generated: tools/proof/write-skeletons, then tools/proof/list-facts --fill.
 use Rattle.oof_box.specs.Cut.{knownBy}
 use borrow.Author.Needs.{needs}
 use Rattle.oof_box.proofs.sizing.known_by.Statement.{statement}
@@ -10,36 +11,28 @@ use Rattle.oof_box.proofs.sizing.measured_width.Reads as measured-width
 use Rattle.oof_box.proofs.sizing.settle.Reads as settle-reads
 use Rattle.oof_box.proofs.sizing.side_by.Reads as side-by-reads
 
--- src/sizing.rt:136:8
 has-keyword-requires : tie.Need-has-keyword-requires
 has-keyword-requires c κs = search needs
 
--- src/sizing.rt:138:48
 measured-width-requires : tie.Need-measured-width-requires
 measured-width-requires c κs = search needs
 
--- src/sizing.rt:138:20
 side-by-requires : tie.Need-side-by-requires
 side-by-requires c κs = search needs
 
--- src/sizing.rt:139:51
 measured-height-requires : tie.Need-measured-height-requires
 measured-height-requires c κs = search needs
 
--- src/sizing.rt:139:21
 side-by-requires-2 : tie.Need-side-by-requires-2
 side-by-requires-2 c κs = search needs
 
--- src/sizing.rt:141:9
 settle-requires : tie.Need-settle-requires
 settle-requires c κs = search needs
 
--- src/sizing.rt:141:9
 returns : tie.Need-returns
 unfolding knownBy
 returns c = simp (← c .before .before .before .before .before .before .has-keyword .ensures, c .before .before .before .before .before .if1 .taken, ← c .before .before .before .before .measured-width .ensures, ← c .before .before .before .side-by .ensures, ← c .before .before .measured-height .ensures, ← c .before .side-by2 .ensures, ← c .settle .ensures)
 
--- src/sizing.rt:122:1
 returns-2 : tie.Need-returns-2
 unfolding knownBy
 returns-2 c = simp (← c .before .has-keyword .ensures, c .if1 .left)

@@ -1,38 +1,31 @@
+-- Generated: tools/proof/write-skeletons, then tools/proof/list-facts --fill.
 use borrow.Author.Needs.{needs}
 use Rattle.oof_box.proofs.sizing.measured_width.Statement.{statement}
 use Rattle.oof_box.proofs.sizing.measured_width.Tie as tie
 use Rattle.oof_box.proofs.sizing.measured_width.Reads as reads
 use Rattle.oof_box.proofs.sizing.measured_width.Lts as lts
 
--- src/sizing.rt:64:31
 enum-told : tie.Need-enum-told
 enum-told c = search needs
 
--- src/sizing.rt:65:28
 enum-known-reply : tie.Need-enum-known-reply
 enum-known-reply c = search needs
 
--- src/sizing.rt:66:29
 enum-known-reply-2 : tie.Need-enum-known-reply-2
 enum-known-reply-2 c = search needs
 
--- src/sizing.rt:67:36
 enum-told-2 : tie.Need-enum-told-2
 enum-told-2 c = search needs
 
--- src/sizing.rt:60:1
 returns : tie.Need-returns
 returns c = search needs
 
--- src/sizing.rt:60:1
 returns-2 : tie.Need-returns-2
 returns-2 c = simp (c .before .reply .given .1)
 
--- src/sizing.rt:60:1
 returns-3 : tie.Need-returns-3
 returns-3 c = simp (c .before .reply2 .given .1)
 
--- src/sizing.rt:60:1
 returns-4 : tie.Need-returns-4
 returns-4 c = search needs
 

@@ -1,3 +1,4 @@
+-- Generated: tools/proof/write-skeletons, then tools/proof/list-facts --fill.
 use Rattle.oof_box.specs.Box.{settled}
 use borrow.Author.Needs.{needs}
 use Rattle.oof_box.proofs.sizing.settle.Statement.{statement}
@@ -7,15 +8,12 @@ use Rattle.oof_box.proofs.sizing.settle.Lts as lts
 use Rattle.geometry.proofs.MaybeSize.maybe_apply_aspect_ratio.Reads as maybe-apply-aspect-ratio-reads
 use Rattle.geometry.proofs.MaybeSize.maybe_clamp.Reads as maybe-clamp-reads
 
--- src/sizing.rt:117:5
 maybe-apply-aspect-ratio-requires : tie.Need-maybe-apply-aspect-ratio-requires
 maybe-apply-aspect-ratio-requires c κs = search needs
 
--- src/sizing.rt:117:5
 maybe-clamp-requires : tie.Need-maybe-clamp-requires
 maybe-clamp-requires c κs = search needs
 
--- src/sizing.rt:112:1
 returns : tie.Need-returns
 unfolding settled
 returns c = simp (← c .before .maybe-apply-aspect-ratio .ensures, ← c .maybe-clamp .ensures)

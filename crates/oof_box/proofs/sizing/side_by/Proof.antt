@@ -1,30 +1,25 @@
+-- Generated: tools/proof/write-skeletons, then tools/proof/list-facts --fill.
 use borrow.Author.Needs.{needs}
 use Rattle.oof_box.proofs.sizing.side_by.Statement.{statement}
 use Rattle.oof_box.proofs.sizing.side_by.Tie as tie
 use Rattle.oof_box.proofs.sizing.side_by.Reads as reads
 use Rattle.oof_box.proofs.sizing.side_by.Lts as lts
 
--- src/sizing.rt:87:47
 enum-told : tie.Need-enum-told
 enum-told c = search needs
 
--- src/sizing.rt:88:40
 enum-known-keyword : tie.Need-enum-known-keyword
 enum-known-keyword c = search needs
 
--- src/sizing.rt:89:48
 enum-told-2 : tie.Need-enum-told-2
 enum-told-2 c = search needs
 
--- src/sizing.rt:83:1
 returns : tie.Need-returns
 returns c = search needs
 
--- src/sizing.rt:83:1
 returns-2 : tie.Need-returns-2
 returns-2 c = simp (c .before .keyword .given .1)
 
--- src/sizing.rt:83:1
 returns-3 : tie.Need-returns-3
 returns-3 c = search needs
 

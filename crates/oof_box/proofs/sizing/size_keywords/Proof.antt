@@ -1,3 +1,4 @@
+-- Generated: tools/proof/write-skeletons, then tools/proof/list-facts --fill.
 use Rattle.oof_box.specs.Box.{sizeKeywords}
 use borrow.Author.Needs.{needs}
 use Rattle.oof_box.proofs.sizing.size_keywords.Statement.{statement}
@@ -7,15 +8,12 @@ use Rattle.oof_box.proofs.sizing.size_keywords.Lts as lts
 use Rattle.oof_common.proofs.sizing_keyword.resolve_absolute_sizing_keywords.Reads as resolve-absolute-sizing-keywords-reads
 use Rattle.oof_box.proofs.sizing.keyword_stretch.Reads as keyword-stretch-reads
 
--- src/sizing.rt:56:9
 keyword-stretch-requires : tie.Need-keyword-stretch-requires
 keyword-stretch-requires c κs = search needs
 
--- src/sizing.rt:57:5
 resolve-absolute-sizing-keywords-requires : tie.Need-resolve-absolute-sizing-keywords-requires
 resolve-absolute-sizing-keywords-requires c κs = search needs
 
--- src/sizing.rt:47:1
 returns : tie.Need-returns
 unfolding sizeKeywords
 returns c = simp (← c .before .keyword-stretch .ensures, ← c .resolve-absolute-sizing-keywords .ensures)

@@ -1,3 +1,4 @@
+-- Generated skeleton (tools/proof/write-skeletons), answers by hand.
 use Rattle.oof_box.specs.Box.{stretched}
 use borrow.Author.Needs.{needs}
 use Rattle.oof_box.proofs.sizing.stretch.Statement.{statement}
@@ -10,40 +11,31 @@ use Rattle.oof_box.proofs.sizing.raised_min.Reads as raised-min-reads
 use Rattle.oof_box.proofs.sizing.stretch_ratio.Reads as stretch-ratio-reads
 use Rattle.oof_box.proofs.sizing.widen.Reads as widen-reads
 
--- src/sizing.rt:227:9
 is-stretched-requires : tie.Need-is-stretched-requires
 is-stretched-requires c κs = search needs
 
--- src/sizing.rt:228:9
 is-stretched-requires-2 : tie.Need-is-stretched-requires-2
 is-stretched-requires-2 c κs = search needs
 
--- src/sizing.rt:233:20
 raised-min-requires : tie.Need-raised-min-requires
 raised-min-requires c κs = search needs
 
--- src/sizing.rt:234:21
 raised-min-requires-2 : tie.Need-raised-min-requires-2
 raised-min-requires-2 c κs = search needs
 
--- src/sizing.rt:236:9
 returns : tie.Need-returns
 unfolding stretched
 returns c = rw (c .raised-min2 .ensures, c .before .raised-min .ensures, c .before .before .before .is-stretched2 .ensures, c .before .before .before .before .is-stretched .ensures, c .before .before .if1 .taken)
 
--- src/sizing.rt:241:9
 stretch-ratio-requires : tie.Need-stretch-ratio-requires
 stretch-ratio-requires c κs = search needs
 
--- src/sizing.rt:242:9
 widen-requires : tie.Need-widen-requires
 widen-requires c κs = search needs
 
--- src/sizing.rt:244:16
 heighten-requires : tie.Need-heighten-requires
 heighten-requires c κs = search needs
 
--- src/sizing.rt:219:1
 returns-2 : tie.Need-returns-2
 unfolding stretched
 returns-2 c = rw (c .heighten .ensures, c .before .widen .ensures, c .before .before .stretch-ratio .ensures, c .before .before .before .before .is-stretched2 .ensures, c .before .before .before .before .before .is-stretched .ensures, c .before .before .before .if1 .left)

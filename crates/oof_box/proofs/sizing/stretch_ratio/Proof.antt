@@ -1,3 +1,4 @@
+-- Generated: tools/proof/write-skeletons, then tools/proof/list-facts --fill.
 use Rattle.oof_box.specs.Box.{stretchRatio}
 use borrow.Author.Needs.{needs}
 use Rattle.oof_box.proofs.sizing.stretch_ratio.Statement.{statement}
@@ -6,16 +7,13 @@ use Rattle.oof_box.proofs.sizing.stretch_ratio.Reads as reads
 use Rattle.oof_box.proofs.sizing.stretch_ratio.Lts as lts
 use Rattle.oof_box.proofs.sizing.ignores_ratio.Reads as ignores-ratio-reads
 
--- src/sizing.rt:175:8
 ignores-ratio-requires : tie.Need-ignores-ratio-requires
 ignores-ratio-requires c κs = search needs
 
--- src/sizing.rt:176:9
 returns : tie.Need-returns
 unfolding stretchRatio
 returns c = simp (← c .before .ignores-ratio .ensures, c .if1 .taken)
 
--- src/sizing.rt:171:1
 returns-2 : tie.Need-returns-2
 unfolding stretchRatio
 returns-2 c = simp (← c .before .ignores-ratio .ensures, c .if1 .left)

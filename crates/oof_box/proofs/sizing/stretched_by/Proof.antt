@@ -1,3 +1,4 @@
+-- Generated: tools/proof/write-skeletons, then tools/proof/list-facts --fill.
 use Rattle.oof_box.specs.Cut.{stretchedBy}
 use borrow.Author.Needs.{needs}
 use Rattle.oof_box.proofs.sizing.stretched_by.Statement.{statement}
@@ -7,15 +8,12 @@ use Rattle.oof_box.proofs.sizing.stretched_by.Lts as lts
 use Rattle.oof_box.proofs.sizing.known_by.Reads as known-by-reads
 use Rattle.oof_box.proofs.sizing.stretch.Reads as stretch-reads
 
--- src/sizing.rt:271:9
 known-by-requires : tie.Need-known-by-requires
 known-by-requires c κs = search needs
 
--- src/sizing.rt:272:5
 stretch-requires : tie.Need-stretch-requires
 stretch-requires c κs = search needs
 
--- src/sizing.rt:262:1
 returns : tie.Need-returns
 unfolding stretchedBy
 returns c = simp (← c .before .known-by .ensures, ← c .stretch .ensures)

@@ -1,3 +1,4 @@
+-- Generated: tools/proof/write-skeletons, then tools/proof/list-facts --fill.
 use Rattle.oof_box.specs.Box.{widened}
 use borrow.Author.Needs.{needs}
 use Rattle.oof_box.proofs.sizing.widen.Statement.{statement}
@@ -6,16 +7,13 @@ use Rattle.oof_box.proofs.sizing.widen.Reads as reads
 use Rattle.oof_box.proofs.sizing.widen.Lts as lts
 use Rattle.oof_box.proofs.sizing.settle.Reads as settle-reads
 
--- src/sizing.rt:187:9
 settle-requires : tie.Need-settle-requires
 settle-requires c κs = search needs
 
--- src/sizing.rt:187:9
 returns : tie.Need-returns
 unfolding widened
 returns c = simp (c .before .if1 .taken, ← c .settle .ensures)
 
--- src/sizing.rt:178:1
 returns-2 : tie.Need-returns-2
 unfolding widened
 returns-2 c = simp (c .if1 .left)

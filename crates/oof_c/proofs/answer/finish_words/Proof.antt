@@ -1,3 +1,4 @@
+-- Generated: tools/proof/write-skeletons, then tools/proof/list-facts --fill.
 use Rattle.oof_c.specs.AnswerWords.{finishWords}
 use borrow.Author.Needs.{needs}
 use Rattle.oof_c.proofs.answer.finish_words.Statement.{statement}
@@ -7,27 +8,21 @@ use Rattle.oof_c.proofs.answer.finish_words.Lts as lts
 use Rattle.oof_c.proofs.state.count_word.Reads as count-word-reads
 use Rattle.util.proofs.bits.to_word.Reads as to-word-reads
 
--- src/answer.rt:106:9
 count-word-requires : tie.Need-count-word-requires
 count-word-requires c κs = search needs
 
--- src/answer.rt:107:9
 to-word-requires : tie.Need-to-word-requires
 to-word-requires c κs = search needs
 
--- src/answer.rt:108:9
 to-word-requires-2 : tie.Need-to-word-requires-2
 to-word-requires-2 c κs = search needs
 
--- src/answer.rt:109:9
 to-word-requires-3 : tie.Need-to-word-requires-3
 to-word-requires-3 c κs = search needs
 
--- src/answer.rt:110:9
 to-word-requires-4 : tie.Need-to-word-requires-4
 to-word-requires-4 c κs = search needs
 
--- src/answer.rt:101:1
 returns : tie.Need-returns
 unfolding finishWords
 returns c = simp (← c .before .before .before .before .count-word .ensures, ← c .before .before .before .to-word .ensures, ← c .before .before .to-word2 .ensures, ← c .before .to-word3 .ensures, ← c .to-word4 .ensures)

@@ -1,3 +1,4 @@
+-- Generated: tools/proof/write-skeletons, then tools/proof/list-facts --fill.
 use Rattle.oof_c.specs.AnswerWords.{given}
 use borrow.Author.Needs.{needs}
 use Rattle.oof_c.proofs.answer.given.Statement.{statement}
@@ -5,20 +6,16 @@ use Rattle.oof_c.proofs.answer.given.Tie as tie
 use Rattle.oof_c.proofs.answer.given.Reads as reads
 use Rattle.oof_c.proofs.answer.given.Lts as lts
 
--- src/answer.rt:20:27
 enum-told : tie.Need-enum-told
 enum-told c = search needs
 
--- src/answer.rt:21:30
 enum-told-2 : tie.Need-enum-told-2
 enum-told-2 c = search needs
 
--- src/answer.rt:16:1
 returns : tie.Need-returns
 unfolding given
 returns c = simp (c .enum-told .given .1)
 
--- src/answer.rt:16:1
 returns-2 : tie.Need-returns-2
 unfolding given
 returns-2 c = simp (c .enum-told2 .given .1)

@@ -1,3 +1,4 @@
+-- Generated: tools/proof/write-skeletons, then tools/proof/list-facts --fill.
 use Rattle.oof_c.specs.AnswerWords.{layOutWords, given}
 use Rattle.geometry.specs.Geometry.{definite}
 use Rattle.util.specs.Maybe.{unwrapOr}
@@ -10,39 +11,30 @@ use Rattle.oof_c.proofs.answer.space_kind.Reads as space-kind-reads
 use Rattle.oof_c.proofs.answer.space_size.Reads as space-size-reads
 use Rattle.util.proofs.bits.to_word.Reads as to-word-reads
 
--- src/answer.rt:78:9
 to-word-requires : tie.Need-to-word-requires
 to-word-requires c κs = search needs
 
--- src/answer.rt:80:9
 to-word-requires-2 : tie.Need-to-word-requires-2
 to-word-requires-2 c κs = search needs
 
--- src/answer.rt:81:9
 space-kind-requires : tie.Need-space-kind-requires
 space-kind-requires c κs = search needs
 
--- src/answer.rt:82:23
 space-size-requires : tie.Need-space-size-requires
 space-size-requires c κs = search needs
 
--- src/answer.rt:82:9
 to-word-requires-3 : tie.Need-to-word-requires-3
 to-word-requires-3 c κs = search needs
 
--- src/answer.rt:83:9
 space-kind-requires-2 : tie.Need-space-kind-requires-2
 space-kind-requires-2 c κs = search needs
 
--- src/answer.rt:84:23
 space-size-requires-2 : tie.Need-space-size-requires-2
 space-size-requires-2 c κs = search needs
 
--- src/answer.rt:84:9
 to-word-requires-4 : tie.Need-to-word-requires-4
 to-word-requires-4 c κs = search needs
 
--- src/answer.rt:68:1
 returns : tie.Need-returns
 unfolding layOutWords definite given unwrapOr
 returns c = simp (← c .before .before .before .before .before .before .before .to-word .ensures, ← c .before .before .before .before .before .before .to-word2 .ensures, ← c .before .before .before .before .before .space-kind .ensures, ← c .before .before .before .before .space-size .ensures, ← c .before .before .before .to-word3 .ensures, ← c .before .before .space-kind2 .ensures, ← c .before .space-size2 .ensures, ← c .to-word4 .ensures)

@@ -1,3 +1,4 @@
+-- Generated: tools/proof/write-skeletons, then tools/proof/list-facts --fill.
 use Rattle.oof_c.specs.AnswerWords.{spaceKind}
 use borrow.Author.Needs.{needs}
 use Rattle.oof_c.proofs.answer.space_kind.Statement.{statement}
@@ -5,29 +6,23 @@ use Rattle.oof_c.proofs.answer.space_kind.Tie as tie
 use Rattle.oof_c.proofs.answer.space_kind.Reads as reads
 use Rattle.oof_c.proofs.answer.space_kind.Lts as lts
 
--- src/answer.rt:29:40
 enum-told : tie.Need-enum-told
 enum-told c = search needs
 
--- src/answer.rt:30:39
 enum-told-2 : tie.Need-enum-told-2
 enum-told-2 c = search needs
 
--- src/answer.rt:31:39
 enum-told-3 : tie.Need-enum-told-3
 enum-told-3 c = search needs
 
--- src/answer.rt:25:1
 returns : tie.Need-returns
 unfolding spaceKind
 returns c = simp (c .enum-told .given .1)
 
--- src/answer.rt:25:1
 returns-2 : tie.Need-returns-2
 unfolding spaceKind
 returns-2 c = simp (c .enum-told2 .given .1)
 
--- src/answer.rt:25:1
 returns-3 : tie.Need-returns-3
 unfolding spaceKind
 returns-3 c = simp (c .enum-told3 .given .1)

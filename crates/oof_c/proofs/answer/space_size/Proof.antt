@@ -1,3 +1,4 @@
+-- Generated: tools/proof/write-skeletons, then tools/proof/list-facts --fill.
 use Rattle.oof_c.specs.AnswerWords.{spaceSize}
 use borrow.Author.Needs.{needs}
 use Rattle.oof_c.proofs.answer.space_size.Statement.{statement}
@@ -5,29 +6,23 @@ use Rattle.oof_c.proofs.answer.space_size.Tie as tie
 use Rattle.oof_c.proofs.answer.space_size.Reads as reads
 use Rattle.oof_c.proofs.answer.space_size.Lts as lts
 
--- src/answer.rt:39:34
 enum-known-space : tie.Need-enum-known-space
 enum-known-space c = search needs
 
--- src/answer.rt:40:39
 enum-told : tie.Need-enum-told
 enum-told c = search needs
 
--- src/answer.rt:41:39
 enum-told-2 : tie.Need-enum-told-2
 enum-told-2 c = search needs
 
--- src/answer.rt:35:1
 returns : tie.Need-returns
 unfolding spaceSize
 returns c = simp (c .before .space .given .1)
 
--- src/answer.rt:35:1
 returns-2 : tie.Need-returns-2
 unfolding spaceSize
 returns-2 c = simp (c .enum-told .given .1)
 
--- src/answer.rt:35:1
 returns-3 : tie.Need-returns-3
 unfolding spaceSize
 returns-3 c = simp (c .enum-told2 .given .1)

@@ -1,3 +1,4 @@
+-- Generated: tools/proof/write-skeletons, then tools/proof/list-facts --fill.
 use Rattle.oof_c.specs.StateWords.{containerOf}
 use borrow.Author.Needs.{needs}
 use Rattle.oof_c.proofs.state.block_of.Statement.{statement}
@@ -8,63 +9,48 @@ use Rattle.style.proofs.Direction.from_code.Reads as Direction-from-code-reads
 use Rattle.style.proofs.Overflow.from_code.Reads as Overflow-from-code-reads
 use Rattle.util.proofs.bits.from_word.Reads as from-word-reads
 
--- src/state.rt:227:32
 element-copy-out-from-word : tie.Need-element-copy-out-from-word
 element-copy-out-from-word c = search needs
 
--- src/state.rt:227:16
 from-word-requires : tie.Need-from-word-requires
 from-word-requires c κs = search needs
 
--- src/state.rt:228:33
 element-copy-out-from-word-2 : tie.Need-element-copy-out-from-word-2
 element-copy-out-from-word-2 c = search needs
 
--- src/state.rt:228:17
 from-word-requires-2 : tie.Need-from-word-requires-2
 from-word-requires-2 c κs = search needs
 
--- src/state.rt:231:28
 element-copy-out-from-word-3 : tie.Need-element-copy-out-from-word-3
 element-copy-out-from-word-3 c = search needs
 
--- src/state.rt:231:12
 from-word-requires-3 : tie.Need-from-word-requires-3
 from-word-requires-3 c κs = search needs
 
--- src/state.rt:232:28
 element-copy-out-from-word-4 : tie.Need-element-copy-out-from-word-4
 element-copy-out-from-word-4 c = search needs
 
--- src/state.rt:232:12
 from-word-requires-4 : tie.Need-from-word-requires-4
 from-word-requires-4 c κs = search needs
 
--- src/state.rt:239:32
 element-copy-out-from-code : tie.Need-element-copy-out-from-code
 element-copy-out-from-code c = search needs
 
--- src/state.rt:239:12
 from-code-requires : tie.Need-from-code-requires
 from-code-requires c κs = search needs
 
--- src/state.rt:240:32
 element-copy-out-from-code-2 : tie.Need-element-copy-out-from-code-2
 element-copy-out-from-code-2 c = search needs
 
--- src/state.rt:240:12
 from-code-requires-2 : tie.Need-from-code-requires-2
 from-code-requires-2 c κs = search needs
 
--- src/state.rt:244:41
 element-copy-out-from-code-3 : tie.Need-element-copy-out-from-code-3
 element-copy-out-from-code-3 c = search needs
 
--- src/state.rt:244:20
 from-code-requires-3 : tie.Need-from-code-requires-3
 from-code-requires-3 c κs = search needs
 
--- src/state.rt:223:1
 returns : tie.Need-returns
 unfolding containerOf
 returns c = simp (← c .before .before .before .before .before .before .before .before .before .before .before .before .from-word .ensures, ← c .before .before .before .before .before .before .before .before .before .before .from-word2 .ensures, ← c .before .before .before .before .before .before .before .before .from-word3 .ensures, ← c .before .before .before .before .before .before .from-word4 .ensures, ← c .before .before .before .before .from-code .ensures, ← c .before .before .from-code2 .ensures, ← c .from-code3 .ensures)

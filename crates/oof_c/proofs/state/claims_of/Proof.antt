@@ -1,3 +1,4 @@
+-- Generated skeleton (tools/proof/write-skeletons), answers by hand.
 use Rattle.oof_c.specs.StateWords.{claimsOf}
 use borrow.Author.Needs.{needs}
 use Rattle.oof_c.proofs.state.claims_of.Statement.{statement}
@@ -7,15 +8,12 @@ use Rattle.oof_c.proofs.state.claims_of.Lts as lts
 use Rattle.style.proofs.bits.bit0.Reads as bit0-reads
 use Rattle.style.proofs.bits.bit1.Reads as bit1-reads
 
--- src/state.rt:253:19
 bit0-requires : tie.Need-bit0-requires
 bit0-requires c κs = search needs
 
--- src/state.rt:254:16
 bit1-requires : tie.Need-bit1-requires
 bit1-requires c κs = search needs
 
--- src/state.rt:249:1
 returns : tie.Need-returns
 unfolding claimsOf
 returns c = λ j. record { absolute = c .before .bit0 .ensures j; fixed = c .bit1 .ensures j }

@@ -1,3 +1,4 @@
+-- Generated: tools/proof/write-skeletons, then tools/proof/list-facts --fill.
 use Rattle.style.specs.Codes.{directionCode}
 use borrow.Author.Needs.{needs}
 use Rattle.oof_c.proofs.state.direction_code.Statement.{statement}
@@ -5,20 +6,16 @@ use Rattle.oof_c.proofs.state.direction_code.Tie as tie
 use Rattle.oof_c.proofs.state.direction_code.Reads as reads
 use Rattle.oof_c.proofs.state.direction_code.Lts as lts
 
--- src/state.rt:83:27
 enum-told : tie.Need-enum-told
 enum-told c = search needs
 
--- src/state.rt:84:27
 enum-told-2 : tie.Need-enum-told-2
 enum-told-2 c = search needs
 
--- src/state.rt:79:1
 returns : tie.Need-returns
 unfolding directionCode
 returns c = simp (c .enum-told .given .1)
 
--- src/state.rt:79:1
 returns-2 : tie.Need-returns-2
 unfolding directionCode
 returns-2 c = simp (c .enum-told2 .given .1)

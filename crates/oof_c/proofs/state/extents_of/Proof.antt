@@ -1,3 +1,4 @@
+-- Generated: tools/proof/write-skeletons, then tools/proof/list-facts --fill.
 use Rattle.oof_c.specs.StateWords.{extentsOf}
 use borrow.Author.Needs.{needs}
 use Rattle.oof_c.proofs.state.extents_of.Statement.{statement}
@@ -6,39 +7,30 @@ use Rattle.oof_c.proofs.state.extents_of.Reads as reads
 use Rattle.oof_c.proofs.state.extents_of.Lts as lts
 use Rattle.oof_c.proofs.state.count.Reads as count-reads
 
--- src/state.rt:262:23
 element-copy-out-count : tie.Need-element-copy-out-count
 element-copy-out-count c = search needs
 
--- src/state.rt:262:17
 count-requires : tie.Need-count-requires
 count-requires c κs = search needs
 
--- src/state.rt:263:24
 element-copy-out-count-2 : tie.Need-element-copy-out-count-2
 element-copy-out-count-2 c = search needs
 
--- src/state.rt:263:18
 count-requires-2 : tie.Need-count-requires-2
 count-requires-2 c κs = search needs
 
--- src/state.rt:264:24
 element-copy-out-count-3 : tie.Need-element-copy-out-count-3
 element-copy-out-count-3 c = search needs
 
--- src/state.rt:264:18
 count-requires-3 : tie.Need-count-requires-3
 count-requires-3 c κs = search needs
 
--- src/state.rt:265:26
 element-copy-out-count-4 : tie.Need-element-copy-out-count-4
 element-copy-out-count-4 c = search needs
 
--- src/state.rt:265:20
 count-requires-4 : tie.Need-count-requires-4
 count-requires-4 c κs = search needs
 
--- src/state.rt:258:1
 returns : tie.Need-returns
 unfolding extentsOf
 returns c = simp (← c .before .before .before .before .before .before .count .ensures, ← c .before .before .before .before .count2 .ensures, ← c .before .before .count3 .ensures, ← c .count4 .ensures)

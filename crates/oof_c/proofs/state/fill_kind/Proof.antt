@@ -1,3 +1,4 @@
+-- Generated: tools/proof/write-skeletons, then tools/proof/list-facts --fill.
 use Rattle.oof_c.specs.StateWords.{fillKind}
 use borrow.Author.Needs.{needs}
 use Rattle.oof_c.proofs.state.fill_kind.Statement.{statement}
@@ -5,20 +6,16 @@ use Rattle.oof_c.proofs.state.fill_kind.Tie as tie
 use Rattle.oof_c.proofs.state.fill_kind.Reads as reads
 use Rattle.oof_c.proofs.state.fill_kind.Lts as lts
 
--- src/state.rt:173:28
 enum-told : tie.Need-enum-told
 enum-told c = search needs
 
--- src/state.rt:174:31
 enum-told-2 : tie.Need-enum-told-2
 enum-told-2 c = search needs
 
--- src/state.rt:169:1
 returns : tie.Need-returns
 unfolding fillKind
 returns c = simp (c .enum-told .given .1)
 
--- src/state.rt:169:1
 returns-2 : tie.Need-returns-2
 unfolding fillKind
 returns-2 c = simp (c .enum-told2 .given .1)

@@ -1,3 +1,4 @@
+-- Generated: tools/proof/write-skeletons, then tools/proof/list-facts --fill.
 use Rattle.oof_c.specs.StateWords.{fillOf}
 use borrow.Author.Tests.{ne-eqb}
 use Rattle.oof_c.proofs.state.fill_of.Statement.{statement}
@@ -5,12 +6,10 @@ use Rattle.oof_c.proofs.state.fill_of.Tie as tie
 use Rattle.oof_c.proofs.state.fill_of.Reads as reads
 use Rattle.oof_c.proofs.state.fill_of.Lts as lts
 
--- src/state.rt:160:1
 returns : tie.Need-returns
 unfolding fillOf
 returns c = simp (c .match .keys1)
 
--- src/state.rt:160:1
 returns-2 : tie.Need-returns-2
 unfolding fillOf
 returns-2 c = simp (ne-eqb _ _ (c .match .rest .1))

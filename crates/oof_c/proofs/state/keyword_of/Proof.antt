@@ -1,3 +1,4 @@
+-- Generated: tools/proof/write-skeletons, then tools/proof/list-facts --fill.
 use Rattle.oof_c.specs.StateWords.{keywordOf}
 use borrow.Author.Tests.{ne-eqb}
 use Rattle.oof_c.proofs.state.keyword_of.Statement.{statement}
@@ -5,22 +6,18 @@ use Rattle.oof_c.proofs.state.keyword_of.Tie as tie
 use Rattle.oof_c.proofs.state.keyword_of.Reads as reads
 use Rattle.oof_c.proofs.state.keyword_of.Lts as lts
 
--- src/state.rt:116:1
 returns : tie.Need-returns
 unfolding keywordOf
 returns c = simp (c .match .keys1)
 
--- src/state.rt:116:1
 returns-2 : tie.Need-returns-2
 unfolding keywordOf
 returns-2 c = simp (c .match .keys2)
 
--- src/state.rt:116:1
 returns-3 : tie.Need-returns-3
 unfolding keywordOf
 returns-3 c = simp (c .match .keys3)
 
--- src/state.rt:116:1
 returns-4 : tie.Need-returns-4
 unfolding keywordOf
 returns-4 c = simp (ne-eqb _ _ (c .match .rest .1), ne-eqb _ _ (c .match .rest .0 .1), ne-eqb _ _ (c .match .rest .0 .0 .1))

@@ -1,3 +1,4 @@
+-- Generated: tools/proof/write-skeletons, then tools/proof/list-facts --fill.
 use Rattle.oof_c.specs.StateWords.{keywordWidth}
 use borrow.Author.Needs.{needs}
 use Rattle.oof_c.proofs.state.keyword_width.Statement.{statement}
@@ -5,38 +6,30 @@ use Rattle.oof_c.proofs.state.keyword_width.Tie as tie
 use Rattle.oof_c.proofs.state.keyword_width.Reads as reads
 use Rattle.oof_c.proofs.state.keyword_width.Lts as lts
 
--- src/state.rt:142:31
 enum-told : tie.Need-enum-told
 enum-told c = search needs
 
--- src/state.rt:143:28
 enum-known-reply : tie.Need-enum-known-reply
 enum-known-reply c = search needs
 
--- src/state.rt:144:29
 enum-known-reply-2 : tie.Need-enum-known-reply-2
 enum-known-reply-2 c = search needs
 
--- src/state.rt:145:36
 enum-told-2 : tie.Need-enum-told-2
 enum-told-2 c = search needs
 
--- src/state.rt:138:1
 returns : tie.Need-returns
 unfolding keywordWidth
 returns c = simp (c .enum-told .given .1)
 
--- src/state.rt:138:1
 returns-2 : tie.Need-returns-2
 unfolding keywordWidth
 returns-2 c = simp (c .before .reply .given .1)
 
--- src/state.rt:138:1
 returns-3 : tie.Need-returns-3
 unfolding keywordWidth
 returns-3 c = simp (c .before .reply2 .given .1)
 
--- src/state.rt:138:1
 returns-4 : tie.Need-returns-4
 unfolding keywordWidth
 returns-4 c = simp (c .enum-told2 .given .1)

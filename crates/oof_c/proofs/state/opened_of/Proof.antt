@@ -1,3 +1,4 @@
+-- Generated: tools/proof/write-skeletons, then tools/proof/list-facts --fill.
 use Rattle.oof_c.specs.StateWords.{openedOf}
 use borrow.Author.Needs.{needs}
 use Rattle.oof_c.proofs.state.opened_of.Statement.{statement}
@@ -8,23 +9,18 @@ use Rattle.oof_c.proofs.state.block_of.Reads as block-of-reads
 use Rattle.oof_c.proofs.state.claims_of.Reads as claims-of-reads
 use Rattle.oof_c.proofs.state.extents_of.Reads as extents-of-reads
 
--- src/state.rt:273:16
 block-of-requires : tie.Need-block-of-requires
 block-of-requires c κs = search needs
 
--- src/state.rt:274:27
 element-copy-out-claims-of : tie.Need-element-copy-out-claims-of
 element-copy-out-claims-of c = search needs
 
--- src/state.rt:274:17
 claims-of-requires : tie.Need-claims-of-requires
 claims-of-requires c κs = search needs
 
--- src/state.rt:275:18
 extents-of-requires : tie.Need-extents-of-requires
 extents-of-requires c κs = search needs
 
--- src/state.rt:269:1
 returns : tie.Need-returns
 unfolding openedOf
 returns c = simp (← c .before .before .before .block-of .ensures, ← c .before .claims-of .ensures, ← c .extents-of .ensures)

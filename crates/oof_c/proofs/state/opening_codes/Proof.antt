@@ -1,3 +1,4 @@
+-- Generated: tools/proof/write-skeletons, then tools/proof/list-facts --fill.
 use Rattle.oof_c.specs.StateWords.{openingCodes}
 use borrow.Author.Needs.{needs}
 use Rattle.oof_c.proofs.state.opening_codes.Statement.{statement}
@@ -8,23 +9,18 @@ use Rattle.oof_c.proofs.state.claims_code.Reads as claims-code-reads
 use Rattle.oof_c.proofs.state.direction_code.Reads as direction-code-reads
 use Rattle.oof_c.proofs.state.overflow_code.Reads as overflow-code-reads
 
--- src/state.rt:305:9
 direction-code-requires : tie.Need-direction-code-requires
 direction-code-requires c κs = search needs
 
--- src/state.rt:306:9
 claims-code-requires : tie.Need-claims-code-requires
 claims-code-requires c κs = search needs
 
--- src/state.rt:307:9
 overflow-code-requires : tie.Need-overflow-code-requires
 overflow-code-requires c κs = search needs
 
--- src/state.rt:308:9
 overflow-code-requires-2 : tie.Need-overflow-code-requires-2
 overflow-code-requires-2 c κs = search needs
 
--- src/state.rt:295:1
 returns : tie.Need-returns
 unfolding openingCodes
 returns c = simp (← c .before .before .before .direction-code .ensures, ← c .before .before .claims-code .ensures, ← c .before .overflow-code .ensures, ← c .overflow-code2 .ensures)

@@ -1,3 +1,4 @@
+-- Generated: tools/proof/write-skeletons, then tools/proof/list-facts --fill.
 use Rattle.style.specs.Codes.{overflowCode}
 use borrow.Author.Needs.{needs}
 use Rattle.oof_c.proofs.state.overflow_code.Statement.{statement}
@@ -5,38 +6,30 @@ use Rattle.oof_c.proofs.state.overflow_code.Tie as tie
 use Rattle.oof_c.proofs.state.overflow_code.Reads as reads
 use Rattle.oof_c.proofs.state.overflow_code.Lts as lts
 
--- src/state.rt:92:30
 enum-told : tie.Need-enum-told
 enum-told c = search needs
 
--- src/state.rt:93:27
 enum-told-2 : tie.Need-enum-told-2
 enum-told-2 c = search needs
 
--- src/state.rt:94:29
 enum-told-3 : tie.Need-enum-told-3
 enum-told-3 c = search needs
 
--- src/state.rt:95:29
 enum-told-4 : tie.Need-enum-told-4
 enum-told-4 c = search needs
 
--- src/state.rt:88:1
 returns : tie.Need-returns
 unfolding overflowCode
 returns c = simp (c .enum-told .given .1)
 
--- src/state.rt:88:1
 returns-2 : tie.Need-returns-2
 unfolding overflowCode
 returns-2 c = simp (c .enum-told2 .given .1)
 
--- src/state.rt:88:1
 returns-3 : tie.Need-returns-3
 unfolding overflowCode
 returns-3 c = simp (c .enum-told3 .given .1)
 
--- src/state.rt:88:1
 returns-4 : tie.Need-returns-4
 unfolding overflowCode
 returns-4 c = simp (c .enum-told4 .given .1)

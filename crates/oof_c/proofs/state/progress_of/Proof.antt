@@ -1,3 +1,4 @@
+-- Generated: tools/proof/write-skeletons, then tools/proof/list-facts --fill.
 use Rattle.oof_c.specs.StateWords.{progressOf}
 use borrow.Author.Tests.{ne-eqb}
 use Rattle.oof_c.proofs.state.progress_of.Statement.{statement}
@@ -5,32 +6,26 @@ use Rattle.oof_c.proofs.state.progress_of.Tie as tie
 use Rattle.oof_c.proofs.state.progress_of.Reads as reads
 use Rattle.oof_c.proofs.state.progress_of.Lts as lts
 
--- src/state.rt:45:1
 returns : tie.Need-returns
 unfolding progressOf
 returns c = simp (c .match .keys1)
 
--- src/state.rt:45:1
 returns-2 : tie.Need-returns-2
 unfolding progressOf
 returns-2 c = simp (c .match .keys2)
 
--- src/state.rt:45:1
 returns-3 : tie.Need-returns-3
 unfolding progressOf
 returns-3 c = simp (c .match .keys3)
 
--- src/state.rt:45:1
 returns-4 : tie.Need-returns-4
 unfolding progressOf
 returns-4 c = simp (c .match .keys4)
 
--- src/state.rt:45:1
 returns-5 : tie.Need-returns-5
 unfolding progressOf
 returns-5 c = simp (c .match .keys5)
 
--- src/state.rt:45:1
 returns-6 : tie.Need-returns-6
 unfolding progressOf
 returns-6 c = simp (ne-eqb _ _ (c .match .rest .1), ne-eqb _ _ (c .match .rest .0 .1), ne-eqb _ _ (c .match .rest .0 .0 .1), ne-eqb _ _ (c .match .rest .0 .0 .0 .1), ne-eqb _ _ (c .match .rest .0 .0 .0 .0 .1))

@@ -1,3 +1,4 @@
+-- Generated: tools/proof/write-skeletons, then tools/proof/list-facts --fill.
 use Rattle.oof_c.specs.StateWords.{stageCode}
 use borrow.Author.Needs.{needs}
 use Rattle.oof_c.proofs.state.stage_code.Statement.{statement}
@@ -5,47 +6,37 @@ use Rattle.oof_c.proofs.state.stage_code.Tie as tie
 use Rattle.oof_c.proofs.state.stage_code.Reads as reads
 use Rattle.oof_c.proofs.state.stage_code.Lts as lts
 
--- src/state.rt:62:31
 enum-told : tie.Need-enum-told
 enum-told c = search needs
 
--- src/state.rt:63:32
 enum-told-2 : tie.Need-enum-told-2
 enum-told-2 c = search needs
 
--- src/state.rt:64:33
 enum-told-3 : tie.Need-enum-told-3
 enum-told-3 c = search needs
 
--- src/state.rt:65:24
 enum-told-4 : tie.Need-enum-told-4
 enum-told-4 c = search needs
 
--- src/state.rt:66:26
 enum-told-5 : tie.Need-enum-told-5
 enum-told-5 c = search needs
 
--- src/state.rt:58:1
 returns : tie.Need-returns
 unfolding stageCode
 returns c = simp (c .enum-told .given .1)
 
--- src/state.rt:58:1
 returns-2 : tie.Need-returns-2
 unfolding stageCode
 returns-2 c = simp (c .enum-told2 .given .1)
 
--- src/state.rt:58:1
 returns-3 : tie.Need-returns-3
 unfolding stageCode
 returns-3 c = simp (c .enum-told3 .given .1)
 
--- src/state.rt:58:1
 returns-4 : tie.Need-returns-4
 unfolding stageCode
 returns-4 c = simp (c .enum-told4 .given .1)
 
--- src/state.rt:58:1
 returns-5 : tie.Need-returns-5
 unfolding stageCode
 returns-5 c = simp (c .enum-told5 .given .1)

@@ -1,3 +1,4 @@
+-- Generated: tools/proof/write-skeletons, then tools/proof/list-facts --fill.
 use Rattle.oof_c.specs.StateWords.{stateOf}
 use borrow.Author.Needs.{needs}
 use Rattle.oof_c.proofs.state.state_of.Statement.{statement}
@@ -10,31 +11,24 @@ use Rattle.oof_c.proofs.state.overflow_in.Reads as overflow-in-reads
 use Rattle.oof_c.proofs.state.progress_of.Reads as progress-of-reads
 use Rattle.oof_c.proofs.state.replies_of.Reads as replies-of-reads
 
--- src/state.rt:284:31
 element-copy-out-progress-of : tie.Need-element-copy-out-progress-of
 element-copy-out-progress-of c = search needs
 
--- src/state.rt:284:19
 progress-of-requires : tie.Need-progress-of-requires
 progress-of-requires c κs = search needs
 
--- src/state.rt:285:18
 replies-of-requires : tie.Need-replies-of-requires
 replies-of-requires c κs = search needs
 
--- src/state.rt:286:17
 counts-of-requires : tie.Need-counts-of-requires
 counts-of-requires c κs = search needs
 
--- src/state.rt:287:19
 overflow-in-requires : tie.Need-overflow-in-requires
 overflow-in-requires c κs = search needs
 
--- src/state.rt:288:17
 opened-of-requires : tie.Need-opened-of-requires
 opened-of-requires c κs = search needs
 
--- src/state.rt:280:1
 returns : tie.Need-returns
 unfolding stateOf
 returns c = simp (← c .before .before .before .before .progress-of .ensures, ← c .before .before .before .replies-of .ensures, ← c .before .before .counts-of .ensures, ← c .before .overflow-in .ensures, ← c .opened-of .ensures)

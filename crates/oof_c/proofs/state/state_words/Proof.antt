@@ -1,3 +1,4 @@
+-- Generated skeleton (tools/proof/write-skeletons), answers by hand.
 use mathlib.Core.List.{[], _∷_}
 use mathlib.Core.Path.{_∙_}
 use lib.ListN.{getD}
@@ -17,131 +18,99 @@ use Rattle.oof_c.proofs.state.opening_codes.Reads as opening-codes-read
 use Rattle.oof_c.proofs.state.progress_code.Reads as progress-code-reads
 use Rattle.util.proofs.bits.to_word.Reads as to-word-reads
 
--- src/state.rt:320:9
 fill-size-requires : tie.Need-fill-size-requires
 fill-size-requires c κs = search needs
 
--- src/state.rt:322:17
 opening-codes-requires : tie.Need-opening-codes-requires
 opening-codes-requires c κs = search needs
 
--- src/state.rt:324:9
 progress-code-requires : tie.Need-progress-code-requires
 progress-code-requires c κs = search needs
 
--- src/state.rt:325:9
 keyword-kind-requires : tie.Need-keyword-kind-requires
 keyword-kind-requires c κs = search needs
 
--- src/state.rt:326:23
 keyword-width-requires : tie.Need-keyword-width-requires
 keyword-width-requires c κs = search needs
 
--- src/state.rt:326:9
 to-word-requires : tie.Need-to-word-requires
 to-word-requires c κs = search needs
 
--- src/state.rt:327:23
 keyword-height-requires : tie.Need-keyword-height-requires
 keyword-height-requires c κs = search needs
 
--- src/state.rt:327:9
 to-word-requires-2 : tie.Need-to-word-requires-2
 to-word-requires-2 c κs = search needs
 
--- src/state.rt:328:9
 fill-kind-requires : tie.Need-fill-kind-requires
 fill-kind-requires c κs = search needs
 
--- src/state.rt:329:9
 to-word-requires-3 : tie.Need-to-word-requires-3
 to-word-requires-3 c κs = search needs
 
--- src/state.rt:330:9
 to-word-requires-4 : tie.Need-to-word-requires-4
 to-word-requires-4 c κs = search needs
 
--- src/state.rt:331:9
 count-word-requires : tie.Need-count-word-requires
 count-word-requires c κs = search needs
 
--- src/state.rt:332:9
 count-word-requires-2 : tie.Need-count-word-requires-2
 count-word-requires-2 c κs = search needs
 
--- src/state.rt:333:9
 count-word-requires-3 : tie.Need-count-word-requires-3
 count-word-requires-3 c κs = search needs
 
--- src/state.rt:334:9
 count-word-requires-4 : tie.Need-count-word-requires-4
 count-word-requires-4 c κs = search needs
 
--- src/state.rt:335:9
 to-word-requires-5 : tie.Need-to-word-requires-5
 to-word-requires-5 c κs = search needs
 
--- src/state.rt:336:9
 to-word-requires-6 : tie.Need-to-word-requires-6
 to-word-requires-6 c κs = search needs
 
--- src/state.rt:337:9
 to-word-requires-7 : tie.Need-to-word-requires-7
 to-word-requires-7 c κs = search needs
 
--- src/state.rt:338:9
 to-word-requires-8 : tie.Need-to-word-requires-8
 to-word-requires-8 c κs = search needs
 
--- src/state.rt:339:9
 to-word-requires-9 : tie.Need-to-word-requires-9
 to-word-requires-9 c κs = search needs
 
--- src/state.rt:340:9
 to-word-requires-10 : tie.Need-to-word-requires-10
 to-word-requires-10 c κs = search needs
 
--- src/state.rt:341:9
 to-word-requires-11 : tie.Need-to-word-requires-11
 to-word-requires-11 c κs = search needs
 
--- src/state.rt:342:9
 to-word-requires-12 : tie.Need-to-word-requires-12
 to-word-requires-12 c κs = search needs
 
--- src/state.rt:343:9
 array-read-t33 : tie.Need-array-read-t33
 array-read-t33 c = search needs
 
--- src/state.rt:344:9
 array-read-t36 : tie.Need-array-read-t36
 array-read-t36 c = search needs
 
--- src/state.rt:345:9
 array-read-t39 : tie.Need-array-read-t39
 array-read-t39 c = search needs
 
--- src/state.rt:346:9
 array-read-t42 : tie.Need-array-read-t42
 array-read-t42 c = search needs
 
--- src/state.rt:347:9
 count-word-requires-5 : tie.Need-count-word-requires-5
 count-word-requires-5 c κs = search needs
 
--- src/state.rt:348:9
 count-word-requires-6 : tie.Need-count-word-requires-6
 count-word-requires-6 c κs = search needs
 
--- src/state.rt:349:9
 count-word-requires-7 : tie.Need-count-word-requires-7
 count-word-requires-7 c κs = search needs
 
--- src/state.rt:350:9
 count-word-requires-8 : tie.Need-count-word-requires-8
 count-word-requires-8 c κs = search needs
 
--- src/state.rt:313:1
 returns : tie.Need-returns
 unfolding stateWords openingCodes
 returns c =

@@ -1,3 +1,4 @@
+-- Generated: tools/proof/write-skeletons, then tools/proof/list-facts --fill.
 use Rattle.oof_common.specs.ScrollableOverflow.{contribution}
 use borrow.Author.Needs.{needs}
 use Rattle.oof_common.proofs.scrollable_overflow.compute_scrollable_overflow_contribution.Statement.{
@@ -15,61 +16,47 @@ use Rattle.geometry.proofs.Rect.from_components.Reads as from-components-reads
 use Rattle.geometry.proofs.Rect.horizontal_components.Reads as horizontal-components-reads
 use Rattle.geometry.proofs.Rect.vertical_components.Reads as vertical-components-reads
 
--- src/scrollable_overflow.rt:84:9
 propagates-requires : tie.Need-propagates-requires
 propagates-requires c κs = search needs
 
--- src/scrollable_overflow.rt:86:9
 horizontal-components-requires : tie.Need-horizontal-components-requires
 horizontal-components-requires c κs = search needs
 
--- src/scrollable_overflow.rt:83:9
 reach-requires : tie.Need-reach-requires
 reach-requires c κs = search needs
 
--- src/scrollable_overflow.rt:89:9
 propagates-requires-2 : tie.Need-propagates-requires-2
 propagates-requires-2 c κs = search needs
 
--- src/scrollable_overflow.rt:91:9
 vertical-components-requires : tie.Need-vertical-components-requires
 vertical-components-requires c κs = search needs
 
--- src/scrollable_overflow.rt:88:9
 reach-requires-2 : tie.Need-reach-requires-2
 reach-requires-2 c κs = search needs
 
--- src/scrollable_overflow.rt:93:8
 either-at-most-zero-requires : tie.Need-either-at-most-zero-requires
 either-at-most-zero-requires c κs = search needs
 
--- src/scrollable_overflow.rt:94:9
 returns : tie.Need-returns
 unfolding contribution
 returns c = simp (← c .before .before .before .before .before .before .before .propagates .ensures, ← c .before .before .before .before .before .before .horizontal-components .ensures, ← c .before .before .before .before .before .reach .ensures, ← c .before .before .before .before .propagates2 .ensures, ← c .before .before .before .vertical-components .ensures, ← c .before .before .reach2 .ensures, ← c .before .either-at-most-zero .ensures, c .if1 .taken)
 
--- src/scrollable_overflow.rt:96:9
 placed-at-requires : tie.Need-placed-at-requires
 placed-at-requires c κs = search needs
 
--- src/scrollable_overflow.rt:97:9
 placed-at-requires-2 : tie.Need-placed-at-requires-2
 placed-at-requires-2 c κs = search needs
 
--- src/scrollable_overflow.rt:98:8
 is-unreachable-requires : tie.Need-is-unreachable-requires
 is-unreachable-requires c κs = search needs
 
--- src/scrollable_overflow.rt:99:9
 returns-2 : tie.Need-returns-2
 unfolding contribution
 returns-2 c = simp (← c .before .before .before .before .before .before .before .before .before .before .before .propagates .ensures, ← c .before .before .before .before .before .before .before .before .before .before .horizontal-components .ensures, ← c .before .before .before .before .before .before .before .before .before .reach .ensures, ← c .before .before .before .before .before .before .before .before .propagates2 .ensures, ← c .before .before .before .before .before .before .before .vertical-components .ensures, ← c .before .before .before .before .before .before .reach2 .ensures, ← c .before .before .before .before .before .either-at-most-zero .ensures, c .before .before .before .before .if1 .left, ← c .before .before .before .placed-at .ensures, ← c .before .before .placed-at2 .ensures, ← c .before .is-unreachable .ensures, c .if2 .taken)
 
--- src/scrollable_overflow.rt:101:5
 from-components-requires : tie.Need-from-components-requires
 from-components-requires c κs = search needs
 
--- src/scrollable_overflow.rt:71:1
 returns-3 : tie.Need-returns-3
 unfolding contribution
 returns-3 c = simp (← c .before .before .before .before .before .before .before .before .before .before .before .before .propagates .ensures, ← c .before .before .before .before .before .before .before .before .before .before .before .horizontal-components .ensures, ← c .before .before .before .before .before .before .before .before .before .before .reach .ensures, ← c .before .before .before .before .before .before .before .before .before .propagates2 .ensures, ← c .before .before .before .before .before .before .before .before .vertical-components .ensures, ← c .before .before .before .before .before .before .before .reach2 .ensures, ← c .before .before .before .before .before .before .either-at-most-zero .ensures, c .before .before .before .before .before .if1 .left, ← c .before .before .before .before .placed-at .ensures, ← c .before .before .before .placed-at2 .ensures, ← c .before .before .is-unreachable .ensures, c .before .if2 .left, ← c .from-components .ensures)

@@ -1,3 +1,4 @@
+-- Generated: tools/proof/write-skeletons, then tools/proof/list-facts --fill.
 use borrow.Author.Needs.{needs}
 use Rattle.oof_common.proofs.scrollable_overflow.is_unreachable.Statement.{statement}
 use Rattle.oof_common.proofs.scrollable_overflow.is_unreachable.Tie as tie
@@ -5,15 +6,12 @@ use Rattle.oof_common.proofs.scrollable_overflow.is_unreachable.Reads a
 use Rattle.oof_common.proofs.scrollable_overflow.is_unreachable.Lts as lts
 use Rattle.oof_common.proofs.scrollable_overflow.either_at_most_zero.Reads as either-at-most-zero-reads
 
--- src/scrollable_overflow.rt:66:16
 either-at-most-zero-requires : tie.Need-either-at-most-zero-requires
 either-at-most-zero-requires c κs = search needs
 
--- src/scrollable_overflow.rt:63:1
 returns : tie.Need-returns
 returns c = simp (c .before .if1 .taken, ← c .either-at-most-zero .ensures)
 
--- src/scrollable_overflow.rt:63:1
 returns-2 : tie.Need-returns-2
 returns-2 c = search needs
 

@@ -1,3 +1,4 @@
+-- Generated: tools/proof/write-skeletons, then tools/proof/list-facts --fill.
 use Rattle.oof_common.specs.ScrollableOverflow.{placedAt}
 use mathlib.Core.Path.{refl}
 use Rattle.oof_common.proofs.scrollable_overflow.placed_at.Statement.{statement}
@@ -5,7 +6,6 @@ use Rattle.oof_common.proofs.scrollable_overflow.placed_at.Tie as tie
 use Rattle.oof_common.proofs.scrollable_overflow.placed_at.Reads as reads
 use Rattle.oof_common.proofs.scrollable_overflow.placed_at.Lts as lts
 
--- src/scrollable_overflow.rt:46:1
 returns : tie.Need-returns
 unfolding placedAt
 returns c = refl

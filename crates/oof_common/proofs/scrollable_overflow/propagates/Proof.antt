@@ -1,3 +1,4 @@
+-- Generated: tools/proof/write-skeletons, then tools/proof/list-facts --fill.
 use Rattle.oof_common.specs.ScrollableOverflow.{propagates}
 use borrow.Author.Needs.{needs}
 use Rattle.oof_common.proofs.scrollable_overflow.propagates.Statement.{statement}
@@ -8,29 +9,23 @@ use Rattle.style.proofs.Contain.contains_scrollable_overflow.Reads as contains-
 use Rattle.style.proofs.Overflow.is_visible.Reads as is-visible-reads
 use Rattle.style.proofs.OverflowPoint.is_scroll_container.Reads as is-scroll-container-reads
 
--- src/scrollable_overflow.rt:20:8
 is-scroll-container-requires : tie.Need-is-scroll-container-requires
 is-scroll-container-requires c κs = search needs
 
--- src/scrollable_overflow.rt:21:9
 returns : tie.Need-returns
 unfolding propagates
 returns c = simp (← c .before .is-scroll-container .ensures, c .if1 .taken)
 
--- src/scrollable_overflow.rt:23:8
 contains-scrollable-overflow-requires : tie.Need-contains-scrollable-overflow-requires
 contains-scrollable-overflow-requires c κs = search needs
 
--- src/scrollable_overflow.rt:24:9
 returns-2 : tie.Need-returns-2
 unfolding propagates
 returns-2 c = simp (← c .before .before .before .is-scroll-container .ensures, c .before .before .if1 .left, ← c .before .contains-scrollable-overflow .ensures, c .if2 .taken)
 
--- src/scrollable_overflow.rt:26:5
 is-visible-requires : tie.Need-is-visible-requires
 is-visible-requires c κs = search needs
 
--- src/scrollable_overflow.rt:17:1
 returns-3 : tie.Need-returns-3
 unfolding propagates
 returns-3 c = simp (← c .before .before .before .before .is-scroll-container .ensures, c .before .before .before .if1 .left, ← c .before .before .contains-scrollable-overflow .ensures, c .before .if2 .left, ← c .is-visible .ensures)

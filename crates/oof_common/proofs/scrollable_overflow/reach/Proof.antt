@@ -1,3 +1,4 @@
+-- Generated: tools/proof/write-skeletons, then tools/proof/list-facts --fill.
 use Rattle.oof_common.specs.ScrollableOverflow.{reach}
 use borrow.Author.Needs.{needs}
 use Rattle.oof_common.proofs.scrollable_overflow.reach.Statement.{statement}
@@ -7,20 +8,16 @@ use Rattle.oof_common.proofs.scrollable_overflow.reach.Lts as lts
 use Rattle.util.proofs.sys.f32_max.Reads as f32-max-reads
 use Rattle.util.proofs.sys.f32_min.Reads as f32-min-reads
 
--- src/scrollable_overflow.rt:35:20
 f32-min-requires : tie.Need-f32-min-requires
 f32-min-requires c κs = search needs
 
--- src/scrollable_overflow.rt:36:18
 f32-max-requires : tie.Need-f32-max-requires
 f32-max-requires c κs = search needs
 
--- src/scrollable_overflow.rt:34:9
 returns : tie.Need-returns
 unfolding reach
 returns c = simp (c .before .before .if1 .taken, ← c .before .f32-min .ensures, ← c .f32-max .ensures)
 
--- src/scrollable_overflow.rt:30:1
 returns-2 : tie.Need-returns-2
 unfolding reach
 returns-2 c = simp (c .if1 .left)

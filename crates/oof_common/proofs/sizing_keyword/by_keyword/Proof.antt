@@ -1,3 +1,4 @@
+-- Generated: tools/proof/write-skeletons, then tools/proof/list-facts --fill.
 use Rattle.oof_common.specs.SizingKeyword.{byKeyword}
 use borrow.Author.Needs.{needs}
 use Rattle.oof_common.proofs.sizing_keyword.by_keyword.Statement.{statement}
@@ -5,47 +6,37 @@ use Rattle.oof_common.proofs.sizing_keyword.by_keyword.Tie as tie
 use Rattle.oof_common.proofs.sizing_keyword.by_keyword.Reads as reads
 use Rattle.oof_common.proofs.sizing_keyword.by_keyword.Lts as lts
 
--- src/sizing_keyword.rt:35:71
 enum-told : tie.Need-enum-told
 enum-told c = search needs
 
--- src/sizing_keyword.rt:36:71
 enum-told-2 : tie.Need-enum-told-2
 enum-told-2 c = search needs
 
--- src/sizing_keyword.rt:38:46
 enum-told-3 : tie.Need-enum-told-3
 enum-told-3 c = search needs
 
--- src/sizing_keyword.rt:40:40
 enum-known-keyword : tie.Need-enum-known-keyword
 enum-known-keyword c = search needs
 
--- src/sizing_keyword.rt:43:35
 enum-told-4 : tie.Need-enum-told-4
 enum-told-4 c = search needs
 
--- src/sizing_keyword.rt:31:1
 returns : tie.Need-returns
 unfolding byKeyword
 returns c = simp (c .enum-told .given .1)
 
--- src/sizing_keyword.rt:31:1
 returns-2 : tie.Need-returns-2
 unfolding byKeyword
 returns-2 c = simp (c .enum-told2 .given .1)
 
--- src/sizing_keyword.rt:31:1
 returns-3 : tie.Need-returns-3
 unfolding byKeyword
 returns-3 c = simp (c .enum-told3 .given .1)
 
--- src/sizing_keyword.rt:31:1
 returns-4 : tie.Need-returns-4
 unfolding byKeyword
 returns-4 c = simp (c .before .keyword .given .1)
 
--- src/sizing_keyword.rt:31:1
 returns-5 : tie.Need-returns-5
 unfolding byKeyword
 returns-5 c = simp (c .enum-told4 .given .1)

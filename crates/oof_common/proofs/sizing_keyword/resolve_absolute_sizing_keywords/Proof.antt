@@ -1,3 +1,4 @@
+-- Generated: tools/proof/write-skeletons, then tools/proof/list-facts --fill.
 use Rattle.oof_common.specs.SizingKeyword.{keywordsOf}
 use borrow.Author.Needs.{needs}
 use Rattle.oof_common.proofs.sizing_keyword.resolve_absolute_sizing_keywords.Statement.{
@@ -8,15 +9,12 @@ use Rattle.oof_common.proofs.sizing_keyword.resolve_absolute_sizing_key
 use Rattle.oof_common.proofs.sizing_keyword.resolve_absolute_sizing_keywords.Lts as lts
 use Rattle.oof_common.proofs.sizing_keyword.if_absent.Reads as if-absent-reads
 
--- src/sizing_keyword.rt:109:16
 if-absent-requires : tie.Need-if-absent-requires
 if-absent-requires c κs = search needs
 
--- src/sizing_keyword.rt:110:17
 if-absent-requires-2 : tie.Need-if-absent-requires-2
 if-absent-requires-2 c κs = search needs
 
--- src/sizing_keyword.rt:96:1
 returns : tie.Need-returns
 unfolding keywordsOf
 returns c = simp (← c .before .if-absent .ensures, ← c .if-absent2 .ensures)

@@ -1,3 +1,4 @@
+-- Generated skeleton (tools/proof/write-skeletons), answers by hand.
 use Rattle.run.specs.Run.{asking, boxAtHand}
 use borrow.Author.Needs.{needs}
 use Rattle.placer.proofs.boxes.ask.Statement.{statement}
@@ -8,20 +9,16 @@ use Rattle.oof_box.proofs.dialogue.next_question.Reads as next-question-reads
 use Rattle.placer.proofs.boxes.box_at_hand.Reads as box-at-hand-reads
 use Rattle.placer.proofs.boxes.style_of.Reads as style-of-reads
 
--- src/boxes.rt:81:9
 box-at-hand-requires : tie.Need-box-at-hand-requires
 box-at-hand-requires c κs = search needs
 
--- src/boxes.rt:82:9
 style-of-requires : tie.Need-style-of-requires
 unfolding boxAtHand
 style-of-requires c κs = rw (c .box-at-hand .ensures) (c .before .before .before .before .pre .styled)
 
--- src/boxes.rt:83:9
 next-question-requires : tie.Need-next-question-requires
 next-question-requires c κs = search needs
 
--- src/boxes.rt:69:1
 returns : tie.Need-returns
 unfolding asking
 returns c = simp (← c .before .before .box-at-hand .ensures, ← c .before .style-of .ensures, ← c .next-question .ensures)

@@ -1,3 +1,4 @@
+-- Generated: tools/proof/write-skeletons, then tools/proof/list-facts --fill.
 use Rattle.run.specs.Run.{boxAtHand}
 use borrow.Author.Needs.{needs}
 use Rattle.placer.proofs.boxes.box_at_hand.Statement.{statement}
@@ -6,15 +7,12 @@ use Rattle.placer.proofs.boxes.box_at_hand.Reads as reads
 use Rattle.placer.proofs.boxes.box_at_hand.Lts as lts
 use Rattle.tree_record.proofs.candidate.candidate_at.Reads as candidate-at-reads
 
--- src/boxes.rt:57:38
 sub-candidate-at : tie.Need-sub-candidate-at
 sub-candidate-at c = search needs
 
--- src/boxes.rt:57:5
 candidate-at-requires : tie.Need-candidate-at-requires
 candidate-at-requires c κs = search needs
 
--- src/boxes.rt:53:1
 returns : tie.Need-returns
 unfolding boxAtHand
 returns c = simp (← c .candidate-at .ensures)

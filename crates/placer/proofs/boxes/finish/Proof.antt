@@ -1,3 +1,4 @@
+-- Generated: tools/proof/write-skeletons, then tools/proof/list-facts --fill.
 use Rattle.run.specs.Run.{finishing}
 use mathlib.Core.Path.{refl}
 use Rattle.placer.proofs.boxes.finish.Statement.{statement}
@@ -5,7 +6,6 @@ use Rattle.placer.proofs.boxes.finish.Tie as tie
 use Rattle.placer.proofs.boxes.finish.Reads as reads
 use Rattle.placer.proofs.boxes.finish.Lts as lts
 
--- src/boxes.rt:99:1
 returns : tie.Need-returns
 unfolding finishing
 returns c = refl

@@ -1,3 +1,4 @@
+-- Generated skeleton (tools/proof/write-skeletons), answers by hand.
 use Rattle.run.specs.Run.{proceeding}
 use borrow.Author.Tests.{lt-ltb, le-ltb}
 use borrow.Author.Needs.{needs}
@@ -8,24 +9,19 @@ use Rattle.placer.proofs.boxes.proceed.Lts as lts
 use Rattle.placer.proofs.boxes.ask.Reads as ask-reads
 use Rattle.placer.proofs.boxes.finish.Reads as finish-reads
 
--- src/boxes.rt:128:20
 add-t9 : tie.Need-add-t9
 add-t9 c = search needs
 
--- src/boxes.rt:131:9
 ask-requires : tie.Need-ask-requires
 ask-requires c κs = c .before .before .before .before .before .before .before .pre (c .before .if1 .taken)
 
--- src/boxes.rt:131:9
 returns : tie.Need-returns
 unfolding proceeding
 returns c = rw (lt-ltb _ _ (c .before .before .if1 .taken)) (c .ask .ensures)
 
--- src/boxes.rt:133:5
 finish-requires : tie.Need-finish-requires
 finish-requires c κs = search needs
 
--- src/boxes.rt:120:1
 returns-2 : tie.Need-returns-2
 unfolding proceeding
 returns-2 c = rw (le-ltb _ _ (c .before .if1 .left)) (c .finish .ensures)

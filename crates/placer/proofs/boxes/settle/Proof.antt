@@ -1,3 +1,4 @@
+-- Generated skeleton (tools/proof/write-skeletons), answers by hand.
 use native.Mathlib.Omega.{arith}
 use Rattle.placer.proofs.Calls.{few-answered}
 use Rattle.placer.proofs.Replies.{no-room, next-box, placed}
@@ -20,7 +21,6 @@ use Rattle.placer.proofs.boxes.style_of.Reads as style-of-reads
 use Rattle.sweep.proofs.sweep.Reads as sweep-reads
 use Rattle.tree_record.proofs.layout.write_layout.Reads as write-layout-reads
 
--- src/boxes.rt:172:9
 box-at-hand-requires : tie.Need-box-at-hand-requires
 box-at-hand-requires c κs =
     let a = c .before .before .before .before .before .before .before .before .before .before .before .before .before .args in
@@ -28,7 +28,6 @@ box-at-hand-requires c κs =
     let h = at-hand (a .s) (LaidOut (a .overflow)) (a .surfaced .now) l (reply-passed (a .s) (LaidOut (a .overflow)) (a .surfaced .now) l (c .before .before .before .before .before .before .before .before .before .before .before .before .before .pre)) in
     (h .first, h .listed)
 
--- src/boxes.rt:173:9
 style-of-requires : tie.Need-style-of-requires
 unfolding boxAtHand
 style-of-requires c κs =
@@ -36,38 +35,30 @@ style-of-requires c κs =
     let l = lent (a .styles .now) (a .layouts .now) (a .working .now) (a .unclaimed .now) in
     rw (c .box-at-hand .ensures) (at-hand (a .s) (LaidOut (a .overflow)) (a .surfaced .now) l (reply-passed (a .s) (LaidOut (a .overflow)) (a .surfaced .now) l (c .before .before .before .before .before .before .before .before .before .before .before .before .before .before .pre)) .styled)
 
--- src/boxes.rt:174:9
 layout-oof-box-requires : tie.Need-layout-oof-box-requires
 layout-oof-box-requires c κs = search needs
 
--- src/boxes.rt:178:11
 sweep-requires : tie.Need-sweep-requires
 sweep-requires c κs = search needs
 
--- src/boxes.rt:186:24
 enum-known-refusal : tie.Need-enum-known-refusal
 enum-known-refusal c = search needs
 
--- src/boxes.rt:186:36
 refuse-requires : tie.Need-refuse-requires
 refuse-requires c κs = search needs
 
--- src/boxes.rt:187:21
 enum-known-filled : tie.Need-enum-known-filled
 enum-known-filled c = search needs
 
--- src/boxes.rt:188:43
 index-requires : tie.Need-index-requires
 index-requires c κs = search needs
 
--- src/boxes.rt:188:13
 write-layout-requires : tie.Need-write-layout-requires
 write-layout-requires c κs =
     let a = c .before .before .before .before .before .before .before .before .before .before .before .before .before .before .before .before .before .before .before .before .before .before .before .before .before .before .before .before .before .before .before .args in
     let l = lent (a .styles .now) (a .layouts .now) (a .working .now) (a .unclaimed .now) in
     rw (c .index .ensures, c .before .before .before .before .before .before .before .before .before .before .before .before .before .before .before .before .before .box-at-hand .ensures) (layout-room (a .s) (LaidOut (a .overflow)) (a .surfaced .now) l (reply-passed (a .s) (LaidOut (a .overflow)) (a .surfaced .now) l (c .before .before .before .before .before .before .before .before .before .before .before .before .before .before .before .before .before .before .before .before .before .before .before .before .before .before .before .before .before .before .before .pre)))
 
--- src/boxes.rt:192:27
 add-t36 : tie.Need-add-t36
 add-t36 c =
     let a = c .before .before .before .before .before .before .before .before .before .before .before .before .before .before .before .before .before .before .before .before .before .before .before .before .before .before .before .before .before .before .before .before .before .before .before .args in
@@ -75,11 +66,9 @@ add-t36 c =
     let few = few-answered (a .s) (LaidOut (a .overflow)) (a .surfaced .now) l (reply-passed (a .s) (LaidOut (a .overflow)) (a .surfaced .now) l (c .before .before .before .before .before .before .before .before .before .before .before .before .before .before .before .before .before .before .before .before .before .before .before .before .before .before .before .before .before .before .before .before .before .before .before .pre)) in
     record { fits = omega (arith, few) }
 
--- src/boxes.rt:194:54
 union-requires : tie.Need-union-requires
 union-requires c κs = search needs
 
--- src/boxes.rt:194:13
 proceed-requires : tie.Need-proceed-requires
 proceed-requires c κs =
     λ more.
@@ -88,34 +77,27 @@ proceed-requires c κs =
     next-box (a .s) (a .overflow) (a .surfaced .now) l _ _ _ (reply-passed (a .s) (LaidOut (a .overflow)) (a .surfaced .now) l (c .before .before .before .before .before .before .before .before .before .before .before .before .before .before .before .before .before .before .before .before .before .before .before .before .before .before .before .before .before .before .before .before .before .before .before .before .before .pre))
     (rw (c .before .before .before .before .before .before .before .before .before .before .before .before .before .before .before .before .before .before .before .before .before .layout-oof-box .ensures, c .before .before .before .before .before .before .before .before .before .before .before .before .before .before .before .before .before .before .before .before .before .before .style-of .ensures, c .before .before .before .before .before .before .before .before .before .before .before .before .before .before .before .before .before .before .before .before .before .before .before .box-at-hand .ensures, c .before .before .before .before .before .before .before .before .before .filled .given .1) at (c .before .before .before .before .before .before .before .before .before .before .before .before .before .before .before .sweep .ensures)) more
 
--- src/boxes.rt:153:1
 same-length : tie.Need-same-length
 same-length c = search needs
 
--- src/boxes.rt:153:1
 same-length-2 : tie.Need-same-length-2
 same-length-2 c = search needs
 
--- src/boxes.rt:153:1
 returns : tie.Need-returns
 returns c =
     let a = c .before .before .before .before .before .before .before .before .before .before .before .before .before .before .before .before .before .before .before .before .before .before .before .before .before .before .before .before .before .before .args in
     no-room (a .s) (a .overflow) (a .surfaced .now) (lent (a .styles .now) (a .layouts .now) (a .working .now) (a .unclaimed .now)) _ _ _ _
     (rw (c .before .before .before .before .before .before .before .before .before .before .before .before .before .before .layout-oof-box .ensures, c .before .before .before .before .before .before .before .before .before .before .before .before .before .before .before .style-of .ensures, c .before .before .before .before .before .before .before .before .before .before .before .before .before .before .before .before .box-at-hand .ensures, c .before .before .refusal .given .1) at (c .before .before .before .before .before .before .before .before .sweep .ensures)) (c .refuse .ensures)
 
--- src/boxes.rt:153:1
 same-length-3 : tie.Need-same-length-3
 same-length-3 c = search needs
 
--- src/boxes.rt:153:1
 same-length-4 : tie.Need-same-length-4
 same-length-4 c = c .before .before .before .before .before .before .before .before .before .before .before .before .before .before .before .before .sweep .kept .1 .1 .1 .0
 
--- src/boxes.rt:153:1
 same-length-5 : tie.Need-same-length-5
 same-length-5 c = c .before .before .before .before .before .before .before .before .before .before .before .before .before .before .before .before .sweep .kept .1 .1 .1 .1 .0
 
--- src/boxes.rt:153:1
 returns-2 : tie.Need-returns-2
 returns-2 c =
     let a = c .before .before .before .before .before .before .before .before .before .before .before .before .before .before .before .before .before .before .before .before .before .before .before .before .before .before .before .before .before .before .before .before .before .before .before .before .before .before .args in

@@ -1,3 +1,4 @@
+-- Generated: tools/proof/write-skeletons, then tools/proof/list-facts --fill.
 use borrow.Author.Needs.{needs}
 use Rattle.placer.proofs.boxes.style_of.Statement.{statement}
 use Rattle.placer.proofs.boxes.style_of.Tie as tie
@@ -6,15 +7,12 @@ use Rattle.placer.proofs.boxes.style_of.Lts as lts
 use Rattle.placer.proofs.boxes.index.Reads as index-reads
 use Rattle.style_record.proofs.decode.style_at.Reads as style-at-reads
 
--- src/boxes.rt:65:30
 index-requires : tie.Need-index-requires
 index-requires c κs = search needs
 
--- src/boxes.rt:65:5
 style-at-requires : tie.Need-style-at-requires
 style-at-requires c κs = search needs
 
--- src/boxes.rt:61:1
 returns : tie.Need-returns
 returns c = simp (← c .before .index .ensures, ← c .style-at .ensures)
 

@@ -1,3 +1,4 @@
+-- Generated: tools/proof/write-skeletons, then tools/proof/list-facts --fill.
 use Rattle.run.specs.Refusals.{badSlices}
 use borrow.Author.Needs.{needs}
 use Rattle.placer_check.proofs.lent.are_slices_bad.Statement.{statement}
@@ -7,29 +8,23 @@ use Rattle.placer_check.proofs.lent.are_slices_bad.Lts as lts
 use Rattle.placer_check.proofs.lent.is_list_bad.Reads as is-list-bad-reads
 use Rattle.placer_check.proofs.lent.is_table_bad.Reads as is-table-bad-reads
 
--- src/lib.rt:88:8
 is-table-bad-requires : tie.Need-is-table-bad-requires
 is-table-bad-requires c κs = search needs
 
--- src/lib.rt:89:9
 returns : tie.Need-returns
 unfolding badSlices
 returns c = simp (← c .before .is-table-bad .ensures, c .if1 .taken)
 
--- src/lib.rt:91:8
 is-list-bad-requires : tie.Need-is-list-bad-requires
 is-list-bad-requires c κs = search needs
 
--- src/lib.rt:92:9
 returns-2 : tie.Need-returns-2
 unfolding badSlices
 returns-2 c = simp (← c .before .before .before .is-table-bad .ensures, c .before .before .if1 .left, ← c .before .is-list-bad .ensures, c .if2 .taken)
 
--- src/lib.rt:94:5
 is-list-bad-requires-2 : tie.Need-is-list-bad-requires-2
 is-list-bad-requires-2 c κs = search needs
 
--- src/lib.rt:85:1
 returns-3 : tie.Need-returns-3
 unfolding badSlices
 returns-3 c = simp (← c .before .before .before .before .is-table-bad .ensures, c .before .before .before .if1 .left, ← c .before .before .is-list-bad .ensures, c .before .if2 .left, ← c .is-list-bad2 .ensures)

@@ -1,3 +1,4 @@
+-- Generated: tools/proof/write-skeletons, then tools/proof/list-facts --fill.
 use Rattle.run.specs.Refusals.{badCandidate}
 use Rattle.style_record.specs.Record.{items}
 use borrow.Author.Needs.{needs}
@@ -7,11 +8,9 @@ use Rattle.placer_check.proofs.lent.is_candidate_bad.Reads as reads
 use Rattle.placer_check.proofs.lent.is_candidate_bad.Lts as lts
 use Rattle.tree_record.proofs.candidate.are_good.Reads as are-good-reads
 
--- src/lib.rt:148:6
 are-good-requires : tie.Need-are-good-requires
 are-good-requires c κs = search needs
 
--- src/lib.rt:145:1
 returns : tie.Need-returns
 unfolding badCandidate items
 returns c = simp (← c .are-good .ensures)

@@ -1,3 +1,4 @@
+-- Generated: tools/proof/write-skeletons, then tools/proof/list-facts --fill.
 use Rattle.run.specs.Refusals.{badList}
 use borrow.Author.Needs.{needs}
 use Rattle.placer_check.proofs.lent.is_list_bad.Statement.{statement}
@@ -6,16 +7,13 @@ use Rattle.placer_check.proofs.lent.is_list_bad.Reads as reads
 use Rattle.placer_check.proofs.lent.is_list_bad.Lts as lts
 use Rattle.placer_check.proofs.lent.is_ragged.Reads as is-ragged-reads
 
--- src/lib.rt:79:8
 is-ragged-requires : tie.Need-is-ragged-requires
 is-ragged-requires c κs = search needs
 
--- src/lib.rt:80:9
 returns : tie.Need-returns
 unfolding badList
 returns c = simp (← c .before .is-ragged .ensures, c .if1 .taken)
 
--- src/lib.rt:76:1
 returns-2 : tie.Need-returns-2
 unfolding badList
 returns-2 c = simp (← c .before .is-ragged .ensures, c .if1 .left)

@@ -1,3 +1,4 @@
+-- Generated: tools/proof/write-skeletons, then tools/proof/list-facts --fill.
 use Rattle.run.specs.Refusals.{badStyle}
 use borrow.Author.Needs.{needs}
 use Rattle.placer_check.proofs.lent.is_style_bad.Statement.{statement}
@@ -6,24 +7,19 @@ use Rattle.placer_check.proofs.lent.is_style_bad.Reads as reads
 use Rattle.placer_check.proofs.lent.is_style_bad.Lts as lts
 use Rattle.style_record.proofs.check.check_styles.Reads as check-styles-reads
 
--- src/lib.rt:136:11
 check-styles-requires : tie.Need-check-styles-requires
 check-styles-requires c κs = search needs
 
--- src/lib.rt:137:29
 enum-told : tie.Need-enum-told
 enum-told c = search needs
 
--- src/lib.rt:138:49
 enum-told-2 : tie.Need-enum-told-2
 enum-told-2 c = search needs
 
--- src/lib.rt:133:1
 returns : tie.Need-returns
 unfolding badStyle
 returns c = simp (← c .before .before .check-styles .ensures, c .enum-told .given .1)
 
--- src/lib.rt:133:1
 returns-2 : tie.Need-returns-2
 unfolding badStyle
 returns-2 c = simp (← c .before .before .check-styles .ensures, c .enum-told2 .given .1)

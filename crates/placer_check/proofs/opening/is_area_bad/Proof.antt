@@ -1,3 +1,4 @@
+-- Generated skeleton (tools/proof/write-skeletons), answers by hand.
 use mathlib.Core.Path.{refl}
 use Rattle.run.specs.Refusals.{badArea}
 use borrow.Author.Tests.{le-leb, le-ltb, lt-leb, lt-ltb}
@@ -6,22 +7,18 @@ use Rattle.placer_check.proofs.opening.is_area_bad.Tie as tie
 use Rattle.placer_check.proofs.opening.is_area_bad.Reads as reads
 use Rattle.placer_check.proofs.opening.is_area_bad.Lts as lts
 
--- src/lib.rt:41:9
 returns : tie.Need-returns
 unfolding badArea
 returns c = simp (lt-ltb _ _ (c .if1 .taken), lt-leb _ _ (c .if1 .taken))
 
--- src/lib.rt:44:9
 returns-2 : tie.Need-returns-2
 unfolding badArea
 returns-2 c = simp (le-leb _ _ (c .before .before .if1 .left), le-ltb _ _ (c .before .before .if1 .left), lt-ltb _ _ (c .if2 .taken), lt-leb _ _ (c .if2 .taken))
 
--- src/lib.rt:47:9
 returns-3 : tie.Need-returns-3
 unfolding badArea
 returns-3 c = simp (le-leb _ _ (c .before .before .before .before .if1 .left), le-ltb _ _ (c .before .before .before .before .if1 .left), le-leb _ _ (c .before .before .if2 .left), le-ltb _ _ (c .before .before .if2 .left), lt-ltb _ _ (c .if3 .taken), lt-leb _ _ (c .if3 .taken))
 
--- src/lib.rt:37:1
 returns-4 : tie.Need-returns-4
 unfolding badArea
 returns-4 c = rw (le-ltb _ _ (c .before .before .before .before .before .if1 .left), le-ltb _ _ (c .before .before .before .if2 .left), le-ltb _ _ (c .before .if3 .left)) refl

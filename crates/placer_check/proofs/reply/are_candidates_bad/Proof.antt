@@ -1,3 +1,4 @@
+-- Generated skeleton (tools/proof/write-skeletons), answers by hand.
 use Rattle.placer_check.proofs.Steps.{looked-records}
 use mathlib.Core.Path.{_∙_}
 use borrow.Author.Needs.{needs}
@@ -8,23 +9,18 @@ use Rattle.placer_check.proofs.reply.are_candidates_bad.Lts as lts
 use Rattle.placer_check.proofs.lent.is_candidate_bad.Reads as is-candidate-bad-reads
 use Rattle.placer_check.proofs.reply.looked_at.Reads as looked-at-reads
 
--- src/lib.rt:183:8
 is-candidate-bad-requires : tie.Need-is-candidate-bad-requires
 is-candidate-bad-requires c κs = search needs
 
--- src/lib.rt:184:9
 returns : tie.Need-returns
 returns c = simp (← c .before .is-candidate-bad .ensures, c .if1 .taken)
 
--- src/lib.rt:189:9
 looked-at-requires : tie.Need-looked-at-requires
 looked-at-requires c κs = search needs
 
--- src/lib.rt:186:5
 is-candidate-bad-requires-2 : tie.Need-is-candidate-bad-requires-2
 is-candidate-bad-requires-2 c κs = search needs
 
--- src/lib.rt:174:1
 returns-2 : tie.Need-returns-2
 returns-2 c =
     let a = c .before .before .before .before .before .before .before .args in

@@ -1,3 +1,4 @@
+-- Generated skeleton (tools/proof/write-skeletons), answers by hand.
 use mathlib.Core.Path.{refl}
 use Rattle.run.specs.Refusals.{otherLengths}
 use borrow.Author.Tests.{eq-eqb, ne-eqb}
@@ -6,22 +7,18 @@ use Rattle.placer_check.proofs.reply.are_lengths_other.Tie as tie
 use Rattle.placer_check.proofs.reply.are_lengths_other.Reads as reads
 use Rattle.placer_check.proofs.reply.are_lengths_other.Lts as lts
 
--- src/lib.rt:108:9
 returns : tie.Need-returns
 unfolding otherLengths
 returns c = simp (ne-eqb _ _ (c .if1 .taken))
 
--- src/lib.rt:111:9
 returns-2 : tie.Need-returns-2
 unfolding otherLengths
 returns-2 c = simp (eq-eqb _ _ (c .before .before .if1 .left), ne-eqb _ _ (c .if2 .taken))
 
--- src/lib.rt:114:9
 returns-3 : tie.Need-returns-3
 unfolding otherLengths
 returns-3 c = simp (eq-eqb _ _ (c .before .before .before .before .if1 .left), eq-eqb _ _ (c .before .before .if2 .left), ne-eqb _ _ (c .if3 .taken))
 
--- src/lib.rt:98:1
 returns-4 : tie.Need-returns-4
 unfolding otherLengths
 returns-4 c = rw (eq-eqb _ _ (c .before .before .before .before .before .if1 .left), eq-eqb _ _ (c .before .before .before .if2 .left), eq-eqb _ _ (c .before .if3 .left)) refl

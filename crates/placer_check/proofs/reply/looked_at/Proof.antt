@@ -1,38 +1,31 @@
+-- Generated: tools/proof/write-skeletons, then tools/proof/list-facts --fill.
 use borrow.Author.Needs.{needs}
 use Rattle.placer_check.proofs.reply.looked_at.Statement.{statement}
 use Rattle.placer_check.proofs.reply.looked_at.Tie as tie
 use Rattle.placer_check.proofs.reply.looked_at.Reads as reads
 use Rattle.placer_check.proofs.reply.looked_at.Lts as lts
 
--- src/lib.rt:124:27
 enum-told : tie.Need-enum-told
 enum-told c = search needs
 
--- src/lib.rt:125:28
 enum-told-2 : tie.Need-enum-told-2
 enum-told-2 c = search needs
 
--- src/lib.rt:126:29
 enum-told-3 : tie.Need-enum-told-3
 enum-told-3 c = search needs
 
--- src/lib.rt:127:30
 enum-told-4 : tie.Need-enum-told-4
 enum-told-4 c = search needs
 
--- src/lib.rt:120:1
 returns : tie.Need-returns
 returns c = search needs
 
--- src/lib.rt:120:1
 returns-2 : tie.Need-returns-2
 returns-2 c = search needs
 
--- src/lib.rt:120:1
 returns-3 : tie.Need-returns-3
 returns-3 c = search needs
 
--- src/lib.rt:120:1
 returns-4 : tie.Need-returns-4
 returns-4 c = simp (c .enum-told4 .given .1)
 

@@ -1,3 +1,4 @@
+-- Generated: tools/proof/write-skeletons, then tools/proof/list-facts --fill.
 use Rattle.run.specs.Run.{takenBy}
 use borrow.Author.Needs.{needs}
 use Rattle.placer_check.proofs.reply.taken_by.Statement.{statement}
@@ -6,24 +7,19 @@ use Rattle.placer_check.proofs.reply.taken_by.Reads as reads
 use Rattle.placer_check.proofs.reply.taken_by.Lts as lts
 use Rattle.oof_box.proofs.question.Replies.take.Reads as take-reads
 
--- src/lib.rt:160:31
 enum-told : tie.Need-enum-told
 enum-told c = search needs
 
--- src/lib.rt:161:26
 enum-known-progress : tie.Need-enum-known-progress
 enum-known-progress c = search needs
 
--- src/lib.rt:161:36
 take-requires : tie.Need-take-requires
 take-requires c κs = search needs
 
--- src/lib.rt:154:1
 returns : tie.Need-returns
 unfolding takenBy
 returns c = simp (c .enum-told .given .1)
 
--- src/lib.rt:154:1
 returns-2 : tie.Need-returns-2
 unfolding takenBy
 returns-2 c = simp (c .before .before .progress .given .1, ← c .take .ensures)

@@ -1,3 +1,4 @@
+-- Generated: tools/proof/write-skeletons, then tools/proof/list-facts --fill.
 use Rattle.screen.specs.Field.{codeOf}
 use borrow.Author.Tests.{eq-eqb, le-leb, le-ltb, lt-leb, lt-ltb, ne-eqb}
 use borrow.Author.Needs.{needs}
@@ -6,39 +7,31 @@ use Rattle.screen.proofs.field.code_of.Tie as tie
 use Rattle.screen.proofs.field.code_of.Reads as reads
 use Rattle.screen.proofs.field.code_of.Lts as lts
 
--- src/field.rt:107:31
 enum-told : tie.Need-enum-told
 enum-told c = search needs
 
--- src/field.rt:108:25
 enum-known-numeral : tie.Need-enum-known-numeral
 enum-known-numeral c = search needs
 
--- src/field.rt:111:21
 returns : tie.Need-returns
 unfolding codeOf
 returns c = simp (c .before .before .before .numeral .given .1, c .before .if1 .taken, eq-eqb _ _ (c .if2 .taken))
 
--- src/field.rt:113:17
 returns-2 : tie.Need-returns-2
 unfolding codeOf
 returns-2 c = simp (c .before .before .before .numeral .given .1, c .before .if1 .taken, ne-eqb _ _ (c .if2 .left))
 
--- src/field.rt:116:33
 cast-t7 : tie.Need-cast-t7
 cast-t7 c = search needs
 
--- src/field.rt:116:17
 returns-3 : tie.Need-returns-3
 unfolding codeOf
 returns-3 c = simp (c .before .before .before .numeral .given .1, c .before .if1 .left, le-leb _ _ (c .if3 .taken), le-ltb _ _ (c .if3 .taken))
 
--- src/field.rt:103:1
 returns-4 : tie.Need-returns-4
 unfolding codeOf
 returns-4 c = simp (c .enum-told .given .1)
 
--- src/field.rt:103:1
 returns-5 : tie.Need-returns-5
 unfolding codeOf
 returns-5 c = simp (c .before .before .before .numeral .given .1, c .before .if1 .left, lt-ltb _ _ (c .if3 .left), lt-leb _ _ (c .if3 .left))

@@ -1,3 +1,4 @@
+-- Generated skeleton (tools/proof/write-skeletons), answers by hand.
 use Rattle.screen.proofs.Text.{unsigned-none, no-digits}
 use native.Mathlib.Omega.{arith}
 use borrow.Author.Needs.{needs}

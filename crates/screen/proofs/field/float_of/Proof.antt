@@ -1,3 +1,4 @@
+-- Generated: tools/proof/write-skeletons, then tools/proof/list-facts --fill.
 use Rattle.screen.specs.Field.{floatOf}
 use borrow.Author.Needs.{needs}
 use Rattle.screen.proofs.field.float_of.Statement.{statement}
@@ -7,28 +8,22 @@ use Rattle.screen.proofs.field.float_of.Lts as lts
 use Rattle.screen.proofs.field.present_word.Reads as present-word-reads
 use Rattle.util.proofs.eighths.from_eighths.Reads as from-eighths-reads
 
--- src/field.rt:137:31
 enum-told : tie.Need-enum-told
 enum-told c = search needs
 
--- src/field.rt:138:25
 enum-known-numeral : tie.Need-enum-known-numeral
 enum-known-numeral c = search needs
 
--- src/field.rt:138:57
 from-eighths-requires : tie.Need-from-eighths-requires
 from-eighths-requires c κs = search needs
 
--- src/field.rt:138:44
 present-word-requires : tie.Need-present-word-requires
 present-word-requires c κs = search needs
 
--- src/field.rt:133:1
 returns : tie.Need-returns
 unfolding floatOf
 returns c = simp (c .enum-told .given .1)
 
--- src/field.rt:133:1
 returns-2 : tie.Need-returns-2
 unfolding floatOf
 returns-2 c = simp (c .before .before .before .numeral .given .1, ← c .before .from-eighths .ensures, ← c .present-word .ensures)

@@ -1,3 +1,4 @@
+-- Generated: tools/proof/write-skeletons, then tools/proof/list-facts --fill.
 use Rattle.screen.specs.Field.{isDigit}
 use borrow.Author.Tests.{le-leb, le-ltb, lt-leb, lt-ltb}
 use Rattle.screen.proofs.field.is_digit.Statement.{statement}
@@ -5,12 +6,10 @@ use Rattle.screen.proofs.field.is_digit.Tie as tie
 use Rattle.screen.proofs.field.is_digit.Reads as reads
 use Rattle.screen.proofs.field.is_digit.Lts as lts
 
--- src/field.rt:30:9
 returns : tie.Need-returns
 unfolding isDigit
 returns c = simp (lt-ltb _ _ (c .if1 .taken), lt-leb _ _ (c .if1 .taken))
 
--- src/field.rt:26:1
 returns-2 : tie.Need-returns-2
 unfolding isDigit
 returns-2 c = simp (le-leb _ _ (c .if1 .left), le-ltb _ _ (c .if1 .left))

@@ -1,3 +1,4 @@
+-- Generated skeleton (tools/proof/write-skeletons), answers by hand.
 use mathlib.Core.Path.{refl}
 use Rattle.screen.specs.Field.{isGood}
 use borrow.Author.Needs.{needs}
@@ -7,24 +8,19 @@ use Rattle.screen.proofs.field.is_good.Reads as reads
 use Rattle.screen.proofs.field.is_good.Lts as lts
 use Rattle.screen.proofs.field.word_at.Reads as word-at-reads
 
--- src/field.rt:158:9
 word-at-requires : tie.Need-word-at-requires
 word-at-requires c κs = search needs
 
--- src/field.rt:160:24
 enum-told : tie.Need-enum-told
 enum-told c = search needs
 
--- src/field.rt:161:24
 enum-told-2 : tie.Need-enum-told-2
 enum-told-2 c = search needs
 
--- src/field.rt:154:1
 returns : tie.Need-returns
 unfolding isGood
 returns c = rw (← c .before .before .word-at .ensures, c .enum-told .given .1) refl
 
--- src/field.rt:154:1
 returns-2 : tie.Need-returns-2
 unfolding isGood
 returns-2 c = rw (← c .before .before .word-at .ensures, c .enum-told2 .given .1) refl

@@ -1,3 +1,4 @@
+-- Generated skeleton (tools/proof/write-skeletons), answers by hand.
 use native.Mathlib.Omega.{arith}
 use mathlib.Core.Path.{sym, _∙_}
 use Rattle.screen.proofs.Text.{field-rest, signed-none, signed-minus, signed-plus, signed-plain}
@@ -9,51 +10,39 @@ use Rattle.screen.proofs.field.numeral_at.Lts as lts
 use Rattle.screen.proofs.field.digits.Reads as digits-reads
 use Rattle.screen.proofs.field.skip_blanks.Reads as skip-blanks-reads
 
--- src/field.rt:87:15
 add-end : tie.Need-add-end
 add-end c = search needs
 
--- src/field.rt:88:9
 skip-blanks-requires : tie.Need-skip-blanks-requires
 skip-blanks-requires c κs = search needs
 
--- src/field.rt:90:9
 returns : tie.Need-returns
 returns c = sym (field-rest _ _ _ (c .before .skip-blanks .ensures) ∙ signed-none _ _ _ (omega arith))
 
--- src/field.rt:92:13
 shared-slice-read-b : tie.Need-shared-slice-read-b
 shared-slice-read-b c = search needs
 
--- src/field.rt:94:29
 add-digits : tie.Need-add-digits
 add-digits c = search needs
 
--- src/field.rt:94:9
 digits-requires : tie.Need-digits-requires
 digits-requires c κs = search needs
 
--- src/field.rt:94:9
 returns-2 : tie.Need-returns-2
 returns-2 c = c .digits .ensures ∙ sym (field-rest _ _ _ (c .before .before .before .before .skip-blanks .ensures) ∙ signed-minus _ _ _ (omega arith) (omega arith) (c .before .if2 .taken))
 
--- src/field.rt:97:29
 add-digits-2 : tie.Need-add-digits-2
 add-digits-2 c = search needs
 
--- src/field.rt:97:9
 digits-requires-2 : tie.Need-digits-requires-2
 digits-requires-2 c κs = search needs
 
--- src/field.rt:97:9
 returns-3 : tie.Need-returns-3
 returns-3 c = c .digits2 .ensures ∙ sym (field-rest _ _ _ (c .before .before .before .before .before .skip-blanks .ensures) ∙ signed-plus _ _ _ (omega arith) (omega arith) (c .before .before .if2 .left) (c .before .if3 .taken))
 
--- src/field.rt:99:5
 digits-requires-3 : tie.Need-digits-requires-3
 digits-requires-3 c κs = search needs
 
--- src/field.rt:83:1
 returns-4 : tie.Need-returns-4
 returns-4 c = c .digits3 .ensures ∙ sym (field-rest _ _ _ (c .before .before .before .before .before .skip-blanks .ensures) ∙ signed-plain _ _ _ (omega arith) (omega arith) (c .before .before .if2 .left) (c .before .if3 .left))
 

@@ -1,3 +1,4 @@
+-- Generated: tools/proof/write-skeletons, then tools/proof/list-facts --fill.
 use Rattle.screen.specs.Field.{present}
 use borrow.Author.Needs.{needs}
 use Rattle.screen.proofs.field.present_word.Statement.{statement}
@@ -6,24 +7,19 @@ use Rattle.screen.proofs.field.present_word.Reads as reads
 use Rattle.screen.proofs.field.present_word.Lts as lts
 use Rattle.util.proofs.bits.to_word.Reads as to-word-reads
 
--- src/field.rt:127:27
 enum-told : tie.Need-enum-told
 enum-told c = search needs
 
--- src/field.rt:128:24
 enum-known-x : tie.Need-enum-known-x
 enum-known-x c = search needs
 
--- src/field.rt:128:43
 to-word-requires : tie.Need-to-word-requires
 to-word-requires c κs = search needs
 
--- src/field.rt:123:1
 returns : tie.Need-returns
 unfolding present
 returns c = simp (c .enum-told .given .1)
 
--- src/field.rt:123:1
 returns-2 : tie.Need-returns-2
 unfolding present
 returns-2 c = simp (c .before .before .x .given .1, ← c .to-word .ensures)

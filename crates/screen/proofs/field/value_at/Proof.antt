@@ -1,3 +1,4 @@
+-- Generated skeleton (tools/proof/write-skeletons), answers by hand.
 use mathlib.Core.Path.{refl}
 use Rattle.screen.specs.Field.{valueOf}
 use borrow.Author.Needs.{needs}
@@ -7,24 +8,19 @@ use Rattle.screen.proofs.field.value_at.Reads as reads
 use Rattle.screen.proofs.field.value_at.Lts as lts
 use Rattle.screen.proofs.field.word_at.Reads as word-at-reads
 
--- src/field.rt:170:9
 word-at-requires : tie.Need-word-at-requires
 word-at-requires c κs = search needs
 
--- src/field.rt:172:24
 enum-told : tie.Need-enum-told
 enum-told c = search needs
 
--- src/field.rt:173:18
 enum-known-word : tie.Need-enum-known-word
 enum-known-word c = search needs
 
--- src/field.rt:166:1
 returns : tie.Need-returns
 unfolding valueOf
 returns c = rw (← c .before .before .word-at .ensures, c .enum-told .given .1) refl
 
--- src/field.rt:166:1
 returns-2 : tie.Need-returns-2
 unfolding valueOf
 returns-2 c = rw (← c .before .before .before .word-at .ensures, c .before .word .given .1) refl

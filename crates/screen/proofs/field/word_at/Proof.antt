@@ -1,3 +1,4 @@
+-- Generated skeleton (tools/proof/write-skeletons), answers by hand.
 use Rattle.screen.specs.Field.{wordOf}
 use borrow.Author.Needs.{needs}
 use Rattle.screen.proofs.field.word_at.Statement.{statement}
@@ -8,36 +9,28 @@ use Rattle.screen.proofs.field.code_of.Reads as code-of-reads
 use Rattle.screen.proofs.field.float_of.Reads as float-of-reads
 use Rattle.screen.proofs.field.numeral_at.Reads as numeral-at-reads
 
--- src/field.rt:148:31
 enum-told : tie.Need-enum-told
 enum-told c = search needs
 
--- src/field.rt:148:31
 numeral-at-requires : tie.Need-numeral-at-requires
 numeral-at-requires c κs = search needs
 
--- src/field.rt:148:23
 code-of-requires : tie.Need-code-of-requires
 code-of-requires c κs = search needs
 
--- src/field.rt:149:35
 enum-told-2 : tie.Need-enum-told-2
 enum-told-2 c = search needs
 
--- src/field.rt:149:35
 numeral-at-requires-2 : tie.Need-numeral-at-requires-2
 numeral-at-requires-2 c κs = search needs
 
--- src/field.rt:149:26
 float-of-requires : tie.Need-float-of-requires
 float-of-requires c κs = search needs
 
--- src/field.rt:143:1
 returns : tie.Need-returns
 unfolding wordOf
 returns c = rw (c .before .before .enum-told .given .1, ← c .before .numeral-at .ensures) (c .code-of .ensures)
 
--- src/field.rt:143:1
 returns-2 : tie.Need-returns-2
 unfolding wordOf
 returns-2 c = rw (c .before .before .enum-told2 .given .1, ← c .before .numeral-at2 .ensures) (c .float-of .ensures)

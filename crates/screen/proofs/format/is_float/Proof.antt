@@ -1,3 +1,4 @@
+-- Generated skeleton (tools/proof/write-skeletons), answers by hand.
 use Rattle.screen.proofs.Table.{floatAt, float-at}
 use borrow.Author.Tests.{eq-eqb, le-leb, le-ltb, lt-leb, lt-ltb, ne-eqb}
 use borrow.Author.Needs.{needs}
@@ -6,49 +7,39 @@ use Rattle.screen.proofs.format.is_float.Tie as tie
 use Rattle.screen.proofs.format.is_float.Reads as reads
 use Rattle.screen.proofs.format.is_float.Lts as lts
 
--- src/format.rt:79:24
 enum-told : tie.Need-enum-told
 enum-told c = search needs
 
--- src/format.rt:81:16
 enum-told-2 : tie.Need-enum-told-2
 enum-told-2 c = search needs
 
--- src/format.rt:82:17
 returns : tie.Need-returns
 unfolding floatAt
 returns c = rw (← float-at _ _ (c .before .before .before .pre)) (simp (c .before .enum-told2 .given .1, lt-ltb _ _ (c .if1 .taken), lt-leb _ _ (c .if1 .taken)))
 
--- src/format.rt:85:17
 returns-2 : tie.Need-returns-2
 unfolding floatAt
 returns-2 c = rw (← float-at _ _ (c .before .before .before .before .pre)) (simp (c .before .before .enum-told2 .given .1, le-leb _ _ (c .before .if1 .left), le-ltb _ _ (c .before .if1 .left), eq-eqb _ _ (c .if2 .taken)))
 
--- src/format.rt:88:17
 returns-3 : tie.Need-returns-3
 unfolding floatAt
 returns-3 c = rw (← float-at _ _ (c .before .before .before .before .before .pre)) (simp (c .before .before .before .enum-told2 .given .1, le-leb _ _ (c .before .before .if1 .left), le-ltb _ _ (c .before .before .if1 .left), ne-eqb _ _ (c .before .if2 .left), eq-eqb _ _ (c .if3 .taken)))
 
--- src/format.rt:93:16
 enum-told-3 : tie.Need-enum-told-3
 enum-told-3 c = search needs
 
--- src/format.rt:94:17
 returns-4 : tie.Need-returns-4
 unfolding floatAt
 returns-4 c = rw (← float-at _ _ (c .before .before .before .pre)) (simp (c .before .enum-told3 .given .1, lt-ltb _ _ (c .if4 .taken), lt-leb _ _ (c .if4 .taken)))
 
--- src/format.rt:74:1
 returns-5 : tie.Need-returns-5
 unfolding floatAt
 returns-5 c = rw (← float-at _ _ (c .before .before .pre)) (simp (c .enum-told .given .1))
 
--- src/format.rt:74:1
 returns-6 : tie.Need-returns-6
 unfolding floatAt
 returns-6 c = rw (← float-at _ _ (c .before .before .before .before .before .pre)) (simp (c .before .before .before .enum-told2 .given .1, le-leb _ _ (c .before .before .if1 .left), le-ltb _ _ (c .before .before .if1 .left), ne-eqb _ _ (c .before .if2 .left), ne-eqb _ _ (c .if3 .left)))
 
--- src/format.rt:74:1
 returns-7 : tie.Need-returns-7
 unfolding floatAt
 returns-7 c = rw (← float-at _ _ (c .before .before .before .pre)) (simp (c .before .enum-told3 .given .1, le-leb _ _ (c .if4 .left), le-ltb _ _ (c .if4 .left)))

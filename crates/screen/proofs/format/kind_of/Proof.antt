@@ -1,3 +1,4 @@
+-- Generated skeleton (tools/proof/write-skeletons), answers by hand.
 use mathlib.Core.Path.{sym, _∙_}
 use Rattle.screen.proofs.Table.{float-is, code-is}
 use borrow.Author.Needs.{needs}
@@ -7,15 +8,12 @@ use Rattle.screen.proofs.format.kind_of.Reads as reads
 use Rattle.screen.proofs.format.kind_of.Lts as lts
 use Rattle.screen.proofs.format.is_float.Reads as is-float-reads
 
--- src/format.rt:106:8
 is-float-requires : tie.Need-is-float-requires
 is-float-requires c κs = search needs
 
--- src/format.rt:107:9
 returns : tie.Need-returns
 returns c = float-is _ (sym (c .before .is-float .ensures) ∙ c .if1 .taken)
 
--- src/format.rt:102:1
 returns-2 : tie.Need-returns-2
 returns-2 c = code-is _ (sym (c .before .is-float .ensures) ∙ c .if1 .left)
 

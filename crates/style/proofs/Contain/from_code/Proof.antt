@@ -1,3 +1,4 @@
+-- Generated: tools/proof/write-skeletons, then tools/proof/list-facts --fill.
 use Rattle.style.specs.Codes.{containOf}
 use borrow.Author.Needs.{needs}
 use Rattle.style.proofs.Contain.from_code.Statement.{statement}
@@ -7,15 +8,12 @@ use Rattle.style.proofs.Contain.from_code.Lts as lts
 use Rattle.style.proofs.bits.bit0.Reads as bit0-reads
 use Rattle.style.proofs.bits.bit1.Reads as bit1-reads
 
--- src/lib.rt:156:21
 bit0-requires : tie.Need-bit0-requires
 bit0-requires c κs = search needs
 
--- src/lib.rt:157:20
 bit1-requires : tie.Need-bit1-requires
 bit1-requires c κs = search needs
 
--- src/lib.rt:152:5
 returns : tie.Need-returns
 unfolding containOf
 returns c = simp (c .before .bit0 .ensures, c .bit1 .ensures)

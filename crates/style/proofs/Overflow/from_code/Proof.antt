@@ -1,3 +1,4 @@
+-- Generated: tools/proof/write-skeletons, then tools/proof/list-facts --fill.
 use borrow.Author.Needs.{needs}
 use Rattle.style.specs.Codes.{overflowOf}
 use borrow.Author.Tests.{ne-eqb}
@@ -6,22 +7,18 @@ use Rattle.style.proofs.Overflow.from_code.Tie as tie
 use Rattle.style.proofs.Overflow.from_code.Reads as reads
 use Rattle.style.proofs.Overflow.from_code.Lts as lts
 
--- src/lib.rt:80:5
 returns : tie.Need-returns
 unfolding overflowOf
 returns c = simp (c .match .keys1)
 
--- src/lib.rt:80:5
 returns-2 : tie.Need-returns-2
 unfolding overflowOf
 returns-2 c = simp (c .match .keys2)
 
--- src/lib.rt:80:5
 returns-3 : tie.Need-returns-3
 unfolding overflowOf
 returns-3 c = simp (c .match .keys3)
 
--- src/lib.rt:80:5
 returns-4 : tie.Need-returns-4
 unfolding overflowOf
 returns-4 c = simp (ne-eqb _ _ (c .match .rest .1), ne-eqb _ _ (c .match .rest .0 .1), ne-eqb _ _ (c .match .rest .0 .0 .1))

@@ -1,3 +1,4 @@
+-- Generated: tools/proof/write-skeletons, then tools/proof/list-facts --fill.
 use borrow.Author.Needs.{needs}
 use Rattle.style.proofs.alignment.is_flipped.Statement.{statement}
 use Rattle.style.proofs.alignment.is_flipped.Tie as tie
@@ -5,15 +6,12 @@ use Rattle.style.proofs.alignment.is_flipped.Reads as reads
 use Rattle.style.proofs.alignment.is_flipped.Lts as lts
 use Rattle.style.proofs.Direction.differs.Reads as differs-reads
 
--- src/alignment.rt:66:9
 differs-requires : tie.Need-differs-requires
 differs-requires c κs = search needs
 
--- src/alignment.rt:66:9
 returns : tie.Need-returns
 returns c = simp (c .before .if1 .taken, ← c .differs .ensures)
 
--- src/alignment.rt:62:1
 returns-2 : tie.Need-returns-2
 returns-2 c = search needs
 

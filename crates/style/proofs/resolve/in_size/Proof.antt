@@ -1,38 +1,31 @@
+-- Generated: tools/proof/write-skeletons, then tools/proof/list-facts --fill.
 use borrow.Author.Tests.{ne-eqb}
 use Rattle.style.proofs.resolve.in_size.Statement.{statement}
 use Rattle.style.proofs.resolve.in_size.Tie as tie
 use Rattle.style.proofs.resolve.in_size.Reads as reads
 use Rattle.style.proofs.resolve.in_size.Lts as lts
 
--- src/resolve.rt:104:1
 returns : tie.Need-returns
 returns c = simp (c .match .keys1)
 
--- src/resolve.rt:104:1
 returns-2 : tie.Need-returns-2
 returns-2 c = simp (c .before .match .keys2)
 
--- src/resolve.rt:104:1
 returns-3 : tie.Need-returns-3
 returns-3 c = simp (c .match .keys3)
 
--- src/resolve.rt:104:1
 returns-4 : tie.Need-returns-4
 returns-4 c = simp (c .match .keys4)
 
--- src/resolve.rt:104:1
 returns-5 : tie.Need-returns-5
 returns-5 c = simp (c .match .keys5)
 
--- src/resolve.rt:104:1
 returns-6 : tie.Need-returns-6
 returns-6 c = simp (c .match .keys6)
 
--- src/resolve.rt:104:1
 returns-7 : tie.Need-returns-7
 returns-7 c = simp (c .match .keys7)
 
--- src/resolve.rt:104:1
 returns-8 : tie.Need-returns-8
 returns-8 c = simp (ne-eqb _ _ (c .match .rest .1), ne-eqb _ _ (c .match .rest .0 .1), ne-eqb _ _ (c .match .rest .0 .0 .1), ne-eqb _ _ (c .match .rest .0 .0 .0 .1), ne-eqb _ _ (c .match .rest .0 .0 .0 .0 .1), ne-eqb _ _ (c .match .rest .0 .0 .0 .0 .0 .1), ne-eqb _ _ (c .match .rest .0 .0 .0 .0 .0 .0 .1))
 

@@ -1,3 +1,4 @@
+-- Generated: tools/proof/write-skeletons, then tools/proof/list-facts --fill.
 use Rattle.style.specs.Resolve.{maybeResolved}
 use borrow.Author.Needs.{needs}
 use Rattle.style.proofs.resolve.maybe_resolve.Statement.{statement}
@@ -7,15 +8,12 @@ use Rattle.style.proofs.resolve.maybe_resolve.Lts as lts
 use Rattle.style.proofs.resolve.Resolved.value.Reads as value-reads
 use Rattle.style.proofs.resolve.resolve.Reads as resolve-reads
 
--- src/resolve.rt:147:5
 resolve-requires : tie.Need-resolve-requires
 resolve-requires c κs = search needs
 
--- src/resolve.rt:147:5
 value-requires : tie.Need-value-requires
 value-requires c κs = search needs
 
--- src/resolve.rt:144:1
 returns : tie.Need-returns
 unfolding maybeResolved
 returns c = simp (← c .before .resolve .ensures, ← c .value .ensures)

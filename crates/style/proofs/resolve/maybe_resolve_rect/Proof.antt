@@ -1,3 +1,4 @@
+-- Generated: tools/proof/write-skeletons, then tools/proof/list-facts --fill.
 use Rattle.style.specs.Resolve.{resolvedRect}
 use borrow.Author.Needs.{needs}
 use Rattle.style.proofs.resolve.maybe_resolve_rect.Statement.{statement}
@@ -6,23 +7,18 @@ use Rattle.style.proofs.resolve.maybe_resolve_rect.Reads as reads
 use Rattle.style.proofs.resolve.maybe_resolve_rect.Lts as lts
 use Rattle.style.proofs.resolve.maybe_resolve.Reads as maybe-resolve-reads
 
--- src/resolve.rt:124:15
 maybe-resolve-requires : tie.Need-maybe-resolve-requires
 maybe-resolve-requires c κs = search needs
 
--- src/resolve.rt:125:16
 maybe-resolve-requires-2 : tie.Need-maybe-resolve-requires-2
 maybe-resolve-requires-2 c κs = search needs
 
--- src/resolve.rt:126:14
 maybe-resolve-requires-3 : tie.Need-maybe-resolve-requires-3
 maybe-resolve-requires-3 c κs = search needs
 
--- src/resolve.rt:127:17
 maybe-resolve-requires-4 : tie.Need-maybe-resolve-requires-4
 maybe-resolve-requires-4 c κs = search needs
 
--- src/resolve.rt:116:1
 returns : tie.Need-returns
 unfolding resolvedRect
 returns c = simp (← c .before .before .before .maybe-resolve .ensures, ← c .before .before .maybe-resolve2 .ensures, ← c .before .maybe-resolve3 .ensures, ← c .maybe-resolve4 .ensures)

@@ -1,3 +1,4 @@
+-- Generated: tools/proof/write-skeletons, then tools/proof/list-facts --fill.
 use Rattle.style.specs.Resolve.{resolvedSize}
 use borrow.Author.Needs.{needs}
 use Rattle.style.proofs.resolve.maybe_resolve_size.Statement.{statement}
@@ -6,15 +7,12 @@ use Rattle.style.proofs.resolve.maybe_resolve_size.Reads as reads
 use Rattle.style.proofs.resolve.maybe_resolve_size.Lts as lts
 use Rattle.style.proofs.resolve.maybe_resolve.Reads as maybe-resolve-reads
 
--- src/resolve.rt:138:16
 maybe-resolve-requires : tie.Need-maybe-resolve-requires
 maybe-resolve-requires c κs = search needs
 
--- src/resolve.rt:139:17
 maybe-resolve-requires-2 : tie.Need-maybe-resolve-requires-2
 maybe-resolve-requires-2 c κs = search needs
 
--- src/resolve.rt:132:1
 returns : tie.Need-returns
 unfolding resolvedSize
 returns c = simp (← c .before .maybe-resolve .ensures, ← c .maybe-resolve2 .ensures)

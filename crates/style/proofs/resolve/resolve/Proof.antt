@@ -1,3 +1,4 @@
+-- Generated: tools/proof/write-skeletons, then tools/proof/list-facts --fill.
 use borrow.Author.Tests.{ne-eqb}
 use Rattle.style.specs.Resolve.{byTag, resolved}
 use borrow.Author.Needs.{needs}
@@ -9,34 +10,27 @@ use Rattle.style.proofs.resolve.Field.auto.Reads as auto-reads
 use Rattle.style.proofs.resolve.Field.from_size.Reads as from-size-reads
 use Rattle.style.proofs.resolve.in_size.Reads as in-size-reads
 
--- src/resolve.rt:128:14
 auto-requires : tie.Need-auto-requires
 auto-requires c κs = search needs
 
--- src/resolve.rt:130:30
 in-size-requires : tie.Need-in-size-requires
 in-size-requires c κs = search needs
 
--- src/resolve.rt:130:14
 from-size-requires : tie.Need-from-size-requires
 from-size-requires c κs = search needs
 
--- src/resolve.rt:122:1
 returns : tie.Need-returns
 unfolding byTag resolved
 returns c = simp (c .match .keys1)
 
--- src/resolve.rt:122:1
 returns-2 : tie.Need-returns-2
 unfolding byTag resolved
 returns-2 c = simp (c .before .match .keys2, ← c .auto .ensures)
 
--- src/resolve.rt:122:1
 returns-3 : tie.Need-returns-3
 unfolding byTag resolved
 returns-3 c = simp (c .before .match .keys3)
 
--- src/resolve.rt:122:1
 returns-4 : tie.Need-returns-4
 unfolding byTag resolved
 returns-4 c = simp (ne-eqb _ _ (c .before .before .match .rest .1), ne-eqb _ _ (c .before .before .match .rest .0 .1), ne-eqb _ _ (c .before .before .match .rest .0 .0 .1), ← c .from-size .ensures, ← c .before .in-size .ensures)

@@ -1,3 +1,4 @@
+-- Generated skeleton (tools/proof/write-skeletons), answers by hand.
 use mathlib.Core.Path.{sym, _∙_}
 use Rattle.style_record.proofs.Walk.{codesOf, codes-first}
 use borrow.Author.Needs.{needs}
@@ -8,106 +9,83 @@ use Rattle.style_record.proofs.check.check_codes.Lts as lts
 use Rattle.style_record.proofs.check.is_above.Reads as is-above-reads
 use Rattle.style_record.proofs.check.safety_breaks.Reads as safety-breaks-reads
 
--- src/check.rt:84:8
 is-above-requires : tie.Need-is-above-requires
 is-above-requires c κs = search needs
 
--- src/check.rt:85:9
 returns : tie.Need-returns
 unfolding codesOf
 returns c = sym (codes-first _ ∙ simp (← c .before .is-above .ensures, c .if1 .taken))
 
--- src/check.rt:87:8
 is-above-requires-2 : tie.Need-is-above-requires-2
 is-above-requires-2 c κs = search needs
 
--- src/check.rt:88:9
 returns-2 : tie.Need-returns-2
 unfolding codesOf
 returns-2 c = sym (codes-first _ ∙ simp (← c .before .before .before .is-above .ensures, c .before .before .if1 .left, ← c .before .is-above2 .ensures, c .if2 .taken))
 
--- src/check.rt:90:8
 is-above-requires-3 : tie.Need-is-above-requires-3
 is-above-requires-3 c κs = search needs
 
--- src/check.rt:91:9
 returns-3 : tie.Need-returns-3
 unfolding codesOf
 returns-3 c = sym (codes-first _ ∙ simp (← c .before .before .before .before .before .is-above .ensures, c .before .before .before .before .if1 .left, ← c .before .before .before .is-above2 .ensures, c .before .before .if2 .left, ← c .before .is-above3 .ensures, c .if3 .taken))
 
--- src/check.rt:93:8
 is-above-requires-4 : tie.Need-is-above-requires-4
 is-above-requires-4 c κs = search needs
 
--- src/check.rt:94:9
 returns-4 : tie.Need-returns-4
 unfolding codesOf
 returns-4 c = sym (codes-first _ ∙ simp (← c .before .before .before .before .before .before .before .is-above .ensures, c .before .before .before .before .before .before .if1 .left, ← c .before .before .before .before .before .is-above2 .ensures, c .before .before .before .before .if2 .left, ← c .before .before .before .is-above3 .ensures, c .before .before .if3 .left, ← c .before .is-above4 .ensures, c .if4 .taken))
 
--- src/check.rt:96:8
 is-above-requires-5 : tie.Need-is-above-requires-5
 is-above-requires-5 c κs = search needs
 
--- src/check.rt:97:9
 returns-5 : tie.Need-returns-5
 unfolding codesOf
 returns-5 c = sym (codes-first _ ∙ simp (← c .before .before .before .before .before .before .before .before .before .is-above .ensures, c .before .before .before .before .before .before .before .before .if1 .left, ← c .before .before .before .before .before .before .before .is-above2 .ensures, c .before .before .before .before .before .before .if2 .left, ← c .before .before .before .before .before .is-above3 .ensures, c .before .before .before .before .if3 .left, ← c .before .before .before .is-above4 .ensures, c .before .before .if4 .left, ← c .before .is-above5 .ensures, c .if5 .taken))
 
--- src/check.rt:99:8
 safety-breaks-requires : tie.Need-safety-breaks-requires
 safety-breaks-requires c κs = search needs
 
--- src/check.rt:100:9
 returns-6 : tie.Need-returns-6
 unfolding codesOf
 returns-6 c = sym (codes-first _ ∙ simp (← c .before .before .before .before .before .before .before .before .before .before .before .is-above .ensures, c .before .before .before .before .before .before .before .before .before .before .if1 .left, ← c .before .before .before .before .before .before .before .before .before .is-above2 .ensures, c .before .before .before .before .before .before .before .before .if2 .left, ← c .before .before .before .before .before .before .before .is-above3 .ensures, c .before .before .before .before .before .before .if3 .left, ← c .before .before .before .before .before .is-above4 .ensures, c .before .before .before .before .if4 .left, ← c .before .before .before .is-above5 .ensures, c .before .before .if5 .left, ← c .before .safety-breaks .ensures, c .if6 .taken))
 
--- src/check.rt:102:8
 is-above-requires-6 : tie.Need-is-above-requires-6
 is-above-requires-6 c κs = search needs
 
--- src/check.rt:103:9
 returns-7 : tie.Need-returns-7
 unfolding codesOf
 returns-7 c = sym (codes-first _ ∙ simp (← c .before .before .before .before .before .before .before .before .before .before .before .before .before .is-above .ensures, c .before .before .before .before .before .before .before .before .before .before .before .before .if1 .left, ← c .before .before .before .before .before .before .before .before .before .before .before .is-above2 .ensures, c .before .before .before .before .before .before .before .before .before .before .if2 .left, ← c .before .before .before .before .before .before .before .before .before .is-above3 .ensures, c .before .before .before .before .before .before .before .before .if3 .left, ← c .before .before .before .before .before .before .before .is-above4 .ensures, c .before .before .before .before .before .before .if4 .left, ← c .before .before .before .before .before .is-above5 .ensures, c .before .before .before .before .if5 .left, ← c .before .before .before .safety-breaks .ensures, c .before .before .if6 .left, ← c .before .is-above6 .ensures, c .if7 .taken))
 
--- src/check.rt:105:8
 safety-breaks-requires-2 : tie.Need-safety-breaks-requires-2
 safety-breaks-requires-2 c κs = search needs
 
--- src/check.rt:106:9
 returns-8 : tie.Need-returns-8
 unfolding codesOf
 returns-8 c = sym (codes-first _ ∙ simp (← c .before .before .before .before .before .before .before .before .before .before .before .before .before .before .before .is-above .ensures, c .before .before .before .before .before .before .before .before .before .before .before .before .before .before .if1 .left, ← c .before .before .before .before .before .before .before .before .before .before .before .before .before .is-above2 .ensures, c .before .before .before .before .before .before .before .before .before .before .before .before .if2 .left, ← c .before .before .before .before .before .before .before .before .before .before .before .is-above3 .ensures, c .before .before .before .before .before .before .before .before .before .before .if3 .left, ← c .before .before .before .before .before .before .before .before .before .is-above4 .ensures, c .before .before .before .before .before .before .before .before .if4 .left, ← c .before .before .before .before .before .before .before .is-above5 .ensures, c .before .before .before .before .before .before .if5 .left, ← c .before .before .before .before .before .safety-breaks .ensures, c .before .before .before .before .if6 .left, ← c .before .before .before .is-above6 .ensures, c .before .before .if7 .left, ← c .before .safety-breaks2 .ensures, c .if8 .taken))
 
--- src/check.rt:108:8
 is-above-requires-7 : tie.Need-is-above-requires-7
 is-above-requires-7 c κs = search needs
 
--- src/check.rt:109:9
 returns-9 : tie.Need-returns-9
 unfolding codesOf
 returns-9 c = sym (codes-first _ ∙ simp (← c .before .before .before .before .before .before .before .before .before .before .before .before .before .before .before .before .before .is-above .ensures, c .before .before .before .before .before .before .before .before .before .before .before .before .before .before .before .before .if1 .left, ← c .before .before .before .before .before .before .before .before .before .before .before .before .before .before .before .is-above2 .ensures, c .before .before .before .before .before .before .before .before .before .before .before .before .before .before .if2 .left, ← c .before .before .before .before .before .before .before .before .before .before .before .before .before .is-above3 .ensures, c .before .before .before .before .before .before .before .before .before .before .before .before .if3 .left, ← c .before .before .before .before .before .before .before .before .before .before .before .is-above4 .ensures, c .before .before .before .before .before .before .before .before .before .before .if4 .left, ← c .before .before .before .before .before .before .before .before .before .is-above5 .ensures, c .before .before .before .before .before .before .before .before .if5 .left, ← c .before .before .before .before .before .before .before .safety-breaks .ensures, c .before .before .before .before .before .before .if6 .left, ← c .before .before .before .before .before .is-above6 .ensures, c .before .before .before .before .if7 .left, ← c .before .before .before .safety-breaks2 .ensures, c .before .before .if8 .left, ← c .before .is-above7 .ensures, c .if9 .taken))
 
--- src/check.rt:111:8
 is-above-requires-8 : tie.Need-is-above-requires-8
 is-above-requires-8 c κs = search needs
 
--- src/check.rt:112:9
 returns-10 : tie.Need-returns-10
 unfolding codesOf
 returns-10 c = sym (codes-first _ ∙ simp (← c .before .before .before .before .before .before .before .before .before .before .before .before .before .before .before .before .before .before .before .is-above .ensures, c .before .before .before .before .before .before .before .before .before .before .before .before .before .before .before .before .before .before .if1 .left, ← c .before .before .before .before .before .before .before .before .before .before .before .before .before .before .before .before .before .is-above2 .ensures, c .before .before .before .before .before .before .before .before .before .before .before .before .before .before .before .before .if2 .left, ← c .before .before .before .before .before .before .before .before .before .before .before .before .before .before .before .is-above3 .ensures, c .before .before .before .before .before .before .before .before .before .before .before .before .before .before .if3 .left, ← c .before .before .before .before .before .before .before .before .before .before .before .before .before .is-above4 .ensures, c .before .before .before .before .before .before .before .before .before .before .before .before .if4 .left, ← c .before .before .before .before .before .before .before .before .before .before .before .is-above5 .ensures, c .before .before .before .before .before .before .before .before .before .before .if5 .left, ← c .before .before .before .before .before .before .before .before .before .safety-breaks .ensures, c .before .before .before .before .before .before .before .before .if6 .left, ← c .before .before .before .before .before .before .before .is-above6 .ensures, c .before .before .before .before .before .before .if7 .left, ← c .before .before .before .before .before .safety-breaks2 .ensures, c .before .before .before .before .if8 .left, ← c .before .before .before .is-above7 .ensures, c .before .before .if9 .left, ← c .before .is-above8 .ensures, c .if10 .taken))
 
--- src/check.rt:114:8
 is-above-requires-9 : tie.Need-is-above-requires-9
 is-above-requires-9 c κs = search needs
 
--- src/check.rt:115:9
 returns-11 : tie.Need-returns-11
 unfolding codesOf
 returns-11 c = sym (codes-first _ ∙ simp (← c .before .before .before .before .before .before .before .before .before .before .before .before .before .before .before .before .before .before .before .before .before .is-above .ensures, c .before .before .before .before .before .before .before .before .before .before .before .before .before .before .before .before .before .before .before .before .if1 .left, ← c .before .before .before .before .before .before .before .before .before .before .before .before .before .before .before .before .before .before .before .is-above2 .ensures, c .before .before .before .before .before .before .before .before .before .before .before .before .before .before .before .before .before .before .if2 .left, ← c .before .before .before .before .before .before .before .before .before .before .before .before .before .before .before .before .before .is-above3 .ensures, c .before .before .before .before .before .before .before .before .before .before .before .before .before .before .before .before .if3 .left, ← c .before .before .before .before .before .before .before .before .before .before .before .before .before .before .before .is-above4 .ensures, c .before .before .before .before .before .before .before .before .before .before .before .before .before .before .if4 .left, ← c .before .before .before .before .before .before .before .before .before .before .before .before .before .is-above5 .ensures, c .before .before .before .before .before .before .before .before .before .before .before .before .if5 .left, ← c .before .before .before .before .before .before .before .before .before .before .before .safety-breaks .ensures, c .before .before .before .before .before .before .before .before .before .before .if6 .left, ← c .before .before .before .before .before .before .before .before .before .is-above6 .ensures, c .before .before .before .before .before .before .before .before .if7 .left, ← c .before .before .before .before .before .before .before .safety-breaks2 .ensures, c .before .before .before .before .before .before .if8 .left, ← c .before .before .before .before .before .is-above7 .ensures, c .before .before .before .before .if9 .left, ← c .before .before .before .is-above8 .ensures, c .before .before .if10 .left, ← c .before .is-above9 .ensures, c .if11 .taken))
 
--- src/check.rt:80:1
 returns-12 : tie.Need-returns-12
 unfolding codesOf
 returns-12 c = sym (codes-first _ ∙ simp (← c .before .before .before .before .before .before .before .before .before .before .before .before .before .before .before .before .before .before .before .before .before .is-above .ensures, c .before .before .before .before .before .before .before .before .before .before .before .before .before .before .before .before .before .before .before .before .if1 .left, ← c .before .before .before .before .before .before .before .before .before .before .before .before .before .before .before .before .before .before .before .is-above2 .ensures, c .before .before .before .before .before .before .before .before .before .before .before .before .before .before .before .before .before .before .if2 .left, ← c .before .before .before .before .before .before .before .before .before .before .before .before .before .before .before .before .before .is-above3 .ensures, c .before .before .before .before .before .before .before .before .before .before .before .before .before .before .before .before .if3 .left, ← c .before .before .before .before .before .before .before .before .before .before .before .before .before .before .before .is-above4 .ensures, c .before .before .before .before .before .before .before .before .before .before .before .before .before .before .if4 .left, ← c .before .before .before .before .before .before .before .before .before .before .before .before .before .is-above5 .ensures, c .before .before .before .before .before .before .before .before .before .before .before .before .if5 .left, ← c .before .before .before .before .before .before .before .before .before .before .before .safety-breaks .ensures, c .before .before .before .before .before .before .before .before .before .before .if6 .left, ← c .before .before .before .before .before .before .before .before .before .is-above6 .ensures, c .before .before .before .before .before .before .before .before .if7 .left, ← c .before .before .before .before .before .before .before .safety-breaks2 .ensures, c .before .before .before .before .before .before .if8 .left, ← c .before .before .before .before .before .is-above7 .ensures, c .before .before .before .before .if9 .left, ← c .before .before .before .is-above8 .ensures, c .before .before .if10 .left, ← c .before .is-above9 .ensures, c .if11 .left))

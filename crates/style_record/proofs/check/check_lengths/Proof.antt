@@ -1,3 +1,4 @@
+-- Generated skeleton (tools/proof/write-skeletons), answers by hand.
 use Rattle.style_record.proofs.Walk.{of-field}
 use Rattle.style_record.proofs.Walk.{lengths-bad, lengths-on, lengths-done}
 use Rattle.style_record.specs.Check.{firstFrom}
@@ -19,55 +20,43 @@ Inv-loop styles at from to field l₀ l =
 abbrev μ-loop : tie.MeasureT-loop
 μ-loop styles at from to field l₀ l = to - l
 
--- src/check.rt:30:5
 loop-holds : tie.Need-loop-holds Inv-loop μ-loop
 loop-holds c = (search needs, search needs, refl)
 
--- src/check.rt:31:36
 mul-takes : tie.Need-mul-takes Inv-loop μ-loop
 mul-takes c = search needs
 
--- src/check.rt:31:31
 add-takes : tie.Need-add-takes Inv-loop μ-loop
 add-takes c = search needs
 
--- src/check.rt:31:24
 mul-takes-2 : tie.Need-mul-takes-2 Inv-loop μ-loop
 mul-takes-2 c = search needs
 
--- src/check.rt:31:24
 shared-slice-read-takes : tie.Need-shared-slice-read-takes Inv-loop μ-loop
 shared-slice-read-takes c = search needs
 
--- src/check.rt:31:12
 takes-requires : tie.Need-takes-requires Inv-loop μ-loop
 takes-requires c κs = search needs
 
--- src/check.rt:32:13
 add-l : tie.Need-add-l Inv-loop μ-loop
 add-l c = search needs
 
--- src/check.rt:30:5
 loop-less : tie.Need-loop-less Inv-loop μ-loop
 loop-less c = search needs
 
--- src/check.rt:30:5
 loop-again : tie.Need-loop-again Inv-loop μ-loop
 loop-again c =
     let t = of-field _ _ (c .before .before .before .before .before .before .pre .1 .1) (c .before .before .before .before .loop .inv .0) (c .before .before .before .loop-test .taken) (sym (c .before .takes .ensures) ∙ c .if1 .taken) in
     (search needs, search needs, c .before .before .before .before .loop .inv .2 ∙ lengths-on _ _ _ (c .before .before .before .loop-test .taken) (c .before .before .before .before .before .before .pre .1 .0 .1) t)
 
--- src/check.rt:34:35
 mul-t14 : tie.Need-mul-t14 Inv-loop μ-loop
 mul-t14 c = search needs
 
--- src/check.rt:34:13
 returns : tie.Need-returns Inv-loop μ-loop
 returns c =
     let t = of-field _ _ (c .before .before .before .before .before .before .pre .1 .1) (c .before .before .before .before .loop .inv .0) (c .before .before .before .loop-test .taken) (sym (c .before .takes .ensures) ∙ c .if1 .left) in
     sym (c .before .before .before .before .loop .inv .2 ∙ lengths-bad _ _ _ (c .before .before .before .loop-test .taken) (c .before .before .before .before .before .before .pre .1 .0 .1) t)
 
--- src/check.rt:23:1
 returns-2 : tie.Need-returns-2 Inv-loop μ-loop
 returns-2 c = sym (c .before .loop .inv .2 ∙ lengths-done _ _ _ (c .loop-test .left))
 

@@ -1,3 +1,4 @@
+-- Generated skeleton (tools/proof/write-skeletons), answers by hand.
 use Rattle.style_record.proofs.Walk.{then-bad, then-good}
 use Rattle.style_record.specs.Check.{firstBroken}
 use mathlib.Core.Path.{sym, _∙_}
@@ -9,32 +10,25 @@ use Rattle.style_record.proofs.check.check_style.Lts as lts
 use Rattle.style_record.proofs.check.check_codes.Reads as check-codes-reads
 use Rattle.style_record.proofs.check.check_tags.Reads as check-tags-reads
 
--- src/check.rt:113:14
 mul-at : tie.Need-mul-at
 mul-at c = search needs
 
--- src/check.rt:114:11
 check-tags-requires : tie.Need-check-tags-requires
 check-tags-requires c κs = search needs
 
--- src/check.rt:115:24
 enum-known-k : tie.Need-enum-known-k
 enum-known-k c = search needs
 
--- src/check.rt:116:28
 enum-told : tie.Need-enum-told
 enum-told c = search needs
 
--- src/check.rt:116:28
 check-codes-requires : tie.Need-check-codes-requires
 check-codes-requires c κs = search needs
 
--- src/check.rt:109:1
 returns : tie.Need-returns
 unfolding firstBroken
 returns c = sym (then-bad _ 44 13 0 (sym (c .before .before .before .check-tags .ensures) ∙ c .before .k .given .1))
 
--- src/check.rt:109:1
 returns-2 : tie.Need-returns-2
 unfolding firstBroken
 returns-2 c = c .check-codes .ensures ∙ sym (then-good _ 44 13 0 (sym (c .before .before .before .check-tags .ensures) ∙ c .before .enum-told .given .1))

@@ -1,3 +1,4 @@
+-- Generated skeleton (tools/proof/write-skeletons), answers by hand.
 use Rattle.style_record.proofs.Walk.{item-bad, item-good, items-done}
 use Rattle.style_record.specs.Check.{checked, checkedFrom}
 use Rattle.style_record.specs.Record.{items}
@@ -17,40 +18,31 @@ Inv-loop styles n i₀ i = (i ≤ n) × (checkedFrom styles n 0 ≡ checkedFrom 
 abbrev μ-loop : tie.MeasureT-loop
 μ-loop styles n i₀ i = n - i
 
--- src/check.rt:126:5
 loop-holds : tie.Need-loop-holds Inv-loop μ-loop
 loop-holds c = (search needs, simp sub-zero)
 
--- src/check.rt:127:15
 check-style-requires : tie.Need-check-style-requires Inv-loop μ-loop
 check-style-requires c κs = search needs
 
--- src/check.rt:129:17
 enum-told : tie.Need-enum-told Inv-loop μ-loop
 enum-told c = search needs
 
--- src/check.rt:129:17
 add-i : tie.Need-add-i Inv-loop μ-loop
 add-i c = search needs
 
--- src/check.rt:126:5
 loop-less : tie.Need-loop-less Inv-loop μ-loop
 loop-less c = search needs
 
--- src/check.rt:126:5
 loop-again : tie.Need-loop-again Inv-loop μ-loop
 loop-again c = (search needs, c .before .before .before .before .loop .inv .1 ∙ item-good _ _ _ (c .before .before .before .loop-test .taken) (sym (c .before .before .check-style .ensures) ∙ c .enum-told .given .1))
 
--- src/check.rt:131:28
 enum-known-k : tie.Need-enum-known-k Inv-loop μ-loop
 enum-known-k c = search needs
 
--- src/check.rt:132:17
 returns : tie.Need-returns Inv-loop μ-loop
 unfolding checked items
 returns c = sym (c .before .before .before .before .before .loop .inv .1 ∙ item-bad _ _ _ (c .before .before .before .before .loop-test .taken) (sym (c .before .before .before .check-style .ensures) ∙ c .before .k .given .1))
 
--- src/check.rt:121:1
 returns-2 : tie.Need-returns-2 Inv-loop μ-loop
 unfolding checked items
 returns-2 c = sym (c .before .loop .inv .1 ∙ items-done _ _ _ (c .loop-test .left))

@@ -1,3 +1,4 @@
+-- Generated: tools/proof/write-skeletons, then tools/proof/list-facts --fill.
 use Rattle.style_record.specs.Decode.{alignAt}
 use borrow.Author.Needs.{needs}
 use Rattle.style_record.proofs.decode.align_at.Statement.{statement}
@@ -7,23 +8,18 @@ use Rattle.style_record.proofs.decode.align_at.Lts as lts
 use Rattle.style.proofs.alignment.AlignItems.from_codes.Reads as from-codes-reads
 use Rattle.style_record.proofs.decode.word_at.Reads as word-at-reads
 
--- src/decode.rt:85:28
 word-at-requires : tie.Need-word-at-requires
 word-at-requires c κs = search needs
 
--- src/decode.rt:85:72
 add-word-at : tie.Need-add-word-at
 add-word-at c = search needs
 
--- src/decode.rt:85:52
 word-at-requires-2 : tie.Need-word-at-requires-2
 word-at-requires-2 c κs = search needs
 
--- src/decode.rt:85:5
 from-codes-requires : tie.Need-from-codes-requires
 from-codes-requires c κs = search needs
 
--- src/decode.rt:81:1
 returns : tie.Need-returns
 unfolding alignAt
 returns c = simp (← c .before .before .word-at .ensures, ← c .before .word-at2 .ensures, ← c .from-codes .ensures)

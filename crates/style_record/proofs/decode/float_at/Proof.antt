@@ -1,3 +1,4 @@
+-- Generated: tools/proof/write-skeletons, then tools/proof/list-facts --fill.
 use Rattle.style_record.specs.Decode.{floatAt}
 use borrow.Author.Needs.{needs}
 use Rattle.style_record.proofs.decode.float_at.Statement.{statement}
@@ -6,23 +7,18 @@ use Rattle.style_record.proofs.decode.float_at.Reads as reads
 use Rattle.style_record.proofs.decode.float_at.Lts as lts
 use Rattle.util.proofs.bits.from_word.Reads as from-word-reads
 
--- src/decode.rt:35:30
 add-from-word : tie.Need-add-from-word
 add-from-word c = search needs
 
--- src/decode.rt:35:23
 mul-from-word : tie.Need-mul-from-word
 mul-from-word c = search needs
 
--- src/decode.rt:35:23
 shared-slice-read-from-word : tie.Need-shared-slice-read-from-word
 shared-slice-read-from-word c = search needs
 
--- src/decode.rt:35:5
 from-word-requires : tie.Need-from-word-requires
 from-word-requires c κs = search needs
 
--- src/decode.rt:31:1
 returns : tie.Need-returns
 unfolding floatAt
 returns c = simp (← c .from-word .ensures)

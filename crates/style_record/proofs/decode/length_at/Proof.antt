@@ -1,3 +1,4 @@
+-- Generated: tools/proof/write-skeletons, then tools/proof/list-facts --fill.
 use Rattle.style_record.specs.Decode.{lengthAt}
 use borrow.Author.Needs.{needs}
 use Rattle.style_record.proofs.decode.length_at.Statement.{statement}
@@ -7,19 +8,15 @@ use Rattle.style_record.proofs.decode.length_at.Lts as lts
 use Rattle.style_record.proofs.decode.float_at.Reads as float-at-reads
 use Rattle.style_record.proofs.decode.word_at.Reads as word-at-reads
 
--- src/decode.rt:43:14
 word-at-requires : tie.Need-word-at-requires
 word-at-requires c κs = search needs
 
--- src/decode.rt:44:37
 add-float-at : tie.Need-add-float-at
 add-float-at c = search needs
 
--- src/decode.rt:44:16
 float-at-requires : tie.Need-float-at-requires
 float-at-requires c κs = search needs
 
--- src/decode.rt:38:1
 returns : tie.Need-returns
 unfolding lengthAt
 returns c = simp (← c .before .word-at .ensures, ← c .float-at .ensures)

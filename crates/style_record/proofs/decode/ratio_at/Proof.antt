@@ -1,3 +1,4 @@
+-- Generated: tools/proof/write-skeletons, then tools/proof/list-facts --fill.
 use Rattle.style_record.specs.Decode.{ratioAt}
 use borrow.Author.Tests.{eq-eqb, ne-eqb}
 use borrow.Author.Needs.{needs}
@@ -8,20 +9,16 @@ use Rattle.style_record.proofs.decode.ratio_at.Lts as lts
 use Rattle.style_record.proofs.decode.float_at.Reads as float-at-reads
 use Rattle.style_record.proofs.decode.word_at.Reads as word-at-reads
 
--- src/decode.rt:74:8
 word-at-requires : tie.Need-word-at-requires
 word-at-requires c κs = search needs
 
--- src/decode.rt:75:9
 returns : tie.Need-returns
 unfolding ratioAt
 returns c = simp (← c .before .word-at .ensures, eq-eqb _ _ (c .if1 .taken))
 
--- src/decode.rt:77:20
 float-at-requires : tie.Need-float-at-requires
 float-at-requires c κs = search needs
 
--- src/decode.rt:70:1
 returns-2 : tie.Need-returns-2
 unfolding ratioAt
 returns-2 c = simp (← c .before .before .word-at .ensures, ne-eqb _ _ (c .before .if1 .left), ← c .float-at .ensures)

@@ -1,3 +1,4 @@
+-- Generated: tools/proof/write-skeletons, then tools/proof/list-facts --fill.
 use Rattle.style_record.specs.Decode.{rectAt}
 use borrow.Author.Needs.{needs}
 use Rattle.style_record.proofs.decode.rect_at.Statement.{statement}
@@ -6,43 +7,33 @@ use Rattle.style_record.proofs.decode.rect_at.Reads as reads
 use Rattle.style_record.proofs.decode.rect_at.Lts as lts
 use Rattle.style_record.proofs.decode.length_at.Reads as length-at-reads
 
--- src/decode.rt:53:15
 length-at-requires : tie.Need-length-at-requires
 length-at-requires c κs = search needs
 
--- src/decode.rt:54:38
 add-length-at : tie.Need-add-length-at
 add-length-at c = search needs
 
--- src/decode.rt:54:16
 length-at-requires-2 : tie.Need-length-at-requires-2
 length-at-requires-2 c κs = search needs
 
--- src/decode.rt:55:40
 mul-length-at : tie.Need-mul-length-at
 mul-length-at c = search needs
 
--- src/decode.rt:55:36
 add-length-at-2 : tie.Need-add-length-at-2
 add-length-at-2 c = search needs
 
--- src/decode.rt:55:14
 length-at-requires-3 : tie.Need-length-at-requires-3
 length-at-requires-3 c κs = search needs
 
--- src/decode.rt:56:43
 mul-length-at-2 : tie.Need-mul-length-at-2
 mul-length-at-2 c = search needs
 
--- src/decode.rt:56:39
 add-length-at-3 : tie.Need-add-length-at-3
 add-length-at-3 c = search needs
 
--- src/decode.rt:56:17
 length-at-requires-4 : tie.Need-length-at-requires-4
 length-at-requires-4 c κs = search needs
 
--- src/decode.rt:48:1
 returns : tie.Need-returns
 unfolding rectAt
 returns c = simp (← c .before .before .before .length-at .ensures, ← c .before .before .length-at2 .ensures, ← c .before .length-at3 .ensures, ← c .length-at4 .ensures)

@@ -1,3 +1,4 @@
+-- Generated: tools/proof/write-skeletons, then tools/proof/list-facts --fill.
 use Rattle.style_record.specs.Decode.{sizeAt}
 use borrow.Author.Needs.{needs}
 use Rattle.style_record.proofs.decode.size_at.Statement.{statement}
@@ -6,19 +7,15 @@ use Rattle.style_record.proofs.decode.size_at.Reads as reads
 use Rattle.style_record.proofs.decode.size_at.Lts as lts
 use Rattle.style_record.proofs.decode.length_at.Reads as length-at-reads
 
--- src/decode.rt:65:16
 length-at-requires : tie.Need-length-at-requires
 length-at-requires c κs = search needs
 
--- src/decode.rt:66:39
 add-length-at : tie.Need-add-length-at
 add-length-at c = search needs
 
--- src/decode.rt:66:17
 length-at-requires-2 : tie.Need-length-at-requires-2
 length-at-requires-2 c κs = search needs
 
--- src/decode.rt:60:1
 returns : tie.Need-returns
 unfolding sizeAt
 returns c = simp (← c .before .length-at .ensures, ← c .length-at2 .ensures)

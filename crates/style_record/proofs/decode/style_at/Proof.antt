@@ -1,3 +1,4 @@
+-- Generated skeleton (tools/proof/write-skeletons), answers by hand.
 use Rattle.style_record.proofs.Room.{first-words}
 use Rattle.style.specs.Codes.{sizingOf, directionOf, containOf, bit0, bit1}
 use mathlib.Core.Path.{_∙_, ap}
@@ -21,99 +22,75 @@ use Rattle.style_record.proofs.decode.rect_at.Reads as rect-at-reads
 use Rattle.style_record.proofs.decode.size_at.Reads as size-at-reads
 use Rattle.style_record.proofs.decode.word_at.Reads as word-at-reads
 
--- src/decode.rt:103:14
 mul-at : tie.Need-mul-at
 mul-at c = search needs
 
--- src/decode.rt:105:16
 rect-at-requires : tie.Need-rect-at-requires
 rect-at-requires c κs = search needs
 
--- src/decode.rt:106:17
 rect-at-requires-2 : tie.Need-rect-at-requires-2
 rect-at-requires-2 c κs = search needs
 
--- src/decode.rt:107:18
 rect-at-requires-3 : tie.Need-rect-at-requires-3
 rect-at-requires-3 c κs = search needs
 
--- src/decode.rt:108:17
 rect-at-requires-4 : tie.Need-rect-at-requires-4
 rect-at-requires-4 c κs = search needs
 
--- src/decode.rt:109:15
 size-at-requires : tie.Need-size-at-requires
 size-at-requires c κs = search needs
 
--- src/decode.rt:110:14
 size-at-requires-2 : tie.Need-size-at-requires-2
 size-at-requires-2 c κs = search needs
 
--- src/decode.rt:111:14
 size-at-requires-3 : tie.Need-size-at-requires-3
 size-at-requires-3 c κs = search needs
 
--- src/decode.rt:112:16
 ratio-at-requires : tie.Need-ratio-at-requires
 ratio-at-requires c κs = search needs
 
--- src/decode.rt:113:38
 word-at-requires : tie.Need-word-at-requires
 word-at-requires c κs = search needs
 
--- src/decode.rt:113:17
 from-code-requires : tie.Need-from-code-requires
 from-code-requires c κs = search needs
 
--- src/decode.rt:114:30
 word-at-requires-2 : tie.Need-word-at-requires-2
 word-at-requires-2 c κs = first-words _ _ 48 (omega arith) (c .before .before .before .before .before .before .before .before .before .before .before .pre)
 
--- src/decode.rt:114:19
 bit0-requires : tie.Need-bit0-requires
 bit0-requires c κs = search needs
 
--- src/decode.rt:115:27
 word-at-requires-3 : tie.Need-word-at-requires-3
 word-at-requires-3 c κs = first-words _ _ 48 (omega arith) (c .before .before .before .before .before .before .before .before .before .before .before .before .before .pre)
 
--- src/decode.rt:115:16
 bit1-requires : tie.Need-bit1-requires
 bit1-requires c κs = search needs
 
--- src/decode.rt:116:41
 word-at-requires-4 : tie.Need-word-at-requires-4
 word-at-requires-4 c κs = first-words _ _ 49 (omega arith) (c .before .before .before .before .before .before .before .before .before .before .before .before .before .before .before .pre)
 
--- src/decode.rt:116:20
 from-code-requires-2 : tie.Need-from-code-requires-2
 from-code-requires-2 c κs = search needs
 
--- src/decode.rt:117:18
 align-at-requires : tie.Need-align-at-requires
 align-at-requires c κs = first-words _ _ 51 (omega arith) (c .before .before .before .before .before .before .before .before .before .before .before .before .before .before .before .before .before .pre)
 
--- src/decode.rt:118:16
 align-at-requires-2 : tie.Need-align-at-requires-2
 align-at-requires-2 c κs = first-words _ _ 53 (omega arith) (c .before .before .before .before .before .before .before .before .before .before .before .before .before .before .before .before .before .before .pre)
 
--- src/decode.rt:119:19
 overflow-at-requires : tie.Need-overflow-at-requires
 overflow-at-requires c κs = c .before .before .before .before .before .before .before .before .before .before .before .before .before .before .before .before .before .before .before .pre
 
--- src/decode.rt:120:20
 float-at-requires : tie.Need-float-at-requires
 float-at-requires c κs = first-words _ _ 56 (omega arith) (c .before .before .before .before .before .before .before .before .before .before .before .before .before .before .before .before .before .before .before .before .pre)
 
--- src/decode.rt:121:37
 word-at-requires-5 : tie.Need-word-at-requires-5
 word-at-requires-5 c κs = first-words _ _ 57 (omega arith) (c .before .before .before .before .before .before .before .before .before .before .before .before .before .before .before .before .before .before .before .before .before .pre)
 
--- src/decode.rt:121:18
 from-code-requires-3 : tie.Need-from-code-requires-3
 from-code-requires-3 c κs = search needs
 
--- src/decode.rt:99:1
 returns : tie.Need-returns
 unfolding styleAt styleOf
 returns c =

@@ -1,3 +1,4 @@
+-- Generated: tools/proof/write-skeletons, then tools/proof/list-facts --fill.
 use Rattle.sweep.specs.Sweep.{moved}
 use borrow.Author.Needs.{needs}
 use Rattle.sweep.proofs.Shift.moved.Statement.{statement}
@@ -6,24 +7,19 @@ use Rattle.sweep.proofs.Shift.moved.Reads as reads
 use Rattle.sweep.proofs.Shift.moved.Lts as lts
 use Rattle.tree.proofs.layout.OofCandidate.translate.Reads as translate-reads
 
--- src/lib.rt:40:31
 enum-told : tie.Need-enum-told
 enum-told c = search needs
 
--- src/lib.rt:41:23
 enum-known-self : tie.Need-enum-known-self
 enum-known-self c = search needs
 
--- src/lib.rt:41:36
 translate-requires : tie.Need-translate-requires
 translate-requires c κs = search needs
 
--- src/lib.rt:36:5
 returns : tie.Need-returns
 unfolding moved
 returns c = simp (c .enum-told .given .1)
 
--- src/lib.rt:36:5
 returns-2 : tie.Need-returns-2
 unfolding moved
 returns-2 c = simp (c .before .before .self .given .1, ← c .translate .ensures)

@@ -1,3 +1,4 @@
+-- Generated skeleton (tools/proof/write-skeletons), answers by hand.
 use Prim.Native.Nat.{_≤_, _-_}
 use lib.ListN.{length, length-set}
 use mathlib.Core.Path.{_≡_}
@@ -14,39 +15,30 @@ Inv-loop words₀ i₀ words i = (i ≤ length words) × (length words ≡ lengt
 abbrev μ-loop : tie.MeasureT-loop
 μ-loop words₀ i₀ words i = length words - i
 
--- src/input.rt:68:5
 loop-holds : tie.Need-loop-holds Inv-loop μ-loop
 loop-holds c = search needs
 
--- src/input.rt:69:20
 read-word-requires : tie.Need-read-word-requires Inv-loop μ-loop
 read-word-requires c κs = search needs
 
--- src/input.rt:69:9
 mul-words : tie.Need-mul-words Inv-loop μ-loop
 mul-words c = search needs
 
--- src/input.rt:69:9
 slice-write-words : tie.Need-slice-write-words Inv-loop μ-loop
 slice-write-words c = search needs
 
--- src/input.rt:70:9
 add-i : tie.Need-add-i Inv-loop μ-loop
 add-i c = search needs
 
--- src/input.rt:68:5
 loop-less : tie.Need-loop-less Inv-loop μ-loop
 loop-less c = simp length-set (search needs)
 
--- src/input.rt:68:5
 loop-again : tie.Need-loop-again Inv-loop μ-loop
 loop-again c = (simp length-set (search needs), simp length-set (search needs))
 
--- src/input.rt:66:1
 same-length : tie.Need-same-length Inv-loop μ-loop
 same-length c = search needs
 
--- src/input.rt:66:1
 returns : tie.Need-returns Inv-loop μ-loop
 returns c = search needs
 

@@ -1,3 +1,4 @@
+-- Generated skeleton (tools/proof/write-skeletons), answers by hand.
 use borrow.Author.Needs.{needs}
 use Rattle.tree_record.specs.Candidate.{candidateWidth, candidateKinds}
 use Rattle.records.proofs.Laws.{too-few, one-bad, all-good, one-more}
@@ -18,42 +19,33 @@ Inv-loop words count n i₀ i = (i ≤ count) × (every i (λ i. good (candidate
 abbrev μ-loop : tie.MeasureT-loop
 μ-loop words count n i₀ i = count - i
 
--- src/candidate.rt:63:9
 returns : tie.Need-returns Inv-loop μ-loop
 returns c = sym (too-few _ _ _ (c .if1 .taken))
 
--- src/candidate.rt:66:5
 loop-holds : tie.Need-loop-holds Inv-loop μ-loop
 unfolding every
 loop-holds c = (search needs, refl)
 
--- src/candidate.rt:67:27
 mul-is-good : tie.Need-mul-is-good Inv-loop μ-loop
 mul-is-good c = search needs
 
--- src/candidate.rt:67:12
 is-good-requires : tie.Need-is-good-requires Inv-loop μ-loop
 is-good-requires c κs = search needs
 
--- src/candidate.rt:68:13
 add-i : tie.Need-add-i Inv-loop μ-loop
 add-i c = search needs
 
--- src/candidate.rt:66:5
 loop-less : tie.Need-loop-less Inv-loop μ-loop
 loop-less c = search needs
 
--- src/candidate.rt:66:5
 loop-again : tie.Need-loop-again Inv-loop μ-loop
 loop-again c =
     let v = c .before .before .before .loop .inv in
     (search needs, one-more _ _ _ (v .1) (sym (c .before .is-good .ensures) ∙ c .if2 .taken))
 
--- src/candidate.rt:70:13
 returns-2 : tie.Need-returns-2 Inv-loop μ-loop
 returns-2 c = sym (one-bad _ _ _ _ (c .before .before .loop-test .taken) (sym (c .before .is-good .ensures) ∙ c .if2 .left))
 
--- src/candidate.rt:59:1
 returns-3 : tie.Need-returns-3 Inv-loop μ-loop
 returns-3 c =
     let l = c .before .loop in

@@ -1,3 +1,4 @@
+-- Generated: tools/proof/write-skeletons, then tools/proof/list-facts --fill.
 use Rattle.tree_record.specs.Candidate.{axisOf}
 use borrow.Author.Needs.{needs}
 use Rattle.tree_record.proofs.candidate.axis_at.Statement.{statement}
@@ -8,83 +9,63 @@ use Rattle.tree_record.proofs.codes.edge_of.Reads as edge-of-reads
 use Rattle.style.proofs.alignment.AlignmentSafety.from_code.Reads as from-code-reads
 use Rattle.util.proofs.bits.from_word.Reads as from-word-reads
 
--- src/candidate.rt:78:32
 mul-from-word : tie.Need-mul-from-word
 mul-from-word c = search needs
 
--- src/candidate.rt:78:32
 shared-slice-read-from-word : tie.Need-shared-slice-read-from-word
 shared-slice-read-from-word c = search needs
 
--- src/candidate.rt:78:16
 from-word-requires : tie.Need-from-word-requires
 from-word-requires c κs = search needs
 
--- src/candidate.rt:79:36
 add-from-word : tie.Need-add-from-word
 add-from-word c = search needs
 
--- src/candidate.rt:79:30
 mul-from-word-2 : tie.Need-mul-from-word-2
 mul-from-word-2 c = search needs
 
--- src/candidate.rt:79:30
 shared-slice-read-from-word-2 : tie.Need-shared-slice-read-from-word-2
 shared-slice-read-from-word-2 c = search needs
 
--- src/candidate.rt:79:14
 from-word-requires-2 : tie.Need-from-word-requires-2
 from-word-requires-2 c κs = search needs
 
--- src/candidate.rt:82:39
 add-edge-of : tie.Need-add-edge-of
 add-edge-of c = search needs
 
--- src/candidate.rt:82:33
 mul-edge-of : tie.Need-mul-edge-of
 mul-edge-of c = search needs
 
--- src/candidate.rt:82:33
 shared-slice-read-edge-of : tie.Need-shared-slice-read-edge-of
 shared-slice-read-edge-of c = search needs
 
--- src/candidate.rt:82:18
 edge-of-requires : tie.Need-edge-of-requires
 edge-of-requires c κs = search needs
 
--- src/candidate.rt:83:40
 add-from-code : tie.Need-add-from-code
 add-from-code c = search needs
 
--- src/candidate.rt:83:34
 mul-from-code : tie.Need-mul-from-code
 mul-from-code c = search needs
 
--- src/candidate.rt:83:34
 shared-slice-read-from-code : tie.Need-shared-slice-read-from-code
 shared-slice-read-from-code c = search needs
 
--- src/candidate.rt:83:17
 from-code-requires : tie.Need-from-code-requires
 from-code-requires c κs = search needs
 
--- src/candidate.rt:84:40
 add-edge-of-2 : tie.Need-add-edge-of-2
 add-edge-of-2 c = search needs
 
--- src/candidate.rt:84:34
 mul-edge-of-2 : tie.Need-mul-edge-of-2
 mul-edge-of-2 c = search needs
 
--- src/candidate.rt:84:34
 shared-slice-read-edge-of-2 : tie.Need-shared-slice-read-edge-of-2
 shared-slice-read-edge-of-2 c = search needs
 
--- src/candidate.rt:84:19
 edge-of-requires-2 : tie.Need-edge-of-requires-2
 edge-of-requires-2 c κs = search needs
 
--- src/candidate.rt:73:1
 returns : tie.Need-returns
 unfolding axisOf
 returns c = simp (← c .before .before .before .before .before .before .before .before .from-word .ensures, ← c .before .before .before .before .before .before .from-word2 .ensures, ← c .before .before .before .before .edge-of .ensures, ← c .before .before .from-code .ensures, ← c .edge-of2 .ensures)

@@ -1,3 +1,4 @@
+-- Generated skeleton (tools/proof/write-skeletons), answers by hand.
 use Rattle.tree_record.proofs.Places.{candidate-place}
 use borrow.Author.Needs.{needs}
 use Rattle.tree_record.proofs.candidate.candidate_at.Statement.{statement}
@@ -7,63 +8,48 @@ use Rattle.tree_record.proofs.candidate.candidate_at.Lts as lts
 use Rattle.tree_record.proofs.candidate.axis_at.Reads as axis-at-reads
 use Rattle.tree_record.proofs.codes.position_of.Reads as position-of-reads
 
--- src/candidate.rt:97:14
 mul-at : tie.Need-mul-at
 mul-at c = search needs
 
--- src/candidate.rt:99:27
 add-axis-at : tie.Need-add-axis-at
 add-axis-at c = search needs
 
--- src/candidate.rt:99:12
 axis-at-requires : tie.Need-axis-at-requires
 axis-at-requires c κs = search needs
 
--- src/candidate.rt:100:27
 add-axis-at-2 : tie.Need-add-axis-at-2
 add-axis-at-2 c = search needs
 
--- src/candidate.rt:100:12
 axis-at-requires-2 : tie.Need-axis-at-requires-2
 axis-at-requires-2 c κs = search needs
 
--- src/candidate.rt:103:15
 mul-t6 : tie.Need-mul-t6
 mul-t6 c = search needs
 
--- src/candidate.rt:103:15
 shared-slice-read-t10 : tie.Need-shared-slice-read-t10
 shared-slice-read-t10 c = search needs
 
--- src/candidate.rt:104:22
 add-t8 : tie.Need-add-t8
 add-t8 c = search needs
 
--- src/candidate.rt:104:16
 mul-t11 : tie.Need-mul-t11
 mul-t11 c = search needs
 
--- src/candidate.rt:104:16
 shared-slice-read-t13 : tie.Need-shared-slice-read-t13
 shared-slice-read-t13 c = search needs
 
--- src/candidate.rt:105:44
 add-position-of : tie.Need-add-position-of
 add-position-of c = search needs
 
--- src/candidate.rt:105:38
 mul-position-of : tie.Need-mul-position-of
 mul-position-of c = search needs
 
--- src/candidate.rt:105:38
 shared-slice-read-position-of : tie.Need-shared-slice-read-position-of
 shared-slice-read-position-of c = search needs
 
--- src/candidate.rt:105:19
 position-of-requires : tie.Need-position-of-requires
 position-of-requires c κs = search needs
 
--- src/candidate.rt:93:1
 returns : tie.Need-returns
 returns c = simp (candidate-place, ← c .before .before .before .before .before .axis-at .ensures, ← c .before .before .before .before .axis-at2 .ensures, ← c .position-of .ensures)
 

@@ -1,3 +1,4 @@
+-- Generated skeleton (tools/proof/write-skeletons), answers by hand.
 use mathlib.Core.Path.{sym, _∙_}
 use Rattle.tree_record.proofs.Good.{good-axis}
 use borrow.Author.Tests.{le-leb, le-ltb, lt-leb, lt-ltb}
@@ -7,55 +8,42 @@ use Rattle.tree_record.proofs.candidate.is_axis_good.Tie as tie
 use Rattle.tree_record.proofs.candidate.is_axis_good.Reads as reads
 use Rattle.tree_record.proofs.candidate.is_axis_good.Lts as lts
 
--- src/candidate.rt:29:19
 add-if1 : tie.Need-add-if1
 add-if1 c = search needs
 
--- src/candidate.rt:29:13
 mul-if1 : tie.Need-mul-if1
 mul-if1 c = search needs
 
--- src/candidate.rt:29:13
 shared-slice-read-if1 : tie.Need-shared-slice-read-if1
 shared-slice-read-if1 c = search needs
 
--- src/candidate.rt:30:9
 returns : tie.Need-returns
 returns c = sym (good-axis _ _ ∙ simp (le-leb _ _ (c .if1 .taken), le-ltb _ _ (c .if1 .taken)))
 
--- src/candidate.rt:32:19
 add-if2 : tie.Need-add-if2
 add-if2 c = search needs
 
--- src/candidate.rt:32:13
 mul-if2 : tie.Need-mul-if2
 mul-if2 c = search needs
 
--- src/candidate.rt:32:13
 shared-slice-read-if2 : tie.Need-shared-slice-read-if2
 shared-slice-read-if2 c = search needs
 
--- src/candidate.rt:33:9
 returns-2 : tie.Need-returns-2
 returns-2 c = sym (good-axis _ _ ∙ simp (lt-ltb _ _ (c .before .before .if1 .left), lt-leb _ _ (c .before .before .if1 .left), le-leb _ _ (c .if2 .taken), le-ltb _ _ (c .if2 .taken)))
 
--- src/candidate.rt:35:19
 add-if3 : tie.Need-add-if3
 add-if3 c = search needs
 
--- src/candidate.rt:35:13
 mul-if3 : tie.Need-mul-if3
 mul-if3 c = search needs
 
--- src/candidate.rt:35:13
 shared-slice-read-if3 : tie.Need-shared-slice-read-if3
 shared-slice-read-if3 c = search needs
 
--- src/candidate.rt:36:9
 returns-3 : tie.Need-returns-3
 returns-3 c = sym (good-axis _ _ ∙ simp (lt-ltb _ _ (c .before .before .before .before .if1 .left), lt-leb _ _ (c .before .before .before .before .if1 .left), lt-ltb _ _ (c .before .before .if2 .left), lt-leb _ _ (c .before .before .if2 .left), le-leb _ _ (c .if3 .taken), le-ltb _ _ (c .if3 .taken)))
 
--- src/candidate.rt:25:1
 returns-4 : tie.Need-returns-4
 returns-4 c = sym (good-axis _ _ ∙ simp (lt-ltb _ _ (c .before .before .before .before .if1 .left), lt-leb _ _ (c .before .before .before .before .if1 .left), lt-ltb _ _ (c .before .before .if2 .left), lt-leb _ _ (c .before .before .if2 .left), lt-ltb _ _ (c .if3 .left), lt-leb _ _ (c .if3 .left)))
 

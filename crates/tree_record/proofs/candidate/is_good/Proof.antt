@@ -1,3 +1,4 @@
+-- Generated skeleton (tools/proof/write-skeletons), answers by hand.
 use mathlib.Core.Path.{sym, _∙_}
 use Rattle.tree_record.proofs.Good.{good-record}
 use borrow.Author.Tests.{le-leb, le-ltb, lt-leb, lt-ltb}
@@ -9,59 +10,45 @@ use Rattle.tree_record.proofs.candidate.is_good.Lts as lts
 use Rattle.tree_record.proofs.candidate.index.Reads as index-reads
 use Rattle.tree_record.proofs.candidate.is_axis_good.Reads as is-axis-good-reads
 
--- src/candidate.rt:46:19
 mul-index : tie.Need-mul-index
 mul-index c = search needs
 
--- src/candidate.rt:46:19
 shared-slice-read-index : tie.Need-shared-slice-read-index
 shared-slice-read-index c = search needs
 
--- src/candidate.rt:46:13
 index-requires : tie.Need-index-requires
 index-requires c κs = search needs
 
--- src/candidate.rt:47:9
 returns : tie.Need-returns
 returns c = sym (good-record _ _ _ ∙ simp (← c .before .index .ensures, le-leb _ _ (c .if1 .taken), le-ltb _ _ (c .if1 .taken)))
 
--- src/candidate.rt:49:19
 add-if2 : tie.Need-add-if2
 add-if2 c = search needs
 
--- src/candidate.rt:49:13
 mul-if2 : tie.Need-mul-if2
 mul-if2 c = search needs
 
--- src/candidate.rt:49:13
 shared-slice-read-if2 : tie.Need-shared-slice-read-if2
 shared-slice-read-if2 c = search needs
 
--- src/candidate.rt:50:9
 returns-2 : tie.Need-returns-2
 returns-2 c = sym (good-record _ _ _ ∙ simp (← c .before .before .before .index .ensures, lt-ltb _ _ (c .before .before .if1 .left), lt-leb _ _ (c .before .before .if1 .left), le-leb _ _ (c .if2 .taken), le-ltb _ _ (c .if2 .taken)))
 
--- src/candidate.rt:52:28
 add-is-axis-good : tie.Need-add-is-axis-good
 add-is-axis-good c = search needs
 
--- src/candidate.rt:52:8
 is-axis-good-requires : tie.Need-is-axis-good-requires
 is-axis-good-requires c κs = search needs
 
--- src/candidate.rt:53:36
 add-is-axis-good-2 : tie.Need-add-is-axis-good-2
 add-is-axis-good-2 c = search needs
 
--- src/candidate.rt:53:9
 is-axis-good-requires-2 : tie.Need-is-axis-good-requires-2
 is-axis-good-requires-2 c κs = search needs
 
--- src/candidate.rt:53:9
 returns-3 : tie.Need-returns-3
 returns-3 c = sym (good-record _ _ _ ∙ simp (← c .before .before .before .before .before .before .index .ensures, lt-ltb _ _ (c .before .before .before .before .before .if1 .left), lt-leb _ _ (c .before .before .before .before .before .if1 .left), lt-ltb _ _ (c .before .before .before .if2 .left), lt-leb _ _ (c .before .before .before .if2 .left), ← c .before .before .is-axis-good .ensures, c .before .if3 .taken, ← c .is-axis-good2 .ensures))
 
--- src/candidate.rt:42:1
 returns-4 : tie.Need-returns-4
 returns-4 c = sym (good-record _ _ _ ∙ simp (← c .before .before .before .before .before .index .ensures, lt-ltb _ _ (c .before .before .before .before .if1 .left), lt-leb _ _ (c .before .before .before .before .if1 .left), lt-ltb _ _ (c .before .before .if2 .left), lt-leb _ _ (c .before .before .if2 .left), ← c .before .is-axis-good .ensures, c .if3 .left))
 

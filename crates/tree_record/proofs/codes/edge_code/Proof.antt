@@ -1,3 +1,4 @@
+-- Generated: tools/proof/write-skeletons, then tools/proof/list-facts --fill.
 use Rattle.tree_record.specs.Codes.{edgeCode}
 use borrow.Author.Needs.{needs}
 use Rattle.tree_record.proofs.codes.edge_code.Statement.{statement}
@@ -5,29 +6,23 @@ use Rattle.tree_record.proofs.codes.edge_code.Tie as tie
 use Rattle.tree_record.proofs.codes.edge_code.Reads as reads
 use Rattle.tree_record.proofs.codes.edge_code.Lts as lts
 
--- src/codes.rt:46:34
 enum-told : tie.Need-enum-told
 enum-told c = search needs
 
--- src/codes.rt:47:35
 enum-told-2 : tie.Need-enum-told-2
 enum-told-2 c = search needs
 
--- src/codes.rt:48:32
 enum-told-3 : tie.Need-enum-told-3
 enum-told-3 c = search needs
 
--- src/codes.rt:42:1
 returns : tie.Need-returns
 unfolding edgeCode
 returns c = simp (c .enum-told .given .1)
 
--- src/codes.rt:42:1
 returns-2 : tie.Need-returns-2
 unfolding edgeCode
 returns-2 c = simp (c .enum-told2 .given .1)
 
--- src/codes.rt:42:1
 returns-3 : tie.Need-returns-3
 unfolding edgeCode
 returns-3 c = simp (c .enum-told3 .given .1)

@@ -1,3 +1,4 @@
+-- Generated: tools/proof/write-skeletons, then tools/proof/list-facts --fill.
 use Rattle.style.specs.Codes.{safetyCode}
 use borrow.Author.Needs.{needs}
 use Rattle.tree_record.proofs.codes.safety_code.Statement.{statement}
@@ -5,29 +6,23 @@ use Rattle.tree_record.proofs.codes.safety_code.Tie as tie
 use Rattle.tree_record.proofs.codes.safety_code.Reads as reads
 use Rattle.tree_record.proofs.codes.safety_code.Lts as lts
 
--- src/codes.rt:66:37
 enum-told : tie.Need-enum-told
 enum-told c = search needs
 
--- src/codes.rt:67:36
 enum-told-2 : tie.Need-enum-told-2
 enum-told-2 c = search needs
 
--- src/codes.rt:68:34
 enum-told-3 : tie.Need-enum-told-3
 enum-told-3 c = search needs
 
--- src/codes.rt:62:1
 returns : tie.Need-returns
 unfolding safetyCode
 returns c = simp (c .enum-told .given .1)
 
--- src/codes.rt:62:1
 returns-2 : tie.Need-returns-2
 unfolding safetyCode
 returns-2 c = simp (c .enum-told2 .given .1)
 
--- src/codes.rt:62:1
 returns-3 : tie.Need-returns-3
 unfolding safetyCode
 returns-3 c = simp (c .enum-told3 .given .1)

@@ -1,3 +1,4 @@
+-- Generated: tools/proof/write-skeletons, then tools/proof/list-facts --fill.
 use borrow.Author.Needs.{needs}
 use Rattle.tree_record.proofs.layout.write_layout.Statement.{statement}
 use Rattle.tree_record.proofs.layout.write_layout.Tie as tie
@@ -6,27 +7,21 @@ use Rattle.tree_record.proofs.layout.write_layout.Lts as lts
 use Rattle.records.proofs.write.Reads as write-reads
 use Rattle.tree_record.proofs.layout.layout_words.Reads as layout-words-reads
 
--- src/layout.rt:92:18
 layout-words-requires : tie.Need-layout-words-requires
 layout-words-requires c κs = search needs
 
--- src/layout.rt:93:29
 mul-write : tie.Need-mul-write
 mul-write c = search needs
 
--- src/layout.rt:93:50
 slice-aggregate-write : tie.Need-slice-aggregate-write
 slice-aggregate-write c = search needs
 
--- src/layout.rt:93:5
 write-requires : tie.Need-write-requires
 write-requires c κs = search needs
 
--- src/layout.rt:88:1
 same-length : tie.Need-same-length
 same-length c = search needs
 
--- src/layout.rt:88:1
 returns : tie.Need-returns
 returns c = simp (← c .before .before .before .before .before .layout-words .ensures, ← c .before .before .write .ensures)
 

@@ -1,3 +1,4 @@
+-- Generated skeleton (tools/proof/write-skeletons), answers by hand.
 -- `util::bits::to_word` meets its contract. Assumes nothing.
 use Rattle.util.proofs.Floats.{is-nan}
 use mathlib.Core.Path.{sym, _∙_}

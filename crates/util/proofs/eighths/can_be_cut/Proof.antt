@@ -1,3 +1,4 @@
+-- Generated: tools/proof/write-skeletons, then tools/proof/list-facts --fill.
 -- `util::eighths::can_be_cut` meets its contract. Assumes nothing.
 use lib.Ieee.{ofBits, neg}
 use Rattle.util.proofs.eighths.can_be_cut.Statement.{statement}

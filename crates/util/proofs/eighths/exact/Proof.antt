@@ -1,3 +1,4 @@
+-- Generated skeleton (tools/proof/write-skeletons), answers by hand.
 -- `util::eighths::exact` meets its contract. Assumes nothing.
 use Rattle.util.proofs.Count.{small-int, none-is, minus-is, plus-is}
 use Rattle.util.proofs.eighths.exact.Statement.{statement}

@@ -1,3 +1,4 @@
+-- Generated: tools/proof/write-skeletons, then tools/proof/list-facts --fill.
 -- `util::eighths::from_eighths` meets its contract. Assumes nothing.
 use Rattle.util.specs.Eighths.{floatOfCount}
 use borrow.Author.Tests.{le-ltb, lt-ltb}

@@ -1,3 +1,4 @@
+-- Generated skeleton (tools/proof/write-skeletons), answers by hand.
 -- `util::eighths::to_eighths` meets its contract. Assumes nothing.
 use Rattle.util.proofs.Count.{sound, uncounted-uncut, uncounted-large, uncounted-part, cuttable}
 use borrow.Author.Tests.{not-true, not-false}

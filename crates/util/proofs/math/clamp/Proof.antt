@@ -1,3 +1,4 @@
+-- Generated: tools/proof/write-skeletons, then tools/proof/list-facts --fill.
 -- `util::math::clamp` meets its contract. Assumes nothing.
 use Rattle.util.specs.Maybe.{clamped, atMost, atLeast}
 use borrow.Author.Needs.{needs}

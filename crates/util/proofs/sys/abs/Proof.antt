@@ -1,3 +1,4 @@
+-- Generated skeleton (tools/proof/write-skeletons), answers by hand.
 -- `util::sys::abs` meets its contract. Assumes nothing.
 use Rattle.util.proofs.Floats.{magnitude-below, magnitude-zero, magnitude-above}
 use Rattle.util.proofs.sys.abs.Statement.{statement}

@@ -1,3 +1,4 @@
+-- Generated: tools/proof/write-skeletons, then tools/proof/list-facts --fill.
 -- `util::sys::f32_min` meets its contract. Assumes nothing.
 use Rattle.util.specs.Order.{smaller}
 use borrow.Author.Needs.{needs}

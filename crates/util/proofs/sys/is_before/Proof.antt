@@ -1,3 +1,4 @@
+-- Generated skeleton (tools/proof/write-skeletons), answers by hand.
 -- `util::sys::is_before` meets its contract. Assumes nothing.
 use mathlib.Core.Bool.{true, false, and-false}
 use Rattle.util.proofs.Floats.{minus-reciprocal, plus-reciprocal, no-zero}

@@ -1,3 +1,4 @@
+-- Generated skeleton (tools/proof/write-skeletons), answers by hand.
 -- `util::sys::is_nan` meets its contract. Assumes nothing.
 use Rattle.util.proofs.Floats.{ne-self}
 use Rattle.util.proofs.sys.is_nan.Statement.{statement}

@@ -1,3 +1,4 @@
+-- Generated: tools/proof/write-skeletons, then tools/proof/list-facts --fill.
 use Rattle.oof_box.specs.Cut.{taken}
 use borrow.Author.Needs.{needs}
 use Rattle.oof_box.proofs.question.Replies.take.Statement.{statement}
@@ -9,54 +10,42 @@ use Rattle.oof_box.proofs.question.Replies.take_height.Reads as take-he
 use Rattle.oof_box.proofs.question.Replies.take_width.Reads as take-width-reads
 use Rattle.oof_box.proofs.question.take_laid_out.Reads as take-laid-out-reads
 
--- src/question.rt:148:25
 enum-known-reply : tie.Need-enum-known-reply
 enum-known-reply c = search needs
 
--- src/question.rt:148:34
 take-both-requires : tie.Need-take-both-requires
 take-both-requires c κs = search needs
 
--- src/question.rt:149:26
 enum-known-reply-2 : tie.Need-enum-known-reply-2
 enum-known-reply-2 c = search needs
 
--- src/question.rt:149:36
 take-width-requires : tie.Need-take-width-requires
 take-width-requires c κs = search needs
 
--- src/question.rt:150:27
 enum-known-reply-3 : tie.Need-enum-known-reply-3
 enum-known-reply-3 c = search needs
 
--- src/question.rt:150:38
 take-height-requires : tie.Need-take-height-requires
 take-height-requires c κs = search needs
 
--- src/question.rt:151:28
 enum-known-reply-4 : tie.Need-enum-known-reply-4
 enum-known-reply-4 c = search needs
 
--- src/question.rt:151:41
 take-laid-out-requires : tie.Need-take-laid-out-requires
 take-laid-out-requires c κs = search needs
 
--- src/question.rt:144:5
 returns : tie.Need-returns
 unfolding taken
 returns c = simp (c .before .before .reply .given .1, ← c .take-both .ensures)
 
--- src/question.rt:144:5
 returns-2 : tie.Need-returns-2
 unfolding taken
 returns-2 c = simp (c .before .before .reply2 .given .1, ← c .take-width .ensures)
 
--- src/question.rt:144:5
 returns-3 : tie.Need-returns-3
 unfolding taken
 returns-3 c = simp (c .before .before .reply3 .given .1, ← c .take-height .ensures)
 
--- src/question.rt:144:5
 returns-4 : tie.Need-returns-4
 unfolding taken
 returns-4 c = simp (c .before .before .reply4 .given .1, ← c .take-laid-out .ensures)

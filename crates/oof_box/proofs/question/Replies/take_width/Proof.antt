@@ -1,3 +1,4 @@
+-- Generated: tools/proof/write-skeletons, then tools/proof/list-facts --fill.
 use borrow.Author.Needs.{needs}
 use Rattle.oof_box.proofs.question.Replies.take_width.Statement.{statement}
 use Rattle.oof_box.proofs.question.Replies.take_width.Tie as tie
@@ -5,47 +6,36 @@ use Rattle.oof_box.proofs.question.Replies.take_width.Reads as reads
 use Rattle.oof_box.proofs.question.Replies.take_width.Lts as lts
 use Rattle.oof_box.proofs.question.Replies.with_keyword.Reads as with-keyword-reads
 
--- src/question.rt:123:35
 enum-told : tie.Need-enum-told
 enum-told c = search needs
 
--- src/question.rt:124:54
 enum-told-2 : tie.Need-enum-told-2
 enum-told-2 c = search needs
 
--- src/question.rt:124:36
 with-keyword-requires : tie.Need-with-keyword-requires
 with-keyword-requires c κs = search needs
 
--- src/question.rt:125:37
 enum-told-3 : tie.Need-enum-told-3
 enum-told-3 c = search needs
 
--- src/question.rt:126:28
 enum-told-4 : tie.Need-enum-told-4
 enum-told-4 c = search needs
 
--- src/question.rt:127:30
 enum-told-5 : tie.Need-enum-told-5
 enum-told-5 c = search needs
 
--- src/question.rt:119:5
 returns : tie.Need-returns
 returns c = search needs
 
--- src/question.rt:119:5
 returns-2 : tie.Need-returns-2
 returns-2 c = simp (c .before .enum-told2 .given .1, ← c .with-keyword .ensures)
 
--- src/question.rt:119:5
 returns-3 : tie.Need-returns-3
 returns-3 c = search needs
 
--- src/question.rt:119:5
 returns-4 : tie.Need-returns-4
 returns-4 c = search needs
 
--- src/question.rt:119:5
 returns-5 : tie.Need-returns-5
 returns-5 c = search needs
 

@@ -1,3 +1,4 @@
+-- Generated: tools/proof/write-skeletons, then tools/proof/list-facts --fill.
 use Rattle.style.specs.Codes.{alignmentOf}
 use borrow.Author.Tests.{eq-eqb, ne-eqb}
 use borrow.Author.Needs.{needs}
@@ -8,20 +9,16 @@ use Rattle.style.proofs.alignment.AlignItems.from_codes.Lts as lts
 use Rattle.style.proofs.alignment.AlignItemsKeyword.from_code.Reads as alignment-AlignItemsKeyword-from-code-reads
 use Rattle.style.proofs.alignment.AlignmentSafety.from_code.Reads as alignment-AlignmentSafety-from-code-reads
 
--- src/alignment.rt:111:13
 returns : tie.Need-returns
 unfolding alignmentOf
 returns c = simp (eq-eqb _ _ (c .if1 .taken))
 
--- src/alignment.rt:117:22
 from-code-requires : tie.Need-from-code-requires
 from-code-requires c κs = search needs
 
--- src/alignment.rt:118:21
 from-code-requires-2 : tie.Need-from-code-requires-2
 from-code-requires-2 c κs = search needs
 
--- src/alignment.rt:107:5
 returns-2 : tie.Need-returns-2
 unfolding alignmentOf
 returns-2 c = simp (ne-eqb _ _ (c .before .before .if1 .left), ← c .before .from-code .ensures, ← c .from-code2 .ensures)

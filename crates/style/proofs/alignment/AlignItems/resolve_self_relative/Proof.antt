@@ -1,3 +1,4 @@
+-- Generated: tools/proof/write-skeletons, then tools/proof/list-facts --fill.
 use Rattle.style.specs.Values.{selfRelative}
 use borrow.Author.Needs.{needs}
 use Rattle.style.proofs.alignment.AlignItems.resolve_self_relative.Statement.{statement}
@@ -7,15 +8,12 @@ use Rattle.style.proofs.alignment.AlignItems.resolve_self_relative.Lts 
 use Rattle.style.proofs.alignment.is_flipped.Reads as is-flipped-reads
 use Rattle.style.proofs.alignment.keyword_relative.Reads as keyword-relative-reads
 
--- src/alignment.rt:85:48
 is-flipped-requires : tie.Need-is-flipped-requires
 is-flipped-requires c κs = search needs
 
--- src/alignment.rt:85:22
 keyword-relative-requires : tie.Need-keyword-relative-requires
 keyword-relative-requires c κs = search needs
 
--- src/alignment.rt:74:5
 returns : tie.Need-returns
 unfolding selfRelative
 returns c = simp (← c .before .is-flipped .ensures, ← c .keyword-relative .ensures)

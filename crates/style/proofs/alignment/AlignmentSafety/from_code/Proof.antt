@@ -1,3 +1,4 @@
+-- Generated: tools/proof/write-skeletons, then tools/proof/list-facts --fill.
 use borrow.Author.Needs.{needs}
 use Rattle.style.specs.Codes.{safetyOf}
 use borrow.Author.Tests.{ne-eqb}
@@ -6,17 +7,14 @@ use Rattle.style.proofs.alignment.AlignmentSafety.from_code.Tie as tie
 use Rattle.style.proofs.alignment.AlignmentSafety.from_code.Reads as reads
 use Rattle.style.proofs.alignment.AlignmentSafety.from_code.Lts as lts
 
--- src/alignment.rt:56:5
 returns : tie.Need-returns
 unfolding safetyOf
 returns c = simp (c .match .keys1)
 
--- src/alignment.rt:56:5
 returns-2 : tie.Need-returns-2
 unfolding safetyOf
 returns-2 c = simp (c .match .keys2)
 
--- src/alignment.rt:56:5
 returns-3 : tie.Need-returns-3
 unfolding safetyOf
 returns-3 c = simp (ne-eqb _ _ (c .match .rest .1), ne-eqb _ _ (c .match .rest .0 .1))

@@ -1,3 +1,4 @@
+-- Generated: tools/proof/write-skeletons, then tools/proof/list-facts --fill.
 use Rattle.style.specs.Values.{definiteSpaces}
 use mathlib.Core.Path.{refl}
 use Rattle.style.proofs.available_space.AvailableSize.definite.Statement.{statement}
@@ -5,7 +6,6 @@ use Rattle.style.proofs.available_space.AvailableSize.definite.Tie as t
 use Rattle.style.proofs.available_space.AvailableSize.definite.Reads as reads
 use Rattle.style.proofs.available_space.AvailableSize.definite.Lts as lts
 
--- src/available_space.rt:36:5
 returns : tie.Need-returns
 unfolding definiteSpaces
 returns c = refl

@@ -1,3 +1,4 @@
+-- Generated: tools/proof/write-skeletons, then tools/proof/list-facts --fill.
 use Rattle.style.specs.Values.{clampedSpaces}
 use borrow.Author.Needs.{needs}
 use Rattle.style.proofs.available_space.AvailableSize.maybe_clamp.Statement.{statement}
@@ -6,15 +7,12 @@ use Rattle.style.proofs.available_space.AvailableSize.maybe_clamp.Reads
 use Rattle.style.proofs.available_space.AvailableSize.maybe_clamp.Lts as lts
 use Rattle.style.proofs.available_space.AvailableSpace.maybe_clamp.Reads as maybe-clamp-reads
 
--- src/available_space.rt:55:20
 maybe-clamp-requires : tie.Need-maybe-clamp-requires
 maybe-clamp-requires c κs = search needs
 
--- src/available_space.rt:56:21
 maybe-clamp-requires-2 : tie.Need-maybe-clamp-requires-2
 maybe-clamp-requires-2 c κs = search needs
 
--- src/available_space.rt:45:5
 returns : tie.Need-returns
 unfolding clampedSpaces
 returns c = simp (← c .before .maybe-clamp .ensures, ← c .maybe-clamp2 .ensures)

@@ -1,3 +1,4 @@
+-- Generated: tools/proof/write-skeletons, then tools/proof/list-facts --fill.
 use Rattle.style.specs.Resolve.{takes}
 use borrow.Author.Needs.{needs}
 use Rattle.style.proofs.resolve.Field.takes.Statement.{statement}
@@ -7,15 +8,12 @@ use Rattle.style.proofs.resolve.Field.takes.Lts as lts
 use Rattle.style.proofs.resolve.Resolved.is_allowed.Reads as is-allowed-reads
 use Rattle.style.proofs.resolve.resolve.Reads as resolve-reads
 
--- src/resolve.rt:139:9
 resolve-requires : tie.Need-resolve-requires
 resolve-requires c κs = search needs
 
--- src/resolve.rt:139:9
 is-allowed-requires : tie.Need-is-allowed-requires
 is-allowed-requires c κs = search needs
 
--- src/resolve.rt:136:5
 returns : tie.Need-returns
 unfolding takes
 returns c = simp (← c .before .resolve .ensures, ← c .is-allowed .ensures)

@@ -1,38 +1,31 @@
+-- Generated: tools/proof/write-skeletons, then tools/proof/list-facts --fill.
 use borrow.Author.Needs.{needs}
 use Rattle.style.proofs.resolve.Resolved.value.Statement.{statement}
 use Rattle.style.proofs.resolve.Resolved.value.Tie as tie
 use Rattle.style.proofs.resolve.Resolved.value.Reads as reads
 use Rattle.style.proofs.resolve.Resolved.value.Lts as lts
 
--- src/resolve.rt:100:37
 enum-told : tie.Need-enum-told
 enum-told c = search needs
 
--- src/resolve.rt:101:33
 enum-told-2 : tie.Need-enum-told-2
 enum-told-2 c = search needs
 
--- src/resolve.rt:102:30
 enum-known-self : tie.Need-enum-known-self
 enum-known-self c = search needs
 
--- src/resolve.rt:103:37
 enum-told-3 : tie.Need-enum-told-3
 enum-told-3 c = search needs
 
--- src/resolve.rt:96:5
 returns : tie.Need-returns
 returns c = search needs
 
--- src/resolve.rt:96:5
 returns-2 : tie.Need-returns-2
 returns-2 c = search needs
 
--- src/resolve.rt:96:5
 returns-3 : tie.Need-returns-3
 returns-3 c = simp (c .before .self .given .1)
 
--- src/resolve.rt:96:5
 returns-4 : tie.Need-returns-4
 returns-4 c = search needs
 

@@ -1,3 +1,4 @@
+-- Generated: tools/proof/write-skeletons, then tools/proof/list-facts --fill.
 use Rattle.tree.specs.Static.{shiftedAxis}
 use mathlib.Core.Path.{refl}
 use Rattle.tree.proofs.layout.AxisStaticPosition.translate.Statement.{statement}
@@ -5,7 +6,6 @@ use Rattle.tree.proofs.layout.AxisStaticPosition.translate.Tie as tie
 use Rattle.tree.proofs.layout.AxisStaticPosition.translate.Reads as reads
 use Rattle.tree.proofs.layout.AxisStaticPosition.translate.Lts as lts
 
--- src/layout.rt:126:5
 returns : tie.Need-returns
 unfolding shiftedAxis
 returns c = refl

@@ -1,3 +1,4 @@
+-- Generated: tools/proof/write-skeletons, then tools/proof/list-facts --fill.
 use Rattle.tree.specs.Static.{translated}
 use borrow.Author.Needs.{needs}
 use Rattle.tree.proofs.layout.OofCandidate.translate.Statement.{statement}
@@ -6,15 +7,12 @@ use Rattle.tree.proofs.layout.OofCandidate.translate.Reads as reads
 use Rattle.tree.proofs.layout.OofCandidate.translate.Lts as lts
 use Rattle.tree.proofs.layout.AxisStaticPosition.translate.Reads as translate-reads
 
--- src/layout.rt:167:20
 translate-requires : tie.Need-translate-requires
 translate-requires c κs = search needs
 
--- src/layout.rt:168:20
 translate-requires-2 : tie.Need-translate-requires-2
 translate-requires-2 c κs = search needs
 
--- src/layout.rt:156:5
 returns : tie.Need-returns
 unfolding translated
 returns c = simp (← c .before .translate .ensures, ← c .translate2 .ensures)

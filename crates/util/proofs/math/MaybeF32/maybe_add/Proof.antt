@@ -1,3 +1,4 @@
+-- Generated: tools/proof/write-skeletons, then tools/proof/list-facts --fill.
 -- `util::math::MaybeF32::maybe_add` meets its contract. Assumes nothing.
 use Rattle.util.specs.Maybe.{mapAdd, map}
 use borrow.Author.Needs.{needs}

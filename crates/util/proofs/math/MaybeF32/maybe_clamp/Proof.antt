@@ -1,3 +1,4 @@
+-- Generated: tools/proof/write-skeletons, then tools/proof/list-facts --fill.
 -- `util::math::MaybeF32::maybe_clamp` meets its contract. Assumes nothing.
 use Rattle.util.specs.Maybe.{mapClamped, map}
 use borrow.Author.Needs.{needs}

@@ -1,3 +1,4 @@
+-- Generated: tools/proof/write-skeletons, then tools/proof/list-facts --fill.
 -- `util::math::MaybeF32::unwrap_or` meets its contract. Assumes nothing.
 use Rattle.util.specs.Maybe.{unwrapOr}
 use borrow.Author.Needs.{needs}
