@@ -108,6 +108,13 @@ fn side_by_side(name: &str, rounds: usize, scenes: &[(usize, usize)]) {
     );
 }
 
+/// The sum of a table's words. In a function of its own, which run.sh has the compiler align: the same loop takes twice as long
+/// where it straddles lines of code
+#[inline(never)]
+fn sum_of(words: &[u32]) -> u32 {
+    words.iter().fold(0, |sum, word| sum.wrapping_add(*word))
+}
+
 /// One call over a table, beside one sum of its words
 fn one_call(rounds: usize, items: usize) {
     // the first box measures both
@@ -119,7 +126,7 @@ fn one_call(rounds: usize, items: usize) {
     assert_eq!(words.open(), 0);
     let (state, answer, table) = (words.state, words.answer, words.styles.clone());
     let mut sum = || {
-        black_box(black_box(&table).iter().fold(0u32, |sum, word| sum.wrapping_add(*word)));
+        black_box(sum_of(black_box(&table)));
     };
     let mut call = || {
         (words.state, words.answer) = (state, answer);
@@ -127,10 +134,11 @@ fn one_call(rounds: usize, items: usize) {
     };
     let [sum, call] = medians(rounds, [&mut sum, &mut call]);
     println!(
-        "| {items} | {} | {} | {:.1} | {:.2} ns |",
+        "| {items} | {} | {} | {:.1} | {:.2} ns | {:.2} ns |",
         shown(sum),
         shown(call),
         call / sum,
+        sum / items as f64 * 1e9,
         call / items as f64 * 1e9
     );
 }
@@ -158,8 +166,8 @@ fn main() {
     side_by_side("100 boxes of 100 items", rounds, &[(100, 100)]);
     side_by_side("4,096 boxes of 1,024 items", rounds.min(5), &[(1024, 4096)]);
     println!();
-    println!("| items | one sum of the table | one call | ratio | call per item |");
-    println!("|---|---|---|---|---|");
+    println!("| items | one sum of the table | one call | ratio | sum an item | call an item |");
+    println!("|---|---|---|---|---|---|");
     for items in [1, 32, 128, 1024] {
         one_call(rounds, items);
     }
