@@ -1,7 +1,7 @@
 -- The claimed records of a scripted run fit its working list: nothing is surfaced, so they are those of the opening. Assumes nothing.
 use Prim.Native.Nat.{ℕ, zero, suc, _*_, _/_, _≤_}
 use native.Mathlib.Omega.{arith}
-use native.Mathlib.Nat.{add-zero}
+use native.Mathlib.Nat.{add-zero, zero-add}
 use mathlib.Core.Path.{_≡_, refl, sym, _∙_, subst}
 use mathlib.Core.List.{List, []}
 use lib.ListN.{length}
@@ -61,7 +61,7 @@ open-filled o candidates lent = go (opening-way o candidates lent)
   where
     go : OpeningWay o candidates lent → filled (opened o candidates lent) ≤ length (lent .working) / candidateWidth
     go (OpeningWay.turnedDown r e) = rw e (omega arith)
-    go (begins v e) = rw (e, proceed-filled) (opening-room o candidates lent v .0)
+    go (begins v e) = rw (e, proceed-filled, zero-add) (opening-room o candidates lent v .0)
 
 pub room-kept : (o : Opening) (replies candidates : List ℕ) (lent : Lent)
     → playedOut o replies candidates lent .step .state .counts .filled .working ≤ length (lent .working) / candidateWidth

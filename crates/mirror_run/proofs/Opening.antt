@@ -1,5 +1,6 @@
 -- A run and its image, opened. Assumes nothing.
 use Prim.Native.Nat.{ℕ, _+_, _*_, _/_, _<_, _≤_}
+use native.Mathlib.Nat.{zero-add}
 use native.Mathlib.Omega.{arith}
 use mathlib.Core.Path.{_≡_, refl, sym, ap, _∙_, subst}
 use mathlib.Core.Bool.{Bool, true, false, not}
@@ -91,7 +92,7 @@ same-filled styles working run counts overflow = go (next-way styles working run
 -- so after the opening they are as it swept them
 held-at-opening : (o : Opening) (candidates : List ℕ) (lent : Lent) → held (begun o candidates lent) ≡ length (keep (claimsOf o) false (candidatesIn candidates))
 unfolding begun
-held-at-opening o candidates lent = same-filled (lent .styles) _ _ _ zeroRect
+held-at-opening o candidates lent = same-filled (lent .styles) _ _ _ zeroRect ∙ zero-add _
 
 -- ---- both are opened
 
@@ -178,10 +179,15 @@ module _ (o : Opening) (candidates : List ℕ) (lent : Lent) (layouts working un
     abbrev counts : Counts
     counts = record { filled = record { working = length (inList true); unclaimed = length (inList false) }; begun = 0; answered = 0 }
 
+    begun-first : begun o candidates lent ≡ leaving (proceeding (lent .styles) (first .working) (openedOf frame by first) counts zeroRect) first
+    unfolding begun
+    begun-first = rw (zero-add, zero-add) refl
+
     begun-as : begun (imageOpening o) image imageLent ≡ leaving (proceeding (imageStyles (lent .styles)) (second .working) (openedOf frame by second) counts zeroRect) second
     unfolding begun
     begun-as =
-        alike (extentsOf imageLent) (extentsOf lent) (length (inImage true)) (length (inList true)) (length (inImage false)) (length (inList false)) (sym same) (sym (kept-alike true)) (sym (kept-alike false))
+        alike (extentsOf imageLent) (extentsOf lent) (0 + length (inImage true)) (length (inList true)) (0 + length (inImage false)) (length (inList false)) (sym same) (zero-add _ ∙ sym (kept-alike true))
+        (zero-add _ ∙ sym (kept-alike false))
       where
         with : Extents → ℕ → ℕ → Outcome
         with e m n =
@@ -236,10 +242,10 @@ module _ (o : Opening) (candidates : List ℕ) (lent : Lent) (layouts working un
             }
 
         begins : Linked frame (begun o candidates lent) (begun (imageOpening o) image imageLent)
-        unfolding begun
         begins =
-            subst (Linked frame (begun o candidates lent)) (sym begun-as)
-            (proceeds-linked frame quarter-frame (passed .style) by first second (refl, image-block) zero-rect counts lists (λ i h. absurd (omega arith)))
+            subst (λ (x : Outcome). Linked frame x (begun (imageOpening o) image imageLent)) (sym begun-first)
+            (subst (Linked frame _) (sym begun-as)
+            (proceeds-linked frame quarter-frame (passed .style) by first second (refl, image-block) zero-rect counts lists (λ i h. absurd (omega arith))))
 
       pub opened-linked : Linked frame (opened o candidates lent) (opened (imageOpening o) image imageLent)
       opened-linked = go (openingVerdict o candidates lent) refl

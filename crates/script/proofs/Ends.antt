@@ -2,7 +2,7 @@
 -- nothing is surfaced. Assumes nothing.
 use Prim.Native.Nat.{ℕ, zero, suc, _+_, _*_, _/_, _≤_}
 use native.Mathlib.Omega.{arith}
-use native.Mathlib.Nat.{add-zero}
+use native.Mathlib.Nat.{add-zero, zero-add}
 use mathlib.Core.Path.{_≡_, refl, sym, ap, _∙_, subst}
 use mathlib.Core.Bool.{true}
 use mathlib.Core.List.{List, [], _∷_, _++_, foldl, foldl-append, map}
@@ -143,7 +143,7 @@ opening-few o candidates lent = go (opening-way o candidates lent)
   where
     go : OpeningWay o candidates lent → filledIn (opened o candidates lent .step .state) .working ≤ length candidates / candidateWidth
     go (OpeningWay.turnedDown r e) = rw e (omega arith)
-    go (begins v e) = rw (e, proceeding-filled) (claimed-few o candidates)
+    go (begins v e) = rw (e, proceeding-filled, zero-add) (claimed-few o candidates)
 
 -- ---- so three questions a candidate are enough
 

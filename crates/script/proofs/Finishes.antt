@@ -2,7 +2,7 @@
 -- opening's lengths, the styles its words; the working list holds the candidates that it checked; nothing is surfaced. Assumes nothing.
 use Prim.Native.Nat.{ℕ, zero, suc, _+_, _*_, _/_, _≤_}
 use native.Mathlib.Omega.{arith}
-use native.Mathlib.Nat.{add-zero, mul-le-mul-left, mul-div-le, le-trans}
+use native.Mathlib.Nat.{add-zero, zero-add, mul-le-mul-left, mul-div-le, le-trans}
 use mathlib.Core.Path.{_≡_, refl, sym, ap, _∙_, subst}
 use mathlib.Core.Bool.{Bool, true, false, cond, not, _||_}
 use mathlib.Core.List.{List, []}
@@ -365,7 +365,7 @@ module _ (replies : List ℕ) (o : Opening) (candidates : List ℕ) (lent : Lent
   opened-alive e =
       proceeds (opened o candidates lent) _ _ (ap (λ (x : Outcome). x .step) e) (ap (λ (x : Outcome). length (x .layouts)) e)
       (ap (λ (x : Outcome). x .working) e, ap (λ (x : Outcome). x .unclaimed) e)
-      refl
+      (rw (zero-add, zero-add) refl)
       (λ one. record { calls = []; questions = one; state = refl })
 
 -- ---- a run that is opened finishes
