@@ -70,6 +70,9 @@ EDITS = [
         ('oof_box/specs/Box.antt', 'let plain = not (style .replaced) && not (style .table) in', 'let plain = not (style .replaced) && not (style .replaced) in'),
         ('oof_box/src/sizing.rt', 'stretches axis (not (style .replaced) && not (style .table))', 'stretches axis (not (style .replaced) && not (style .replaced))'),
         ('oof_box/src/sizing.rt', 'axis.is_stretch_sized(style.replaced, style.table)', 'axis.is_stretch_sized(style.replaced, style.replaced)')]),
+    ('box: self-start as start', ['oof_resolve', 'oof_box_laws'], [
+        ('oof_resolve/specs/Resolved.antt', 'selfRelative (style .justify) (style .direction) (block .direction) true', 'selfRelative (style .justify) (style .direction) (block .direction) false'),
+        ('oof_resolve/src/lib.rt', 'justify_style.resolve_self_relative(item_direction, direction, true)', 'justify_style.resolve_self_relative(item_direction, direction, false)')]),
     ('contribution: a box above the start edge counts', ['common', 'oof_box_laws'], [
         ('oof_common/specs/ScrollableOverflow.antt', 'cond (parentScrolls && (le (x .end) 0f || le (y .end) 0f)) zeroRect', 'cond (parentScrolls && (le (x .end) 0f || le (x .end) 0f)) zeroRect'),
         ('oof_common/src/scrollable_overflow.rt', '(scrolls && (le (x .end) 0f || le (y .end) 0f))', '(scrolls && (le (x .end) 0f || le (x .end) 0f))'),

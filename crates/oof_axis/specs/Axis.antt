@@ -27,7 +27,7 @@ use Rattle.oof_axis.specs.declared.AxisPlacement.{AxisPlacement}
 -- ---- the alignment of an axis
 
 -- justify-self or align-self, with self-start and self-end already resolved by direction: of a keyword that isn't, self-start is
--- start and self-end is end. The fallback alignment of baseline is start.
+-- start and self-end is end. Baseline is start, as in the Rust (css-align-3: safe self-start).
 unfoldable pub fromResolved : AlignItemsKeyword → OofAlignment
 fromResolved keyword.Normal = align.Normal
 fromResolved keyword.Stretch = align.Stretch

@@ -2,7 +2,8 @@
 -- #resolving-insets, #abspos-margins, #abspos-alignment, css-align-3 #auto-safety-position. Each speaks of what comes out (`block`,
 -- `stretchFit`, `stretches`, `placement`) and of no step that leads there, so that a step can't be misread in the law as in the definition.
 -- What needs exact sums is stated on whole quarter pixels: oof_axis_laws/specs/Laws.antt. `proofs/Laws.antt` proves each, under its name in
--- small letters. Assumes nothing.
+-- small letters. `block` is the inset-modified containing block, the area the containing block. Laws that are document 01's and the Rust's,
+-- where CSS says otherwise, say so. Assumes nothing.
 use mathlib.Core.Path.{_≡_}
 use mathlib.Core.Bool.{Bool, true, false, _&&_}
 use lib.Ieee.{Float, lt, le, isNan}
@@ -100,7 +101,7 @@ AutoMarginsAreZero =
     (a : OofAxis) (size : Float) → present (a .inset .start) && present (a .inset .end) ≡ false
     → placement a size .margin ≡ (orZero (a .margin .start) to orZero (a .margin .end))
 
--- two auto margins are equal where the free space isn't negative, and in the block axis
+-- two auto margins are equal where the free space isn't negative and, in the block axis, always
 abbrev pub AutoMarginsAreEqual : Type 0
 AutoMarginsAreEqual =
     (a : OofAxis) (size : Float) → TwoInsets a → a .margin .start ≡ None → a .margin .end ≡ None → lt (span (block a) ⊖ size) 0f && a .inline ≡ false
@@ -185,13 +186,13 @@ StaticAsTold Start a size = placement a size .position ≡ a .place .area .start
 StaticAsTold Center a size = placement a size .position ≡ (a .place .area .start ⊕ a .place .area .end ⊖ marginBox a size) ⊘ 2f ⊕ orZero (a .margin .start)
 StaticAsTold End a size = placement a size .position ≡ a .place .area .end ⊖ marginBox a size ⊕ orZero (a .margin .start)
 
--- unless the box is safe and overflows the block
+-- unless the box is safe and overflows the block (document 01 and the Rust; CSS tests the static position's rectangle)
 abbrev pub StaticEdgeHeld : Type 0
 StaticEdgeHeld =
     (a : OofAxis) (size : Float) → NoInset a → (a .place .align .safety ≡ Safe → lt (span (block a)) (marginBox a size) ≡ false)
     → StaticAsTold (a .place .align .keyword) a size
 
--- then it stands at the block's start edge
+-- then it stands at the block's start edge (as before, document 01's)
 abbrev pub StaticSafeAtStart : Type 0
 StaticSafeAtStart = (a : OofAxis) (size : Float) → NoInset a → a .place .align .safety ≡ Safe → lt (span (block a)) (marginBox a size) ≡ true → AtStart a size
 
@@ -214,7 +215,7 @@ withFallback e a =
       scrolls = a .scrolls;
     }
 
--- a box is placed without a look at the fallback edge of its static position
+-- a box is placed without a look at the fallback edge of its static position (document 01 and the Rust)
 abbrev pub FallbackUnread : Type 0
 FallbackUnread = (a : OofAxis) (e : AxisStaticEdge) (size : Float) → placement (withFallback e a) size ≡ placement a size
 

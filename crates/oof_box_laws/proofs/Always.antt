@@ -18,6 +18,10 @@ unfolding _>>=_
 always-bind P Q _ next (now {a = a} p) f = f a p
 always-bind P Q _ next (later {q = q} {next = reply} h) f = later (λ r. always-bind P Q (reply r) next (h r) f)
 
+pub always-map : {A : Type 0} (P Q : A → Type 0) (m : Talk A) → ((a : A) → P a → Q a) → Always P m → Always Q m
+always-map P Q _ f (now {a = a} p) = now (f a p)
+always-map P Q _ f (later {q = q} {next = next} h) = later (λ r. always-map P Q (next r) f (h r))
+
 pub always-any : {A : Type 0} (m : Talk A) → Always (λ (a : A). Unit {0}) m
 always-any (done a) = now tt
 always-any (ask q next) = later (λ r. always-any (next r))

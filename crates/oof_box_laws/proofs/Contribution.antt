@@ -3,7 +3,7 @@ use mathlib.Core.Path.{_≡_, refl, sym, ap, ap₂, subst, _∙_}
 use mathlib.Core.Logic.{_⊎_, inl, inr}
 use mathlib.Core.List.{[], _∷_}
 use mathlib.Core.Bool.{Bool, true, false, false≢true, cond, not, _&&_, _||_}
-use Prim.Native.Nat.{ℕ, _+_, _*_, _≤_, _<_}
+use Prim.Native.Nat.{ℕ, _+_, _*_}
 use native.Mathlib.Omega.{arith}
 use lib.Dec.{lit<, lit≤}
 use lib.Ieee.{Float, lt, le}
@@ -13,12 +13,12 @@ use Rattle.geometry.specs.declared.Line.{Line}
 use Rattle.geometry.specs.declared.Point.{Point}
 use Rattle.geometry.specs.declared.Rect.{Rect}
 use Rattle.geometry.specs.declared.Size.{Size}
-use Rattle.style.specs.Values.{isRtl, isVisible, anyScrollContainer, containsOverflow}
+use Rattle.style.specs.Values.{isRtl, isVisible, isScrollContainer, anyScrollContainer, containsOverflow}
 use Rattle.style.specs.declared.Contain.{Contain}
 use Rattle.style.specs.declared.Direction.{Direction}
 use Rattle.style.specs.declared.Direction.the-variants.{Ltr, Rtl}
 use Rattle.style.specs.declared.Overflow.{Overflow}
-use Rattle.style.specs.declared.Overflow.the-variants.{Visible}
+use Rattle.style.specs.declared.Overflow.the-variants.{Visible, Clip, Hidden, Scroll}
 use Rattle.style.specs.declared.OverflowPoint.{OverflowPoint}
 use Rattle.style.specs.declared.Style.{Style}
 use Rattle.tree.specs.declared.layout.Layout.{Layout}
@@ -35,8 +35,45 @@ use Rattle.util_exact.proofs.Compare.{lt-exact, le-exact}
 use Rattle.util_exact.proofs.Order.{larger-exact, smaller-exact}
 use Rattle.oof_axis_laws.specs.Laws.{LeN, _=Σ_, _≤Σ_}
 use Rattle.oof_axis_laws.proofs.Numbers.{nil, _and_, equal-sums, at-most-sums, at-most, below}
-use Rattle.oof_box_laws.specs.Laws.{ScrollingContributionIsReachable, Sixteenth, Fine, HoldsForwards, HoldsBackwards, HoldsAcross, HoldsDown, HoldsTheBox, ContributionHoldsTheBox, ContributionHoldsItsOverflow, PastTheStart, ContributionCounts, WithinTheBox, ContributionHoldsNoMore, ClippedOverflowIsNotCounted}
+use Rattle.oof_box_laws.specs.Laws.{Scroller, NoScroller, Contained, NotContained, Reaches, IsForwards, IsBackwards, Counted, ContributionIsTheUnion, ScrollingContributionIsReachable, Sixteenth, Fine, HoldsForwards, HoldsBackwards, HoldsAcross, HoldsDown, HoldsTheBox, ContributionHoldsTheBox, ContributionHoldsItsOverflow, PastTheStart, ContributionCounts, WithinTheBox, ContributionHoldsNoMore, ClippedOverflowIsNotCounted}
 use Rattle.oof_box_laws.proofs.Always.{placed-always}
+
+-- ---- the values of overflow and containment
+
+or-true : (a b : Bool) → (a ≡ true) ⊎ (b ≡ true) → a || b ≡ true
+or-true true b o = refl
+or-true false b (inl e) = absurd (false≢true e)
+or-true false b (inr e) = e
+
+is-scroller : (o : OverflowPoint) → Scroller o → anyScrollContainer o ≡ true
+is-scroller o (inl (inl e)) = rw e refl
+is-scroller o (inl (inr e)) = rw e refl
+is-scroller o (inr (inl e)) = or-true (isScrollContainer (o .x)) (isScrollContainer (o .y)) (inr (rw e refl))
+is-scroller o (inr (inr e)) = or-true (isScrollContainer (o .x)) (isScrollContainer (o .y)) (inr (rw e refl))
+
+scroller : (o : OverflowPoint) → anyScrollContainer o ≡ true → Scroller o
+scroller o e = go (o .x) (o .y) refl refl e
+  where
+    go : (x y : Overflow) → o .x ≡ x → o .y ≡ y → isScrollContainer x || isScrollContainer y ≡ true → Scroller o
+    go Hidden y p q e = inl (inl p)
+    go Scroll y p q e = inl (inr p)
+    go Visible Hidden p q e = inr (inl q)
+    go Visible Scroll p q e = inr (inr q)
+    go Clip Hidden p q e = inr (inl q)
+    go Clip Scroll p q e = inr (inr q)
+    go Visible Visible p q e = absurd (false≢true e)
+    go Visible Clip p q e = absurd (false≢true e)
+    go Clip Visible p q e = absurd (false≢true e)
+    go Clip Clip p q e = absurd (false≢true e)
+
+no-scroller : (o : OverflowPoint) → NoScroller o → anyScrollContainer o ≡ false
+no-scroller o (inl e, inl f) = rw (e, f) refl
+no-scroller o (inl e, inr f) = rw (e, f) refl
+no-scroller o (inr e, inl f) = rw (e, f) refl
+no-scroller o (inr e, inr f) = rw (e, f) refl
+
+not-contained : (c : Contain) → NotContained c → containsOverflow c ≡ false
+not-contained c (e, f) = rw (e, f) refl
 
 -- ---- zeros, or the reach of the box, placed
 
@@ -70,7 +107,7 @@ module _ (at : Point) (size : Size) (own : Rect) (overflow : OverflowPoint) (con
 pub scrolling-contribution-is-reachable : ScrollingContributionIsReachable
 unfolding boxLayout
 scrolling-contribution-is-reachable container style candidate s =
-    placed-always _ container style candidate (λ size laid. rw s (reachable _ size (laid .overflow) (style .overflow) (style .contain)))
+    placed-always _ container style candidate (λ size laid. rw (is-scroller (container .overflow) s) (reachable _ size (laid .overflow) (style .overflow) (style .contain)))
 
 -- ---- what is clipped
 
@@ -93,12 +130,24 @@ clipped true b c e = refl
 clipped false true c e = refl
 clipped false false c e = e
 
+held-in : (o : OverflowPoint) (c : Contain) → Scroller o ⊎ Contained c → anyScrollContainer o || containsOverflow c ≡ true
+held-in o c (inl s) = or-true (anyScrollContainer o) (containsOverflow c) (inl (is-scroller o s))
+held-in o c (inr s) = or-true (anyScrollContainer o) (containsOverflow c) (inr (or-true (c .layout) (c .paint) s))
+
+unseen : (along : Overflow) (o : OverflowPoint) (c : Contain) → Scroller o ⊎ Contained c → propagates along o c ≡ false
+unfolding propagates
+unseen along o c h = hidden (anyScrollContainer o) (containsOverflow c) (isVisible along) (held-in o c h)
+
+clips : (along : Overflow) (o : OverflowPoint) (c : Contain) → along ≡ Clip → propagates along o c ≡ false
+unfolding propagates
+clips along o c e = clipped (anyScrollContainer o) (containsOverflow c) (isVisible along) (rw e refl)
+
 pub clipped-overflow-is-not-counted : ClippedOverflowIsNotCounted
-unfolding contribution propagates
+unfolding contribution
 clipped-overflow-is-not-counted at size own own' overflow contain scrolls = (
-  λ e. ap₂ (joined at scrolls) (unshown (size .width) (lineX own) (lineX own') _ (hidden (anyScrollContainer overflow) (containsOverflow contain) (isVisible (overflow .x)) e)) (unshown (size .height) (lineY own) (lineY own') _ (hidden (anyScrollContainer overflow) (containsOverflow contain) (isVisible (overflow .y)) e)),
-  λ e f. ap₂ (joined at scrolls) (unshown (size .width) (lineX own) (lineX own') _ (clipped (anyScrollContainer overflow) (containsOverflow contain) (isVisible (overflow .x)) e)) (ap (reach _ (size .height)) f),
-  λ e f. ap₂ (joined at scrolls) (ap (reach _ (size .width)) f) (unshown (size .height) (lineY own) (lineY own') _ (clipped (anyScrollContainer overflow) (containsOverflow contain) (isVisible (overflow .y)) e)),
+  λ h. ap₂ (joined at scrolls) (unshown (size .width) (lineX own) (lineX own') _ (unseen (overflow .x) overflow contain h)) (unshown (size .height) (lineY own) (lineY own') _ (unseen (overflow .y) overflow contain h)),
+  λ e f. ap₂ (joined at scrolls) (unshown (size .width) (lineX own) (lineX own') _ (clips (overflow .x) overflow contain e)) (ap (reach _ (size .height)) f),
+  λ e f. ap₂ (joined at scrolls) (ap (reach _ (size .width)) f) (unshown (size .height) (lineY own) (lineY own') _ (clips (overflow .y) overflow contain e)),
 )
 
 -- ---- exact numbers
@@ -165,28 +214,30 @@ reached false {size} {own} {u} {s} {e} hu hs he =
       highWithin = λ i. refl;
     }
 
+-- a box that stands at `at`, from the area's start edge
+module _ {offset at : Float} {o ξ : N} (ho : Exact 1 bound offset o) (hx : Exact 1 bound at ξ) where
+  from-start : Exact 1 (bound + bound) (at ⊖ offset) (subN ξ o)
+  from-start = sub-exact hx ho (lit< tt)
+
+  from-end : {width size : Float} {ω u : N} → Exact 1 bound width ω → Exact 1 bound size u → Exact 1 (bound + (bound + bound) + bound) (width ⊖ (at ⊖ offset) ⊖ size) (subN (subN ω (subN ξ o)) u)
+  from-end hw hu = sub-exact (sub-exact hw from-start (lit< tt)) hu (lit< tt)
+
 -- the reach of a box that stands at `at`, from the area's start edge, holds a line that its own edges hold
 module _ {offset at width size : Float} {o ξ ω u : N} (ho : Exact 1 bound offset o) (hx : Exact 1 bound at ξ) (hw : Exact 1 bound width ω) (hu : Exact 1 bound size u)
     {r : Line} {σ ε : N} (hs : Exact 1 bound (r .start) σ) (he : Exact 1 bound (r .end) ε) {l : Line} {α β : N} (ha : Exact 1 bound (l .start) α) (hb : Exact 1 bound (l .end) β)
     (low : LeN σ α) (high : LeN β ε) where
-  from-start : Exact 1 (bound + bound) (at ⊖ offset) (subN ξ o)
-  from-start = sub-exact hx ho (lit< tt)
-
   forwards : HoldsForwards (placedAt (at ⊖ offset) r) offset at l
   unfolding placedAt
   forwards = (
-    at-most-sums (add-exact from-start hs (lit< tt) and ho and nil) (hx and ha and nil) (omega arith),
-    at-most-sums (hx and hb and nil) (add-exact from-start he (lit< tt) and ho and nil) (omega arith),
+    at-most-sums (add-exact (from-start ho hx) hs (lit< tt) and ho and nil) (hx and ha and nil) (omega arith),
+    at-most-sums (hx and hb and nil) (add-exact (from-start ho hx) he (lit< tt) and ho and nil) (omega arith),
   )
-
-  from-end : Exact 1 (bound + (bound + bound) + bound) (width ⊖ (at ⊖ offset) ⊖ size) (subN (subN ω (subN ξ o)) u)
-  from-end = sub-exact (sub-exact hw from-start (lit< tt)) hu (lit< tt)
 
   backwards : HoldsBackwards (placedAt (width ⊖ (at ⊖ offset) ⊖ size) r) offset width at size l
   unfolding placedAt
   backwards = (
-    at-most-sums (add-exact from-end hs (lit< tt) and hx and hu and nil) (ho and hw and ha and nil) (omega arith),
-    at-most-sums (ho and hw and hb and nil) (add-exact from-end he (lit< tt) and hx and hu and nil) (omega arith),
+    at-most-sums (add-exact (from-end ho hx hw hu) hs (lit< tt) and hx and hu and nil) (ho and hw and ha and nil) (omega arith),
+    at-most-sums (ho and hw and hb and nil) (add-exact (from-end ho hx hw hu) he (lit< tt) and hx and hu and nil) (omega arith),
   )
 
 -- ---- the laws
@@ -245,9 +296,9 @@ contribution-holds-the-box container style candidate =
     (λ size laid h. (let l = layoutOf container style candidate (resolvedBox container style candidate) size (laid .overflow) in
     or-zeros container style l h (HoldsTheBox container l) (box-held container style l h)))
 
-visible : (o : Overflow) (p : OverflowPoint) (c : Contain) → o ≡ Visible → anyScrollContainer p ≡ false → containsOverflow c ≡ false → propagates o p c ≡ true
+visible : (o : Overflow) (p : OverflowPoint) (c : Contain) → o ≡ Visible → NoScroller p → NotContained c → propagates o p c ≡ true
 unfolding propagates
-visible o p c e f n = rw (e, f, n) refl
+visible o p c e f n = rw (e, no-scroller p f, not-contained c n) refl
 
 pub contribution-holds-its-overflow : ContributionHoldsItsOverflow
 unfolding boxLayout layoutOf
@@ -328,12 +379,12 @@ module _ (container : ContainingBlock) (style : Style) (l : Layout) (h : Fine co
       go Ltr e = left-to-right (p .0 e)
       go Rtl e = right-to-left (p .1 e)
 
-  counts : lt 0f (l .size .width) ≡ true → lt 0f (l .size .height) ≡ true → (anyScrollContainer (container .overflow) ≡ true → PastTheStart container l) → HoldsTheBox container l (found container style l h)
+  counts : lt 0f (l .size .width) ≡ true → lt 0f (l .size .height) ≡ true → (Scroller (container .overflow) → PastTheStart container l) → HoldsTheBox container l (found container style l h)
   counts w t p =
       subst (HoldsTheBox container l)
       (sym
       (not-zeros (origin container style l h) (l .size) (l .overflow) (style .overflow) (style .contain) (anyScrollContainer (container .overflow)) (neither _ _ (wide w) (tall t))
-      (where-scrolling (anyScrollContainer (container .overflow)) _ (λ s. past (p s)))))
+      (where-scrolling (anyScrollContainer (container .overflow)) _ (λ s. past (p (scroller (container .overflow) s))))))
       (box-held container style l h)
 
 pub contribution-counts : ContributionCounts
@@ -377,3 +428,90 @@ pub contribution-holds-no-more : ContributionHoldsNoMore
 unfolding boxLayout layoutOf
 contribution-holds-no-more container style candidate =
     placed-always _ container style candidate (λ size laid h i. no-more container style (layoutOf container style candidate (resolvedBox container style candidate) size (laid .overflow)) h i)
+
+-- ---- exactly the union
+
+hides : (shows : Bool) (size : Float) (own : Line) → shows ≡ false → reach shows size own ≡ 0f to size
+unfolding reach
+hides shows size own e = rw e refl
+
+shows : (b : Bool) (size : Float) (own : Line) → b ≡ true → reach b size own ≡ smaller 0f (own .start) to larger size (own .end)
+unfolding reach
+shows b size own e = rw e refl
+
+reaches : (style : Style) (along : Overflow) (size : Float) (own : Line) → Reaches style along size own (reach (propagates along (style .overflow) (style .contain)) size own)
+reaches style along size own =
+    record {
+      shown = λ e f n. shows _ size own (visible along (style .overflow) (style .contain) e f n);
+      clipped = λ e. hides _ size own (clips along (style .overflow) (style .contain) e);
+      scrolled = λ s. hides _ size own (unseen along (style .overflow) (style .contain) (inl s));
+      contained = λ c. hides _ size own (unseen along (style .overflow) (style .contain) (inr c));
+    }
+
+module _ {offset at width size : Float} {o ξ ω u : N} (ho : Exact 1 bound offset o) (hx : Exact 1 bound at ξ) (hw : Exact 1 bound width ω) (hu : Exact 1 bound size u)
+    {r : Line} {σ ε : N} (hs : Exact 1 bound (r .start) σ) (he : Exact 1 bound (r .end) ε) where
+  is-forwards : IsForwards (placedAt (at ⊖ offset) r) offset at r
+  unfolding placedAt
+  is-forwards = (
+    equal-sums (add-exact (from-start ho hx) hs (lit< tt) and ho and nil) (hx and hs and nil) (omega arith),
+    equal-sums (add-exact (from-start ho hx) he (lit< tt) and ho and nil) (hx and he and nil) (omega arith),
+  )
+
+  is-backwards : IsBackwards (placedAt (width ⊖ (at ⊖ offset) ⊖ size) r) offset width at size r
+  unfolding placedAt
+  is-backwards = (
+    equal-sums (add-exact (from-end ho hx hw hu) hs (lit< tt) and hx and hu and nil) (ho and hw and hs and nil) (omega arith),
+    equal-sums (add-exact (from-end ho hx hw hu) he (lit< tt) and hx and hu and nil) (ho and hw and he and nil) (omega arith),
+  )
+
+-- zeros, by either test
+empty-zeros : (at : Point) (scrolls : Bool) (x y : Line) → (le (x .end) 0f ≡ true) ⊎ (le (y .end) 0f ≡ true) → joined at scrolls x y ≡ zeroRect
+empty-zeros at scrolls x y o = rw (or-true (le (x .end) 0f) (le (y .end) 0f) o) refl
+
+unreachable-zeros : (at : Point) (scrolls : Bool) (x y : Line) → scrolls ≡ true → (le (placedAt (at .x) x .end) 0f ≡ true) ⊎ (le (placedAt (at .y) y .end) 0f ≡ true) → joined at scrolls x y ≡ zeroRect
+unreachable-zeros at scrolls x y s o = rw (s, or-true (le (placedAt (at .x) x .end) 0f) (le (placedAt (at .y) y .end) 0f) o) (go (le (x .end) 0f || le (y .end) 0f))
+  where
+    go : (b : Bool) → cond b zeroRect zeroRect ≡ zeroRect
+    go true = refl
+    go false = refl
+
+not-before : (scrolls a b : Bool) → (scrolls ≡ false) ⊎ ((a ≡ false) × (b ≡ false)) → scrolls && (a || b) ≡ false
+not-before scrolls a b (inl e) = rw e refl
+not-before true a b (inr (e, f)) = neither a b e f
+not-before false a b (inr h) = refl
+
+either-way : (o : OverflowPoint) (A : Type 0) → NoScroller o ⊎ A → (anyScrollContainer o ≡ false) ⊎ A
+either-way o A (inl n) = inl (no-scroller o n)
+either-way o A (inr a) = inr a
+
+counted : (container : ContainingBlock) (style : Style) (l : Layout)
+    → Counted container style l (contribution (fromOrigin container (l .location) (l .size)) (l .size) (l .overflow) (style .overflow) (style .contain) (anyScrollContainer (container .overflow)))
+unfolding contribution fromOrigin
+counted container style l =
+    let at = fromOrigin container (l .location) (l .size) in
+    let x = reach (propagates (style .overflow .x) (style .overflow) (style .contain)) (l .size .width) (lineX (l .overflow)) in
+    let y = reach (propagates (style .overflow .y) (style .overflow) (style .contain)) (l .size .height) (lineY (l .overflow)) in
+    let scrolls = anyScrollContainer (container .overflow) in
+    record {
+      x = x;
+      y = y;
+      reachX = reaches style (style .overflow .x) (l .size .width) (lineX (l .overflow));
+      reachY = reaches style (style .overflow .y) (l .size .height) (lineY (l .overflow));
+      union = rectOf (placedAt (at .x) x) (placedAt (at .y) y);
+      across =
+          λ h. (
+            λ e. rw e (is-forwards (exactly (h .offsetX)) (exactly (h .x)) (exactly (h .width)) (exactly (h .sizeX)) (x-reach container style l h .start) (x-reach container style l h .end)),
+            λ e. rw e (is-backwards (exactly (h .offsetX)) (exactly (h .x)) (exactly (h .width)) (exactly (h .sizeX)) (x-reach container style l h .start) (x-reach container style l h .end)),
+          );
+      down = λ h. is-forwards (exactly (h .offsetY)) (exactly (h .y)) (exactly (h .width)) (exactly (h .sizeY)) (y-reach container style l h .start) (y-reach container style l h .end);
+      empty = empty-zeros at scrolls x y;
+      unreachable = λ s. unreachable-zeros at scrolls x y (is-scroller (container .overflow) s);
+      counts =
+          λ e f o. not-zeros at (l .size) (l .overflow) (style .overflow) (style .contain) scrolls (neither _ _ e f)
+          (not-before scrolls _ _ (either-way (container .overflow) _ o));
+    }
+
+pub contribution-is-the-union : ContributionIsTheUnion
+unfolding boxLayout layoutOf
+contribution-is-the-union container style candidate =
+    placed-always _ container style candidate (λ size laid. counted container style (layoutOf container style candidate (resolvedBox container style candidate) size (laid .overflow)))

@@ -1,4 +1,4 @@
--- Percentages, and where a box stands. Assumes nothing.
+-- Where a box stands. Assumes nothing.
 use mathlib.Core.Path.{_≡_, refl, sym, ap, ap₂, _∙_}
 use mathlib.Core.Bool.{true, false, cond}
 use lib.Ieee.{Float}
@@ -11,9 +11,8 @@ use Rattle.geometry.specs.declared.Point.{Point}
 use Rattle.geometry.specs.declared.Size.{Size}
 use Rattle.style.specs.Resolve.{byTag, resolved, maybeResolved, resolvedRect}
 use Rattle.style.specs.Values.{isRtl, isScrollContainer, selfRelative, anyScrollContainer}
+use Rattle.style.specs.declared.Overflow.{Overflow}
 use Rattle.style.specs.declared.Style.{Style}
-use Rattle.style.specs.declared.compact_length.CompactLength.{CompactLength}
-use Rattle.style.specs.declared.resolve.Field.{Field}
 use Rattle.style.specs.declared.resolve.Field.the-variants as field
 use Rattle.tree.specs.declared.layout.AxisStaticAlign.{AxisStaticAlign}
 use Rattle.tree.specs.declared.layout.AxisStaticPosition.{AxisStaticPosition}
@@ -23,56 +22,26 @@ use Rattle.oof_resolve.specs.Resolved.{ofWidth, ofEachAxis, lessOffset, horizon
 use Rattle.oof_resolve.specs.declared.ContainingBlock.{ContainingBlock}
 use Rattle.oof_resolve.specs.declared.ResolvedBox.{ResolvedBox}
 use Rattle.oof_common.specs.ScrollableOverflow.{contribution}
-use Rattle.oof_place.specs.Placing.{layoutOf, fromOrigin, boxLayout}
+use Rattle.oof_place.specs.Placing.{scrollbarOf, layoutOf, fromOrigin, boxLayout}
 use Rattle.oof_box.specs.Talk.{_>>=_, Laid}
 use Rattle.oof_box.specs.Box.{placed, stretched, measured, keywordSizes, sizeKeywords}
-use Rattle.oof_box_laws.specs.Laws.{percent, PercentagesOfTheWidth, InsetsOfTheirAxis, StandsByItsAxes, withOffset, SamePlace, StandAlike, ended, asking, MovedAlone, OffsetMovesAlone}
+use Rattle.oof_box_laws.specs.Laws.{percent, PercentagesOfTheWidth, InsetsOfTheirAxis, StandsByItsAxes, withOffset, SamePlace, StandAlike, ended, asking, MovedAlone, OffsetMovesAlone, GutterOf, GuttersAndEdges}
 use Rattle.oof_box_laws.proofs.Always.{alike-bind, placed-always}
-
--- ---- percentages
-
-percent-is : (f : Field) (l : CompactLength) (basis x : Float) → l ≡ percent x → maybeResolved f l basis ≡ Some (basis ⊗ x)
-unfolding maybeResolved resolved byTag
-percent-is f l basis x e = rw e refl
-
-percent-or-zero : (f : Field) (l : CompactLength) (basis x : Float) → l ≡ percent x → orZero (maybeResolved f l basis) ≡ basis ⊗ x
-unfolding unwrapOr
-percent-or-zero f l basis x e = rw (percent-is f l basis x e) refl
-
-pub percentages-of-the-width : PercentagesOfTheWidth
-unfolding resolvedBox horizontal vertical ofWidth paddingOrBorder resolvedRect rectOrZero
-percentages-of-the-width container style candidate x =
-    let w = container .area .size .width in
-    record {
-      marginLeft = percent-is field.InsetOrMargin (style .margin .left) w x;
-      marginRight = percent-is field.InsetOrMargin (style .margin .right) w x;
-      marginTop = percent-is field.InsetOrMargin (style .margin .top) w x;
-      marginBottom = percent-is field.InsetOrMargin (style .margin .bottom) w x;
-      paddingLeft = percent-or-zero field.PaddingOrBorder (style .padding .left) w x;
-      paddingRight = percent-or-zero field.PaddingOrBorder (style .padding .right) w x;
-      paddingTop = percent-or-zero field.PaddingOrBorder (style .padding .top) w x;
-      paddingBottom = percent-or-zero field.PaddingOrBorder (style .padding .bottom) w x;
-      borderLeft = percent-or-zero field.PaddingOrBorder (style .border .left) w x;
-      borderRight = percent-or-zero field.PaddingOrBorder (style .border .right) w x;
-      borderTop = percent-or-zero field.PaddingOrBorder (style .border .top) w x;
-      borderBottom = percent-or-zero field.PaddingOrBorder (style .border .bottom) w x;
-    }
-
-pub insets-of-their-axis : InsetsOfTheirAxis
-unfolding resolvedBox horizontal vertical ofEachAxis resolvedRect
-insets-of-their-axis container style candidate x =
-    record {
-      left = percent-is field.InsetOrMargin (style .inset .left) (container .area .size .width) x;
-      right = percent-is field.InsetOrMargin (style .inset .right) (container .area .size .width) x;
-      top = percent-is field.InsetOrMargin (style .inset .top) (container .area .size .height) x;
-      bottom = percent-is field.InsetOrMargin (style .inset .bottom) (container .area .size .height) x;
-    }
 
 -- ---- where a box stands
 
 pub stands-by-its-axes : StandsByItsAxes
 unfolding boxLayout layoutOf
 stands-by-its-axes container style candidate = placed-always _ container style candidate (λ size laid. (refl, refl, refl))
+
+gutter-of : (o : Overflow) (bar : Float) → GutterOf o bar (scrollbarOf o bar)
+unfolding scrollbarOf
+gutter-of o bar = record { visible = λ e. rw e refl; clip = λ e. rw e refl; hidden = λ e. rw e refl; scroll = λ e. rw e refl }
+
+pub gutters-and-edges : GuttersAndEdges
+unfolding boxLayout layoutOf
+gutters-and-edges container style candidate =
+    placed-always _ container style candidate (λ size laid. (gutter-of (style .overflow .y) (style .scrollbar), gutter-of (style .overflow .x) (style .scrollbar), refl, refl, refl))
 
 -- ---- at another offset
 

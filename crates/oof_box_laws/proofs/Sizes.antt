@@ -11,22 +11,19 @@ use Rattle.util.specs.Laws.{AtOrAbove, AtOrBelow}
 use Rattle.util.specs.declared.math.MaybeF32.{MaybeF32}
 use Rattle.util.specs.declared.math.MaybeF32.the-variants.{None, Some}
 use Rattle.util.proofs.Laws.{larger-bounds, larger-is-one, min-wins, max-binds, at-most-is-transitive}
-use Rattle.geometry.specs.Geometry.{zeroSize, definite, bothPresent, firstSize, addedSize, raisedSize, filledSize, clampedSize, clampedFloats, completed, withRatio}
+use Rattle.geometry.specs.Geometry.{bothPresent, filledSize, clampedSize, clampedFloats, withRatio}
 use Rattle.geometry.specs.declared.Size.{Size}
 use Rattle.geometry.specs.declared.MaybeSize.{MaybeSize}
-use Rattle.style.specs.Resolve.{byTag, resolved, maybeResolved, resolvedSize}
-use Rattle.style.specs.Values.{isContentBox}
+use Rattle.style.specs.Resolve.{byTag, resolved}
 use Rattle.style.specs.declared.Style.{Style}
 use Rattle.style.specs.declared.compact_length.CompactLength.{CompactLength}
-use Rattle.style.specs.declared.compact_length.LengthSize.{LengthSize}
-use Rattle.style.specs.declared.resolve.Field.{Field}
-use Rattle.style.specs.declared.resolve.Field.the-variants as field
 use Rattle.tree.specs.declared.layout.OofCandidate.{OofCandidate}
 use Rattle.oof_axis.specs.Axis.{stretchFit, stretches}
-use Rattle.oof_resolve.specs.Resolved.{styleSize, minSize, resolvedBox}
+use Rattle.oof_axis.specs.declared.OofAxis.{OofAxis}
+use Rattle.oof_resolve.specs.Resolved.{resolvedBox}
 use Rattle.oof_resolve.specs.declared.ContainingBlock.{ContainingBlock}
 use Rattle.oof_resolve.specs.declared.ResolvedBox.{ResolvedBox}
-use Rattle.oof_common.specs.SizingKeyword.{ifAbsent, keywordsOf}
+use Rattle.oof_common.specs.SizingKeyword.{ifAbsent, ofResolved, keywordOf, keywordsOf}
 use Rattle.oof_common.specs.declared.sizing_keyword.SizingKeywords.{SizingKeywords}
 use Rattle.oof_common.specs.declared.sizing_keyword.SizingKeywordResolution.{SizingKeywordResolution}
 use Rattle.oof_common.specs.declared.sizing_keyword.SizingKeywordResolution.the-variants.{NoKeyword, Exact, Measure}
@@ -36,54 +33,10 @@ use Rattle.oof_box.specs.Box.{placed, widthAs, heightAs, inTurn, byKeywords, ra
 use Rattle.oof_box.specs.declared.question.MeasureInput.{MeasureInput}
 use Rattle.oof_box.specs.declared.question.Question.the-variants.{MeasureBoth}
 use Rattle.oof_box.specs.declared.sizing.Stretched.{Stretched}
-use Rattle.oof_box_laws.specs.Laws.{Always, now, later, SizeAlways, Measures, measures, pixels, paddingBorderOf, SizesOfItsBox, MinHolds, MaxHolds, GivenSizeStays, Plain, stretchable, StretchFills, MeasuredIsTheReply, tableMin, TableIsMeasured}
-use Rattle.oof_box_laws.proofs.Always.{size-from, size-always}
+use Rattle.oof_box_laws.specs.Laws.{Always, now, later, SizeAlways, Measures, measures, MinHolds, MaxHolds, GivenSizeStays, NoSizeKeyword, Plain, stretchable, StretchFills, MeasuredIsTheReply, tableMin, TableIsMeasured}
+use Rattle.oof_box_laws.proofs.Always.{always-map, always-any, size-from, size-always}
+use Rattle.oof_box_laws.proofs.Resolved.{ratio-width, ratio-height, auto-is-no-size}
 use Rattle.oof_box_laws.proofs.Clamp.{clamp-is-settled}
-
--- ---- step 2
-
-pixels-are : (f : Field) (l : CompactLength) (basis x : Float) → l ≡ pixels x → maybeResolved f l basis ≡ Some x
-unfolding maybeResolved resolved byTag
-pixels-are f l basis x e = rw e refl
-
-module _ (style : Style) (area edges : Size) (x : Float) (ratio : style .ratio ≡ None) where
-  abbrev added : Size
-  added = cond (isContentBox (style .sizing)) edges zeroSize
-
-  style-width : (f : Field) (lengths : LengthSize) → lengths .width ≡ pixels x → styleSize f lengths style area edges .width ≡ Some (x ⊕ added .width)
-  unfolding styleSize withRatio addedSize mapAdd map resolvedSize
-  style-width f lengths e = rw (ratio, pixels-are f (lengths .width) (area .width) x e) refl
-
-  style-height : (f : Field) (lengths : LengthSize) → lengths .height ≡ pixels x → styleSize f lengths style area edges .height ≡ Some (x ⊕ added .height)
-  unfolding styleSize withRatio addedSize mapAdd map resolvedSize
-  style-height f lengths e = rw (ratio, pixels-are f (lengths .height) (area .height) x e) refl
-
-  min-width : style .min .width ≡ pixels x → minSize style area edges .width ≡ Some (larger (x ⊕ added .width) (edges .width))
-  unfolding minSize raisedSize firstSize definite mapLarger map orElse
-  min-width e = rw (style-width field.MinOrMax (style .min) e) refl
-
-  min-height : style .min .height ≡ pixels x → minSize style area edges .height ≡ Some (larger (x ⊕ added .height) (edges .height))
-  unfolding minSize raisedSize firstSize definite mapLarger map orElse
-  min-height e = rw (style-height field.MinOrMax (style .min) e) refl
-
-clamped-is : (m min max : MaybeF32) (x : Float) → m ≡ Some x → mapClamped m min max ≡ Some (clamped x min max)
-unfolding mapClamped map
-clamped-is m min max x e = rw e refl
-
-pub sizes-of-its-box : SizesOfItsBox
-unfolding resolvedBox clampedSize
-sizes-of-its-box container style candidate x ratio =
-    let area = container .area .size in
-    let box = resolvedBox container style candidate in
-    let edges = paddingBorderOf box in
-    record {
-      maxWidth = style-width style area edges x ratio field.MinOrMax (style .max);
-      maxHeight = style-height style area edges x ratio field.MinOrMax (style .max);
-      minWidth = min-width style area edges x ratio;
-      minHeight = min-height style area edges x ratio;
-      width = λ e. clamped-is _ _ _ _ (style-width style area edges x ratio field.Size (style .size) e);
-      height = λ e. clamped-is _ _ _ _ (style-height style area edges x ratio field.Size (style .size) e);
-    }
 
 -- ---- min: as step 2 has it, or raised for a table
 
@@ -124,36 +77,23 @@ not-above-larger low fit high h k = go (larger-is-one low fit)
     go (inl e) = rw (e, h) refl
     go (inr e) = rw (e, k) refl
 
-raised-binds : (b : Bool) (x low fit high : Float) (min max : MaybeF32) → min ≡ Some low → max ≡ Some high → lt high low ≡ false → lt high fit ≡ false → AtOrBelow high (clamped x (raisedMin b min fit) max)
+raised-binds : (b : Bool) (x low fit high : Float) (min max : MaybeF32) → min ≡ Some low → max ≡ Some high → lt high low ≡ false → (b ≡ true → lt high fit ≡ false)
+    → AtOrBelow high (clamped x (raisedMin b min fit) max)
 unfolding raisedMin unwrapOr
-raised-binds true x low fit high min max e f h k = rw (e, f) (max-binds x high (Some (larger low fit)) (not-above-larger low fit high h k))
+raised-binds true x low fit high min max e f h k = rw (e, f) (max-binds x high (Some (larger low fit)) (not-above-larger low fit high h (k refl)))
 raised-binds false x low fit high min max e f h k = rw (e, f) (max-binds x high (Some low) (rw h refl))
 
 kept-binds : (x low high : Float) (min max : MaybeF32) → min ≡ Some low → max ≡ Some high → lt high low ≡ false → AtOrBelow high (clamped x min max)
 kept-binds x low high min max e f h = rw (e, f) (max-binds x high (Some low) (rw h refl))
 
 -- the stretch-fit sizes are those of the axes
-fit-across : (container : ContainingBlock) (style : Style) (candidate : OofCandidate) → resolvedBox container style candidate .fit .width ≡ stretchFit (resolvedBox container style candidate .horizontal)
+pub fit-across : (container : ContainingBlock) (style : Style) (candidate : OofCandidate) → resolvedBox container style candidate .fit .width ≡ stretchFit (resolvedBox container style candidate .horizontal)
 unfolding resolvedBox
 fit-across container style candidate = refl
 
-fit-down : (container : ContainingBlock) (style : Style) (candidate : OofCandidate) → resolvedBox container style candidate .fit .height ≡ stretchFit (resolvedBox container style candidate .vertical)
+pub fit-down : (container : ContainingBlock) (style : Style) (candidate : OofCandidate) → resolvedBox container style candidate .fit .height ≡ stretchFit (resolvedBox container style candidate .vertical)
 unfolding resolvedBox
 fit-down container style candidate = refl
-
-pub max-holds : MaxHolds
-unfolding finalSize clampedFloats stretched
-max-holds container style candidate low high =
-    let box = resolvedBox container style candidate in (
-      λ e f h k. size-always (λ s. AtOrBelow high (s .width)) container style candidate
-          (λ known s. either (λ at. AtOrBelow high (clamped (filledSize (at .known) s .width) (at .min .width) (box .max .width))) (style .table) _ _
-          (λ t. raised-binds _ _ low (box .fit .width) high (box .min .width) (box .max .width) e f h (rw (fit-across container style candidate) (k t)))
-          (λ t. kept-binds _ low high (box .min .width) (box .max .width) e f h)),
-      λ e f h k. size-always (λ s. AtOrBelow high (s .height)) container style candidate
-          (λ known s. either (λ at. AtOrBelow high (clamped (filledSize (at .known) s .height) (at .min .height) (box .max .height))) (style .table) _ _
-          (λ t. raised-binds _ _ low (box .fit .height) high (box .min .height) (box .max .height) e f h (rw (fit-down container style candidate) (k t)))
-          (λ t. kept-binds _ low high (box .min .height) (box .max .height) e f h)),
-    )
 
 -- ---- a size that is given: clamped already
 
@@ -162,12 +102,12 @@ unfolding mapClamped map present unwrapOr
 settled-once None min max x e = absurd (false≢true (ap present e))
 settled-once (Some y) min max x e = let f = ap (λ (m : MaybeF32). unwrapOr m x) e in subst (λ (z : Float). clamped z min max ≡ z) f (clamp-is-settled y min max)
 
-given-width-settled : (container : ContainingBlock) (style : Style) (candidate : OofCandidate) (x : Float)
+pub given-width-settled : (container : ContainingBlock) (style : Style) (candidate : OofCandidate) (x : Float)
     → let box = resolvedBox container style candidate in box .size .width ≡ Some x → clamped x (box .min .width) (box .max .width) ≡ x
 unfolding resolvedBox clampedSize
 given-width-settled container style candidate x e = settled-once _ _ _ x e
 
-given-height-settled : (container : ContainingBlock) (style : Style) (candidate : OofCandidate) (x : Float)
+pub given-height-settled : (container : ContainingBlock) (style : Style) (candidate : OofCandidate) (x : Float)
     → let box = resolvedBox container style candidate in box .size .height ≡ Some x → clamped x (box .min .height) (box .max .height) ≡ x
 unfolding resolvedBox clampedSize
 given-height-settled container style candidate x e = settled-once _ _ _ x e
@@ -175,27 +115,6 @@ given-height-settled container style candidate x e = settled-once _ _ _ x e
 clamped-stays : (m min max : MaybeF32) (x : Float) → m ≡ Some x → clamped x min max ≡ x → mapClamped m min max ≡ Some x
 unfolding mapClamped map
 clamped-stays m min max x e c = rw (e, c) refl
-
--- a ratio leaves a side that is given
-completed-width : (r : Float) (w h : MaybeF32) (s : MaybeSize) (x : Float) → w ≡ Some x → s .width ≡ Some x → completed r w h s .width ≡ Some x
-unfolding completed
-completed-width r w None s x e f = rw e refl
-completed-width r w (Some h) s x e f = rw e f
-
-completed-height : (r : Float) (w h : MaybeF32) (s : MaybeSize) (x : Float) → h ≡ Some x → s .height ≡ Some x → completed r w h s .height ≡ Some x
-unfolding completed
-completed-height r None h s x e f = rw e refl
-completed-height r (Some w) h s x e f = rw e f
-
-ratio-width : (ratio : MaybeF32) (s : MaybeSize) (x : Float) → s .width ≡ Some x → withRatio ratio s .width ≡ Some x
-unfolding withRatio
-ratio-width None s x e = e
-ratio-width (Some r) s x e = completed-width r (s .width) (s .height) s x e e
-
-ratio-height : (ratio : MaybeF32) (s : MaybeSize) (x : Float) → s .height ≡ Some x → withRatio ratio s .height ≡ Some x
-unfolding withRatio
-ratio-height None s x e = e
-ratio-height (Some r) s x e = completed-height r (s .width) (s .height) s x e e
 
 settled-width : (ratio : MaybeF32) (box : ResolvedBox) (s : MaybeSize) (x : Float) → clamped x (box .min .width) (box .max .width) ≡ x → s .width ≡ Some x → settled ratio box s .width ≡ Some x
 unfolding settled clampedSize
@@ -220,7 +139,7 @@ known-height node style box x c e NoKeyword = now e
 known-height node style box x c e (Exact y) = now (settled-height (style .ratio) box (Some y by box .size .height) x c e)
 known-height node style box x c e (Measure space) = later (λ r. now (settled-height (style .ratio) box (Some r by box .size .height) x c e))
 
-no-keyword : (m : MaybeF32) (k : SizingKeywordResolution) (x : Float) → m ≡ Some x → ifAbsent m k ≡ NoKeyword
+pub no-keyword : (m : MaybeF32) (k : SizingKeywordResolution) (x : Float) → m ≡ Some x → ifAbsent m k ≡ NoKeyword
 unfolding ifAbsent
 no-keyword m k x e = rw e refl
 
@@ -262,33 +181,106 @@ filled-by : (m min min' max : MaybeF32) (x y : Float) → clamped x min max ≡ 
 unfolding unwrapOr
 filled-by m min min' max x y c e f = rw (e, f) c
 
-stretched-width : (style : Style) (box : ResolvedBox) (known : MaybeSize) (x : Float) → clamped x (box .min .width) (box .max .width) ≡ x → known .width ≡ Some x → (s : Size)
-    → finalSize box (stretched style box known) s .width ≡ x
-unfolding finalSize clampedFloats filledSize stretched
-stretched-width style box known x c e s =
-    either (λ at. clamped (unwrapOr (at .known .width) (s .width)) (at .min .width) (box .max .width) ≡ x) (style .table) _ _
-    (λ t. filled-by (known .width) (box .min .width) _ (box .max .width) x (s .width) c e (unraised _ (box .min .width) (box .fit .width) (present-and (known .width) x _ e)))
-    (λ t. filled-by _ (box .min .width) _ (box .max .width) x (s .width) c (tall-width _ box _ _ x c (ap (λ (k : MaybeSize). k .width) (not-widened _ box _ known (present-and (known .width) x _ e)) ∙ e)) refl)
+-- a side that is known stays known
+pub told-width : (style : Style) (box : ResolvedBox) (known : MaybeSize) (x : Float) → clamped x (box .min .width) (box .max .width) ≡ x → known .width ≡ Some x
+    → stretched style box known .known .width ≡ Some x
+unfolding stretched
+told-width style box known x c e =
+    either (λ at. at .known .width ≡ Some x) (style .table) _ _ (λ t. e)
+    (λ t. tall-width _ box _ _ x c (ap (λ (k : MaybeSize). k .width) (not-widened _ box _ known (present-and (known .width) x _ e)) ∙ e))
 
-stretched-height : (style : Style) (box : ResolvedBox) (known : MaybeSize) (x : Float) → clamped x (box .min .height) (box .max .height) ≡ x → known .height ≡ Some x → (s : Size)
+pub told-height : (style : Style) (box : ResolvedBox) (known : MaybeSize) (x : Float) → clamped x (box .min .height) (box .max .height) ≡ x → known .height ≡ Some x
+    → stretched style box known .known .height ≡ Some x
+unfolding stretched
+told-height style box known x c e =
+    either (λ at. at .known .height ≡ Some x) (style .table) _ _ (λ t. e)
+    (λ t. ap (λ (k : MaybeSize). k .height) (not-heightened _ box _ _ (present-and (known .height) x _ e)) ∙ wide-height _ box _ known x c e)
+
+-- with the min of step 2
+own-min-width : (style : Style) (box : ResolvedBox) (known : MaybeSize) (x : Float) → known .width ≡ Some x → stretched style box known .min .width ≡ box .min .width
+unfolding stretched
+own-min-width style box known x e =
+    either (λ at. at .min .width ≡ box .min .width) (style .table) _ _ (λ t. unraised _ (box .min .width) (box .fit .width) (present-and (known .width) x _ e)) (λ t. refl)
+
+own-min-height : (style : Style) (box : ResolvedBox) (known : MaybeSize) (x : Float) → known .height ≡ Some x → stretched style box known .min .height ≡ box .min .height
+unfolding stretched
+own-min-height style box known x e =
+    either (λ at. at .min .height ≡ box .min .height) (style .table) _ _ (λ t. unraised _ (box .min .height) (box .fit .height) (present-and (known .height) x _ e)) (λ t. refl)
+
+pub stretched-width : (style : Style) (box : ResolvedBox) (known : MaybeSize) (x : Float) → clamped x (box .min .width) (box .max .width) ≡ x → known .width ≡ Some x → (s : Size)
+    → finalSize box (stretched style box known) s .width ≡ x
+unfolding finalSize clampedFloats filledSize
+stretched-width style box known x c e s = filled-by _ (box .min .width) _ (box .max .width) x (s .width) c (told-width style box known x c e) (own-min-width style box known x e)
+
+pub stretched-height : (style : Style) (box : ResolvedBox) (known : MaybeSize) (x : Float) → clamped x (box .min .height) (box .max .height) ≡ x → known .height ≡ Some x → (s : Size)
     → finalSize box (stretched style box known) s .height ≡ x
-unfolding finalSize clampedFloats filledSize stretched
-stretched-height style box known x c e s =
-    either (λ at. clamped (unwrapOr (at .known .height) (s .height)) (at .min .height) (box .max .height) ≡ x) (style .table) _ _
-    (λ t. filled-by (known .height) (box .min .height) _ (box .max .height) x (s .height) c e (unraised _ (box .min .height) (box .fit .height) (present-and (known .height) x _ e)))
-    (λ t. filled-by _ (box .min .height) _ (box .max .height) x (s .height) c
-    (ap (λ (k : MaybeSize). k .height) (not-heightened _ box _ _ (present-and (known .height) x _ e)) ∙ wide-height _ box _ known x c e) refl)
+unfolding finalSize clampedFloats filledSize
+stretched-height style box known x c e s = filled-by _ (box .min .height) _ (box .max .height) x (s .height) c (told-height style box known x c e) (own-min-height style box known x e)
+
+pub width-known : (container : ContainingBlock) (style : Style) (candidate : OofCandidate) (x : Float)
+    → let box = resolvedBox container style candidate in
+    box .size .width ≡ Some x → Always (λ (k : MaybeSize). k .width ≡ Some x) (keywordSizes (candidate .node) style box (sizeKeywords style box))
+unfolding sizeKeywords keywordsOf
+width-known container style candidate x e =
+    let box = resolvedBox container style candidate in
+    rw (no-keyword (box .size .width) _ x e) (known-width (candidate .node) style box x (given-width-settled container style candidate x e) e _)
+
+pub height-known : (container : ContainingBlock) (style : Style) (candidate : OofCandidate) (x : Float)
+    → let box = resolvedBox container style candidate in
+    box .size .height ≡ Some x → Always (λ (k : MaybeSize). k .height ≡ Some x) (keywordSizes (candidate .node) style box (sizeKeywords style box))
+unfolding sizeKeywords keywordsOf
+height-known container style candidate x e =
+    let box = resolvedBox container style candidate in
+    rw (no-keyword (box .size .height) _ x e) (known-height (candidate .node) style box x (given-height-settled container style candidate x e) e _)
 
 pub given-size-stays : GivenSizeStays
-unfolding sizeKeywords keywordsOf
-given-size-stays container style candidate x =
+given-size-stays container style candidate x = (
+  λ e. size-from (λ (k : MaybeSize). k .width ≡ Some x) (λ s. s .width ≡ x) container style candidate (width-known container style candidate x e)
+      (λ known k s. stretched-width style (resolvedBox container style candidate) known x (given-width-settled container style candidate x e) k s),
+  λ e. size-from (λ (k : MaybeSize). k .height ≡ Some x) (λ s. s .height ≡ x) container style candidate (height-known container style candidate x e)
+      (λ known k s. stretched-height style (resolvedBox container style candidate) known x (given-height-settled container style candidate x e) k s),
+)
+
+-- ---- max
+
+-- a side that step 2 has is known after step 4
+known-or-absent : (m : MaybeF32) (known : MaybeSize → MaybeF32) (talk : Talk MaybeSize) → ((x : Float) → m ≡ Some x → Always (λ (k : MaybeSize). known k ≡ Some x) talk)
+    → Always (λ (k : MaybeSize). (m ≡ None) ⊎ (present (known k) ≡ true)) talk
+known-or-absent None known talk f = always-map (λ (k : MaybeSize). Unit {0}) _ talk (λ k u. inl refl) (always-any talk)
+known-or-absent (Some x) known talk f = always-map (λ (k : MaybeSize). known k ≡ Some x) _ talk (λ k e. inr (is-present (known k) x e)) (f x refl)
+
+and-false : (b c : Bool) → c ≡ false → b && c ≡ false
+and-false true c e = e
+and-false false c e = refl
+
+not-stretchable : (style : Style) → style .table ≡ true → stretchable style ≡ false
+not-stretchable style t = and-false (not (style .replaced)) (not (style .table)) (ap not t)
+
+-- a table's min is raised where its side is absent and stretches
+raised-where : (m k : MaybeF32) (a : OofAxis) (plain : Bool) → (m ≡ None) ⊎ (present k ≡ true) → plain ≡ false → not (present k) && stretches a plain ≡ true → (m ≡ None) × (stretches a false ≡ true)
+raised-where m k a plain o p t = subst (λ (b : Bool). (m ≡ None) × (stretches a b ≡ true)) p (go (present k) (stretches a plain) o t)
+  where
+    go : (b c : Bool) → (m ≡ None) ⊎ (b ≡ true) → not b && c ≡ true → (m ≡ None) × (c ≡ true)
+    go true c o t = absurd (false≢true t)
+    go false c (inl e) t = (e, t)
+    go false c (inr e) t = absurd (false≢true e)
+
+pub max-holds : MaxHolds
+unfolding finalSize clampedFloats stretched
+max-holds container style candidate low high =
     let box = resolvedBox container style candidate in (
-      λ e. (let c = given-width-settled container style candidate x e in
-          size-from (λ (k : MaybeSize). k .width ≡ Some x) (λ s. s .width ≡ x) container style candidate
-          (rw (no-keyword (box .size .width) _ x e) (known-width (candidate .node) style box x c e _)) (λ known k s. stretched-width style box known x c k s)),
-      λ e. (let c = given-height-settled container style candidate x e in
-          size-from (λ (k : MaybeSize). k .height ≡ Some x) (λ s. s .height ≡ x) container style candidate
-          (rw (no-keyword (box .size .height) _ x e) (known-height (candidate .node) style box x c e _)) (λ known k s. stretched-height style box known x c k s)),
+      λ e f h k. size-from (λ (known : MaybeSize). (box .size .width ≡ None) ⊎ (present (known .width) ≡ true)) (λ s. AtOrBelow high (s .width)) container style candidate
+          (known-or-absent (box .size .width) (λ (known : MaybeSize). known .width) _ (width-known container style candidate))
+          (λ known o s. either (λ at. AtOrBelow high (clamped (filledSize (at .known) s .width) (at .min .width) (box .max .width))) (style .table) _ _
+          (λ t. raised-binds _ _ low (box .fit .width) high (box .min .width) (box .max .width) e f h
+          (λ b. (let w = raised-where (box .size .width) (known .width) (box .horizontal) _ o (not-stretchable style t) b in rw (fit-across container style candidate) (k t (w .0) (w .1)))))
+          (λ t. kept-binds _ low high (box .min .width) (box .max .width) e f h)),
+      λ e f h k. size-from (λ (known : MaybeSize). (box .size .height ≡ None) ⊎ (present (known .height) ≡ true)) (λ s. AtOrBelow high (s .height)) container style candidate
+          (known-or-absent (box .size .height) (λ (known : MaybeSize). known .height) _ (height-known container style candidate))
+          (λ known o s. either (λ at. AtOrBelow high (clamped (filledSize (at .known) s .height) (at .min .height) (box .max .height))) (style .table) _ _
+          (λ t. raised-binds _ _ low (box .fit .height) high (box .min .height) (box .max .height) e f h
+          (λ b. (let w = raised-where (box .size .height) (known .height) (box .vertical) _ o (not-stretchable style t) b in rw (fit-down container style candidate) (k t (w .0) (w .1)))))
+          (λ t. kept-binds _ low high (box .min .height) (box .max .height) e f h)),
     )
 
 -- ---- an auto size, without ratio and keyword: stretched to its stretch-fit size, clamped, or still absent
@@ -309,7 +301,7 @@ absent-and : (m : MaybeF32) (b c : Bool) → m ≡ None → b ≡ c → not (pre
 unfolding present
 absent-and m b c e f = rw e f
 
-abbrev fitIf : Bool → Float → MaybeF32 → MaybeF32 → MaybeF32
+abbrev pub fitIf : Bool → Float → MaybeF32 → MaybeF32 → MaybeF32
 fitIf b fit min max = cond b (Some (clamped fit min max)) None
 
 -- clamped again
@@ -348,48 +340,67 @@ no-table t a b e = rw e refl
 
 -- after step 5 of a box that is no table
 module _ (style : Style) (box : ResolvedBox) (b : Bool) (ratio : style .ratio ≡ None) (table : style .table ≡ false) where
-  auto-width : box .size .width ≡ None → stretches (box .horizontal) (stretchable style) ≡ b
+  pub auto-width : box .size .width ≡ None → stretches (box .horizontal) (stretchable style) ≡ b
       → (stretched style box (box .size) .known .width ≡ fitIf b (box .fit .width) (box .min .width) (box .max .width)) × (stretched style box (box .size) .min ≡ box .min)
   unfolding stretched
   auto-width e s =
       rw (no-table (style .table) _ _ table)
       (tall-auto _ box _ b (widened _ box _ (box .size)) (no-ratio style box _ _ ratio) (wide-auto _ box _ b (box .size) (no-ratio style box _ _ ratio) (absent-and (box .size .width) _ b e s) e), refl)
 
-  auto-height : box .size .height ≡ None → stretches (box .vertical) (stretchable style) ≡ b
+  pub auto-height : box .size .height ≡ None → stretches (box .vertical) (stretchable style) ≡ b
       → (stretched style box (box .size) .known .height ≡ fitIf b (box .fit .height) (box .min .height) (box .max .height)) × (stretched style box (box .size) .min ≡ box .min)
   unfolding stretched
   auto-height e s =
       rw (no-table (style .table) _ _ table)
       (tall-fills _ box _ b (widened _ box _ (box .size)) (no-ratio style box _ _ ratio) (absent-and (box .size .height) _ b e s) (wide-leaves _ box _ (box .size) (no-ratio style box _ _ ratio) e), refl)
 
-known-is : {A : Type 0} (m : Talk A) (a : A) → m ≡ done a → Always (λ (k : A). k ≡ a) m
+pub known-is : {A : Type 0} (m : Talk A) (a : A) → m ≡ done a → Always (λ (k : A). k ≡ a) m
 known-is m a e = rw e (now refl)
+
+no-size-keyword : (l : CompactLength) (stretch basis : Float) → NoSizeKeyword l → keywordOf l stretch basis ≡ NoKeyword
+unfolding keywordOf ofResolved resolved byTag
+no-size-keyword l stretch basis (inl e) = rw e refl
+no-size-keyword l stretch basis (inr (inl e)) = rw e refl
+no-size-keyword l stretch basis (inr (inr (inl e))) = rw e refl
+no-size-keyword l stretch basis (inr (inr (inr e))) = rw e refl
+
+none-if-absent : (m : MaybeF32) (k : SizingKeywordResolution) → k ≡ NoKeyword → ifAbsent m k ≡ NoKeyword
+unfolding ifAbsent
+none-if-absent None k e = e
+none-if-absent (Some x) k e = refl
+
+pub plain-keywords : (node : ℕ) (style : Style) (box : ResolvedBox) → Plain style → keywordSizes node style box (sizeKeywords style box) ≡ done (box .size)
+unfolding sizeKeywords keywordsOf
+plain-keywords node style box k =
+    no-keywords node style box (sizeKeywords style box) (none-if-absent (box .size .width) _ (no-size-keyword (style .size .width) _ _ (k .width)))
+    (none-if-absent (box .size .height) _ (no-size-keyword (style .size .height) _ _ (k .height)))
 
 -- the final size by the size that step 2 left
 from-step-two : (P : Size → Type 0) (container : ContainingBlock) (style : Style) (candidate : OofCandidate)
     → let box = resolvedBox container style candidate in
-    Plain style box → ((s : Size) → P (finalSize box (stretched style box (box .size)) s)) → SizeAlways P container style candidate
+    Plain style → ((s : Size) → P (finalSize box (stretched style box (box .size)) s)) → SizeAlways P container style candidate
 from-step-two P container style candidate k f =
     let box = resolvedBox container style candidate in
     size-from (λ (known : MaybeSize). known ≡ box .size) P container style candidate
-    (known-is (keywordSizes (candidate .node) style box (sizeKeywords style box)) (box .size) (no-keywords (candidate .node) style box (sizeKeywords style box) (k .width) (k .height)))
+    (known-is (keywordSizes (candidate .node) style box (sizeKeywords style box)) (box .size) (plain-keywords (candidate .node) style box k))
     (λ known e s. rw e (f s))
 
-stretch-side : (m min min' max : MaybeF32) (fit y : Float) → m ≡ fitIf true fit min max → min' ≡ min → clamped (unwrapOr m y) min' max ≡ clamped fit min max
+pub stretch-side : (m min min' max : MaybeF32) (fit y : Float) → m ≡ fitIf true fit min max → min' ≡ min → clamped (unwrapOr m y) min' max ≡ clamped fit min max
 unfolding unwrapOr
 stretch-side m min min' max fit y e f = rw (e, f) (clamp-is-settled fit min max)
 
 pub stretch-fills : StretchFills
 unfolding finalSize clampedFloats filledSize
 stretch-fills container style candidate k t =
+    let z = auto-is-no-size container style candidate .0 in
     let box = resolvedBox container style candidate in (
-      λ e s. (let h = auto-width style box true (k .ratio) t e s in
+      λ e s. (let h = auto-width style box true (k .ratio) t (z .width (k .ratio) e) s in
           from-step-two (λ z. z .width ≡ clamped (stretchFit (box .horizontal)) (box .min .width) (box .max .width)) container style candidate k
-          (λ z. stretch-side (stretched style box (box .size) .known .width) (box .min .width) _ (box .max .width) (box .fit .width) (z .width) (h .0) (ap (λ (m : MaybeSize). m .width) (h .1))
+          (λ s. stretch-side (stretched style box (box .size) .known .width) (box .min .width) _ (box .max .width) (box .fit .width) (s .width) (h .0) (ap (λ (m : MaybeSize). m .width) (h .1))
           ∙ ap (λ (x : Float). clamped x (box .min .width) (box .max .width)) (fit-across container style candidate))),
-      λ e s. (let h = auto-height style box true (k .ratio) t e s in
+      λ e s. (let h = auto-height style box true (k .ratio) t (z .height (k .ratio) e) s in
           from-step-two (λ z. z .height ≡ clamped (stretchFit (box .vertical)) (box .min .height) (box .max .height)) container style candidate k
-          (λ z. stretch-side (stretched style box (box .size) .known .height) (box .min .height) _ (box .max .height) (box .fit .height) (z .height) (h .0) (ap (λ (m : MaybeSize). m .height) (h .1))
+          (λ s. stretch-side (stretched style box (box .size) .known .height) (box .min .height) _ (box .max .height) (box .fit .height) (s .height) (h .0) (ap (λ (m : MaybeSize). m .height) (h .1))
           ∙ ap (λ (x : Float). clamped x (box .min .height) (box .max .height)) (fit-down container style candidate))),
     )
 
@@ -398,10 +409,6 @@ stretch-fills container style candidate k t =
 not-both-width : (a : MaybeSize) → a .width ≡ None → bothPresent a ≡ false
 unfolding bothPresent present
 not-both-width a e = rw e refl
-
-and-false : (b c : Bool) → c ≡ false → b && c ≡ false
-and-false true c e = e
-and-false false c e = refl
 
 not-both-height : (a : MaybeSize) → a .height ≡ None → bothPresent a ≡ false
 unfolding bothPresent present
@@ -415,13 +422,13 @@ asks node box at e = rw e refl
 -- the question, its reply and the outcome
 asks-both : (P : MeasureInput → Size → Size → Type 0) (container : ContainingBlock) (style : Style) (candidate : OofCandidate)
     → let box = resolvedBox container style candidate in let at = stretched style box (box .size) in
-    Plain style box → bothPresent (at .known) ≡ false
+    Plain style → bothPresent (at .known) ≡ false
     → ((r : Size) → P (record { node = candidate .node; known = at .known; space = box .space }) r (finalSize box at r))
     → Measures (λ m r p. P m r (p .outcome .layout .size)) (placed container style candidate)
 unfolding placed boxLayout layoutOf _>>=_
 asks-both P container style candidate k n f =
     let box = resolvedBox container style candidate in
-    rw (no-keywords (candidate .node) style box (sizeKeywords style box) (k .width) (k .height), asks (candidate .node) box (stretched style box (box .size)) n)
+    rw (plain-keywords (candidate .node) style box k, asks (candidate .node) box (stretched style box (box .size)) n)
     (measures (λ r. later (λ laid. now (f r))))
 
 absent-side : (m min min' max : MaybeF32) (y : Float) → m ≡ None → min' ≡ min → clamped (unwrapOr m y) min' max ≡ clamped y min max
@@ -431,12 +438,13 @@ absent-side m min min' max y e f = rw (e, f) refl
 pub measured-is-the-reply : MeasuredIsTheReply
 unfolding finalSize clampedFloats filledSize
 measured-is-the-reply container style candidate k t =
+    let z = auto-is-no-size container style candidate .0 in
     let box = resolvedBox container style candidate in
     let at = stretched style box (box .size) in (
-      λ e s. (let h = auto-width style box false (k .ratio) t e s in
+      λ e s. (let h = auto-width style box false (k .ratio) t (z .width (k .ratio) e) s in
           asks-both (λ m r z. (m .known .width ≡ None) × (z .width ≡ clamped (r .width) (box .min .width) (box .max .width))) container style candidate k (not-both-width (at .known) (h .0))
           (λ r. (h .0, absent-side (at .known .width) (box .min .width) _ (box .max .width) (r .width) (h .0) (ap (λ (m : MaybeSize). m .width) (h .1))))),
-      λ e s. (let h = auto-height style box false (k .ratio) t e s in
+      λ e s. (let h = auto-height style box false (k .ratio) t (z .height (k .ratio) e) s in
           asks-both (λ m r z. (m .known .height ≡ None) × (z .height ≡ clamped (r .height) (box .min .height) (box .max .height))) container style candidate k (not-both-height (at .known) (h .0))
           (λ r. (h .0, absent-side (at .known .height) (box .min .height) _ (box .max .height) (r .height) (h .0) (ap (λ (m : MaybeSize). m .height) (h .1))))),
     )
@@ -445,9 +453,6 @@ measured-is-the-reply container style candidate k t =
 
 is-table : (t : Bool) (a b : Stretched) → t ≡ true → cond t a b ≡ a
 is-table t a b e = rw e refl
-
-not-stretchable : (style : Style) → style .table ≡ true → stretchable style ≡ false
-not-stretchable style t = and-false (not (style .replaced)) (not (style .table)) (ap not t)
 
 raised : (b : Bool) (min : MaybeF32) (low fit : Float) → min ≡ Some low → raisedMin b min fit ≡ Some (tableMin b low fit)
 unfolding raisedMin unwrapOr
@@ -473,20 +478,21 @@ module _ (style : Style) (box : ResolvedBox) (table : style .table ≡ true) whe
 pub table-is-measured : TableIsMeasured
 unfolding finalSize clampedFloats filledSize
 table-is-measured container style candidate low k t =
+    let z = auto-is-no-size container style candidate .0 in
     let box = resolvedBox container style candidate in
     let at = stretched style box (box .size) in (
-      λ e m. (let h = ap (λ (s : MaybeSize). s .width) (table-known style box t) ∙ e in
+      λ e m. (let h = ap (λ (s : MaybeSize). s .width) (table-known style box t) ∙ z .width (k .ratio) e in
           asks-both (λ m r z. (m .known .width ≡ None) × (z .width ≡ clamped (r .width) (Some (tableMin (stretches (box .horizontal) false) low (stretchFit (box .horizontal)))) (box .max .width))) container style candidate k (not-both-width (at .known) h)
           (λ r. (
             h,
             absent-side (at .known .width) _ _ (box .max .width) (r .width) h
-                (table-width style box t low e m ∙ ap (λ (x : Float). Some (tableMin (stretches (box .horizontal) false) low x)) (fit-across container style candidate)),
+                (table-width style box t low (z .width (k .ratio) e) m ∙ ap (λ (x : Float). Some (tableMin (stretches (box .horizontal) false) low x)) (fit-across container style candidate)),
           ))),
-      λ e m. (let h = ap (λ (s : MaybeSize). s .height) (table-known style box t) ∙ e in
+      λ e m. (let h = ap (λ (s : MaybeSize). s .height) (table-known style box t) ∙ z .height (k .ratio) e in
           asks-both (λ m r z. (m .known .height ≡ None) × (z .height ≡ clamped (r .height) (Some (tableMin (stretches (box .vertical) false) low (stretchFit (box .vertical)))) (box .max .height))) container style candidate k (not-both-height (at .known) h)
           (λ r. (
             h,
             absent-side (at .known .height) _ _ (box .max .height) (r .height) h
-                (table-height style box t low e m ∙ ap (λ (x : Float). Some (tableMin (stretches (box .vertical) false) low x)) (fit-down container style candidate)),
+                (table-height style box t low (z .height (k .ratio) e) m ∙ ap (λ (x : Float). Some (tableMin (stretches (box .vertical) false) low x)) (fit-down container style candidate)),
           ))),
     )

@@ -1,7 +1,8 @@
--- What CSS says of one box (css-position-3 #abspos-auto-size, css-sizing-3 #min-size-properties, css-tables-3 #abspos, css-box-4 #margins) and
--- of what it adds to the scrollable overflow (css-overflow-3 #scrollable), as laws of `placed`: each holds of the whole dialogue, whatever
--- the host replies. Where a box stands in an axis is said by the laws of one axis (oof_axis/specs/Laws.antt, oof_axis_laws/specs/Laws.antt), to
--- which `StandsByItsAxes` leads. `proofs/` proves each, under its name in small letters. Assumes nothing.
+-- What CSS says of one box (css-position-3 #abspos-auto-size, css-sizing-3 #min-size-properties, css-tables-3 #abspos) and of what it adds to
+-- the scrollable overflow (css-overflow-3 #scrollable), as laws of `placed`: they hold of the whole dialogue, whatever the host replies. (Two
+-- are of a part: `ClampIsSettled` of a clamp, `ClippedOverflowIsNotCounted` of `contribution`.) What the style comes to first is said by
+-- Resolved.antt; where a box stands in an axis by the laws of one axis (oof_axis/specs/Laws.antt, oof_axis_laws/specs/Laws.antt), to which
+-- `StandsByItsAxes` leads. `proofs/` proves each, under its name in small letters. Assumes nothing.
 use mathlib.Core.Path.{_≡_}
 use mathlib.Core.Logic.{_⊎_}
 use mathlib.Core.List.{[], _∷_}
@@ -9,39 +10,44 @@ use mathlib.Core.Bool.{Bool, true, false, cond, not, _&&_, _||_}
 use Prim.Native.Nat.{ℕ, _≤_}
 use lib.Ieee.{Float, lt, le}
 use lib.Ieee.Exact.{HasValue}
-use Rattle.util.specs.Number.{_⊕_, _⊖_, _⊗_, 0f}
-use Rattle.util.specs.Order.{larger}
-use Rattle.util.specs.Maybe.{clamped}
+use Rattle.util.specs.Number.{_⊕_, _⊖_, 0f}
+use Rattle.util.specs.Order.{larger, smaller}
+use Rattle.util.specs.Maybe.{clamped, orZero}
 use Rattle.util.specs.Laws.{AtOrAbove, AtOrBelow}
 use Rattle.util.specs.declared.math.MaybeF32.{MaybeF32}
 use Rattle.util.specs.declared.math.MaybeF32.the-variants.{None, Some}
-use Rattle.geometry.specs.Geometry.{_to_, zeroRect, zeroSize, rectOf, rectSum, sums, countedFrom, lineX, lineY}
+use Rattle.geometry.specs.Geometry.{_to_, zeroRect, rectOf, countedFrom, lineX, lineY}
 use Rattle.geometry.specs.declared.Line.{Line}
 use Rattle.geometry.specs.declared.Point.{Point}
 use Rattle.geometry.specs.declared.Rect.{Rect}
 use Rattle.geometry.specs.declared.Size.{Size}
-use Rattle.style.specs.Values.{isContentBox, anyScrollContainer, containsOverflow, isVisible}
 use Rattle.style.specs.declared.Contain.{Contain}
 use Rattle.style.specs.declared.Direction.the-variants.{Ltr, Rtl}
-use Rattle.style.specs.declared.Overflow.the-variants.{Visible}
+use Rattle.style.specs.declared.Overflow.{Overflow}
+use Rattle.style.specs.declared.Overflow.the-variants.{Visible, Clip, Hidden, Scroll}
 use Rattle.style.specs.declared.OverflowPoint.{OverflowPoint}
 use Rattle.style.specs.declared.Style.{Style}
 use Rattle.style.specs.declared.compact_length.CompactLength.{CompactLength}
+use Rattle.style.specs.declared.available_space.AvailableSize.{AvailableSize}
+use Rattle.style.specs.declared.available_space.AvailableSpace.the-variants.{Definite}
 use Rattle.tree.specs.declared.layout.AxisStaticPosition.{AxisStaticPosition}
 use Rattle.tree.specs.declared.layout.Layout.{Layout}
 use Rattle.tree.specs.declared.layout.OofCandidate.{OofCandidate}
 use Rattle.oof_axis.specs.Axis.{stretchFit, stretches, placement}
+use Rattle.oof_axis.specs.declared.OofAxis.{OofAxis}
 use Rattle.oof_resolve.specs.Resolved.{resolvedBox}
 use Rattle.oof_resolve.specs.declared.ContainingBlock.{ContainingBlock}
 use Rattle.oof_resolve.specs.declared.ResolvedBox.{ResolvedBox}
 use Rattle.oof_common.specs.ScrollableOverflow.{contribution}
 use Rattle.oof_common.specs.declared.sizing_keyword.SizingKeywordResolution.the-variants.{NoKeyword}
-use Rattle.oof_box.specs.Talk.{Talk, done, ask, ReplyTo}
+use Rattle.oof_box.specs.Talk.{Talk, done, ask, ReplyTo, Laid}
 use Rattle.oof_box.specs.Box.{Placed, placed, sizeKeywords, settled}
+use Rattle.oof_box.specs.declared.question.LayoutInput.{LayoutInput}
 use Rattle.oof_box.specs.declared.question.MeasureInput.{MeasureInput}
 use Rattle.oof_box.specs.declared.question.Question.{Question}
-use Rattle.oof_box.specs.declared.question.Question.the-variants.{MeasureBoth}
+use Rattle.oof_box.specs.declared.question.Question.the-variants.{MeasureBoth, MeasureWidth, MeasureHeight, LayOut}
 use Rattle.oof_axis_laws.specs.Laws.{_=Σ_, _≤Σ_}
+use Rattle.oof_box_laws.specs.Resolved.{IsAutoSize}
 
 -- ---- whatever the host replies
 
@@ -58,31 +64,7 @@ SizeAlways P container style candidate = Always (λ (p : Placed). P (p .outcome 
 pub data Measures (P : MeasureInput → Size → Placed → Type 0) : Talk Placed → Type 0 where
   measures : {m : MeasureInput} {next : Size → Talk Placed} → ((r : Size) → Always (P m r) (next r)) → Measures P (ask (MeasureBoth m) next)
 
--- ---- sizes. Min, max and size are those of step 2, as `SizesOfItsBox` says.
-
-abbrev pub pixels : Float → CompactLength
-pixels x = record { tag = 1; value = x }
-
--- padding plus border
-abbrev pub paddingBorderOf : ResolvedBox → Size
-paddingBorderOf box = sums (rectSum (box .padding) (box .border))
-
--- lengths are of the content box where the box sizing says so: padding plus border is added
-abbrev pub toBorderBox : Style → ResolvedBox → Size
-toBorderBox style box = cond (isContentBox (style .sizing)) (paddingBorderOf box) zeroSize
-
--- min is at least padding plus border, and the size is clamped
-pub record OfItsBox (x : Float) (style : Style) (box : ResolvedBox) : Type 0 where
-  pub maxWidth : style .max .width ≡ pixels x → box .max .width ≡ Some (x ⊕ toBorderBox style box .width)
-  pub maxHeight : style .max .height ≡ pixels x → box .max .height ≡ Some (x ⊕ toBorderBox style box .height)
-  pub minWidth : style .min .width ≡ pixels x → box .min .width ≡ Some (larger (x ⊕ toBorderBox style box .width) (paddingBorderOf box .width))
-  pub minHeight : style .min .height ≡ pixels x → box .min .height ≡ Some (larger (x ⊕ toBorderBox style box .height) (paddingBorderOf box .height))
-  pub width : style .size .width ≡ pixels x → box .size .width ≡ Some (clamped (x ⊕ toBorderBox style box .width) (box .min .width) (box .max .width))
-  pub height : style .size .height ≡ pixels x → box .size .height ≡ Some (clamped (x ⊕ toBorderBox style box .height) (box .min .height) (box .max .height))
-
-abbrev pub SizesOfItsBox : Type 0
-SizesOfItsBox =
-    (container : ContainingBlock) (style : Style) (candidate : OofCandidate) (x : Float) → style .ratio ≡ None → OfItsBox x style (resolvedBox container style candidate)
+-- ---- sizes. Min, max and size are those of step 2, as Resolved.antt says on the style's words.
 
 -- min ≤ size
 abbrev pub MinHolds : Type 0
@@ -92,17 +74,17 @@ MinHolds =
     (box .min .width ≡ Some low → SizeAlways (λ s. AtOrAbove low (s .width)) container style candidate)
     × (box .min .height ≡ Some low → SizeAlways (λ s. AtOrAbove low (s .height)) container style candidate)
 
--- size ≤ max, unless min is above max, or, of a table, its stretch-fit size, to which its min is raised
+-- size ≤ max, unless min is above max, or, of a table that stretches, its stretch-fit size, to which its min is raised (document 01)
 abbrev pub MaxHolds : Type 0
 MaxHolds =
     (container : ContainingBlock) (style : Style) (candidate : OofCandidate) (low high : Float)
     → let box = resolvedBox container style candidate in
-    (box .min .width ≡ Some low → box .max .width ≡ Some high → lt high low ≡ false → (style .table ≡ true → lt high (stretchFit (box .horizontal)) ≡ false)
+    (box .min .width ≡ Some low → box .max .width ≡ Some high → lt high low ≡ false → (style .table ≡ true → box .size .width ≡ None → stretches (box .horizontal) false ≡ true → lt high (stretchFit (box .horizontal)) ≡ false)
     → SizeAlways (λ s. AtOrBelow high (s .width)) container style candidate)
-    × (box .min .height ≡ Some low → box .max .height ≡ Some high → lt high low ≡ false → (style .table ≡ true → lt high (stretchFit (box .vertical)) ≡ false)
+    × (box .min .height ≡ Some low → box .max .height ≡ Some high → lt high low ≡ false → (style .table ≡ true → box .size .height ≡ None → stretches (box .vertical) false ≡ true → lt high (stretchFit (box .vertical)) ≡ false)
     → SizeAlways (λ s. AtOrBelow high (s .height)) container style candidate)
 
--- a size that is given is the size: no reply, no alignment, no ratio and no keyword of the other side changes it
+-- a size that step 2 has (given, or by the ratio; clamped) is the size: no reply, no alignment and no keyword of the other side changes it
 abbrev pub GivenSizeStays : Type 0
 GivenSizeStays =
     (container : ContainingBlock) (style : Style) (candidate : OofCandidate) (x : Float)
@@ -110,11 +92,14 @@ GivenSizeStays =
     (box .size .width ≡ Some x → SizeAlways (λ s. s .width ≡ x) container style candidate)
     × (box .size .height ≡ Some x → SizeAlways (λ s. s .height ≡ x) container style candidate)
 
--- neither a ratio nor a size keyword has a say: a side that isn't given is auto
-pub record Plain (style : Style) (box : ResolvedBox) : Type 0 where
+-- neither a ratio nor a size keyword has a say: each side is in pixels, a percentage, or auto
+abbrev pub NoSizeKeyword : CompactLength → Type 0
+NoSizeKeyword l = (l .tag ≡ 1) ⊎ ((l .tag ≡ 5) ⊎ IsAutoSize l)
+
+pub record Plain (style : Style) : Type 0 where
   pub ratio : style .ratio ≡ None
-  pub width : sizeKeywords style box .width ≡ NoKeyword
-  pub height : sizeKeywords style box .height ≡ NoKeyword
+  pub width : NoSizeKeyword (style .size .width)
+  pub height : NoSizeKeyword (style .size .height)
 
 -- a box that normal alignment stretches: neither replaced nor a table
 abbrev pub stretchable : Style → Bool
@@ -126,24 +111,24 @@ abbrev pub StretchFills : Type 0
 StretchFills =
     (container : ContainingBlock) (style : Style) (candidate : OofCandidate)
     → let box = resolvedBox container style candidate in
-    Plain style box → style .table ≡ false
-    → (box .size .width ≡ None → stretches (box .horizontal) (stretchable style) ≡ true
+    Plain style → style .table ≡ false
+    → (IsAutoSize (style .size .width) → stretches (box .horizontal) (stretchable style) ≡ true
     → SizeAlways (λ s. s .width ≡ clamped (stretchFit (box .horizontal)) (box .min .width) (box .max .width)) container style candidate)
-    × (box .size .height ≡ None → stretches (box .vertical) (stretchable style) ≡ true
+    × (IsAutoSize (style .size .height) → stretches (box .vertical) (stretchable style) ≡ true
     → SizeAlways (λ s. s .height ≡ clamped (stretchFit (box .vertical)) (box .min .height) (box .max .height)) container style candidate)
 
--- any other auto size is asked for, and is the reply, clamped
+-- any other auto size is fit-content: it is asked for, and is the reply, clamped
 abbrev pub MeasuredIsTheReply : Type 0
 MeasuredIsTheReply =
     (container : ContainingBlock) (style : Style) (candidate : OofCandidate)
     → let box = resolvedBox container style candidate in
-    Plain style box → style .table ≡ false
-    → (box .size .width ≡ None → stretches (box .horizontal) (stretchable style) ≡ false
+    Plain style → style .table ≡ false
+    → (IsAutoSize (style .size .width) → stretches (box .horizontal) (stretchable style) ≡ false
     → Measures (λ m r p. (m .known .width ≡ None) × (p .outcome .layout .size .width ≡ clamped (r .width) (box .min .width) (box .max .width))) (placed container style candidate))
-    × (box .size .height ≡ None → stretches (box .vertical) (stretchable style) ≡ false
+    × (IsAutoSize (style .size .height) → stretches (box .vertical) (stretchable style) ≡ false
     → Measures (λ m r p. (m .known .height ≡ None) × (p .outcome .layout .size .height ≡ clamped (r .height) (box .min .height) (box .max .height))) (placed container style candidate))
 
--- a table is never stretched: an auto size of it is asked for, and is the reply, clamped with its min raised to the stretch-fit size where
+-- a table is never stretched (css-tables-3): an auto size of it is asked for, and is the reply, clamped with its min raised to the stretch-fit size where
 -- the alignment is stretch
 abbrev pub tableMin : Bool → Float → Float → Float
 tableMin stretches low fit = cond stretches (larger low fit) low
@@ -152,15 +137,100 @@ abbrev pub TableIsMeasured : Type 0
 TableIsMeasured =
     (container : ContainingBlock) (style : Style) (candidate : OofCandidate) (low : Float)
     → let box = resolvedBox container style candidate in
-    Plain style box → style .table ≡ true
-    → (box .size .width ≡ None → box .min .width ≡ Some low
+    Plain style → style .table ≡ true
+    → (IsAutoSize (style .size .width) → box .min .width ≡ Some low
     → Measures
     (λ m r p. (m .known .width ≡ None)
     × (p .outcome .layout .size .width ≡ clamped (r .width) (Some (tableMin (stretches (box .horizontal) false) low (stretchFit (box .horizontal)))) (box .max .width))) (placed container style candidate))
-    × (box .size .height ≡ None → box .min .height ≡ Some low
+    × (IsAutoSize (style .size .height) → box .min .height ≡ Some low
     → Measures
     (λ m r p. (m .known .height ≡ None)
     × (p .outcome .layout .size .height ≡ clamped (r .height) (Some (tableMin (stretches (box .vertical) false) low (stretchFit (box .vertical)))) (box .max .height))) (placed container style candidate))
+
+-- ---- what the host is asked
+
+-- P holds of every question
+pub data Asks {A : Type 0} (P : Question → Type 0) : Talk A → Type 0 where
+  ends : {a : A} → Asks P (done a)
+  asks : {q : Question} {next : ReplyTo q → Talk A} → P q → ((r : ReplyTo q) → Asks P (next r)) → Asks P (ask q next)
+
+-- the room of a side: the inset-modified block less the margins that aren't auto, at least 0 (the stretch-fit size); of a table no more than
+-- the containing block less them (css-tables-3)
+abbrev pub roomOf : Bool → OofAxis → Float
+roomOf table a = cond table (smaller (stretchFit a) (larger (a .size ⊖ (orZero (a .margin .start) ⊕ orZero (a .margin .end))) 0f)) (stretchFit a)
+
+-- the available space is that room, clamped as a size of the box is
+abbrev pub spaceOf : Style → ResolvedBox → AvailableSize
+spaceOf style box =
+    record {
+      width = Definite (clamped (roomOf (style .table) (box .horizontal)) (box .min .width) (box .max .width));
+      height = Definite (clamped (roomOf (style .table) (box .vertical)) (box .min .height) (box .max .height));
+    }
+
+abbrev pub AskedIn : AvailableSize → Question → Type 0
+AskedIn space (MeasureBoth m) = m .space ≡ space
+AskedIn space (MeasureWidth m) = m .space ≡ space
+AskedIn space (MeasureHeight m) = m .space ≡ space
+AskedIn space (LayOut l) = l .space ≡ space
+
+abbrev pub LaidOutIn : AvailableSize → Question → Type 0
+LaidOutIn space (MeasureBoth m) = Unit {0}
+LaidOutIn space (MeasureWidth m) = Unit {0}
+LaidOutIn space (MeasureHeight m) = Unit {0}
+LaidOutIn space (LayOut l) = l .space ≡ space
+
+-- a box is laid out in that space; without a size keyword it is measured in it too
+abbrev pub SpaceIsTheBlock : Type 0
+SpaceIsTheBlock =
+    (container : ContainingBlock) (style : Style) (candidate : OofCandidate)
+    → let box = resolvedBox container style candidate in
+    Asks (LaidOutIn (spaceOf style box)) (placed container style candidate) × (Plain style → Asks (AskedIn (spaceOf style box)) (placed container style candidate))
+
+-- a width x is told with each question, and never asked for alone; a height likewise
+abbrev pub WidthTold : Float → Question → Type 0
+WidthTold x (MeasureBoth m) = m .known .width ≡ Some x
+WidthTold x (MeasureWidth m) = ⊥
+WidthTold x (MeasureHeight m) = m .known .width ≡ Some x
+WidthTold x (LayOut l) = l .size .width ≡ x
+
+abbrev pub HeightTold : Float → Question → Type 0
+HeightTold x (MeasureBoth m) = m .known .height ≡ Some x
+HeightTold x (MeasureWidth m) = m .known .height ≡ Some x
+HeightTold x (MeasureHeight m) = ⊥
+HeightTold x (LayOut l) = l .size .height ≡ x
+
+-- a size that step 2 has is told
+abbrev pub GivenSizeIsTold : Type 0
+GivenSizeIsTold =
+    (container : ContainingBlock) (style : Style) (candidate : OofCandidate) (x : Float)
+    → let box = resolvedBox container style candidate in
+    (box .size .width ≡ Some x → Asks (WidthTold x) (placed container style candidate)) × (box .size .height ≡ Some x → Asks (HeightTold x) (placed container style candidate))
+
+-- an auto size that stretches is told: the height of a stretched width is measured at that width
+abbrev pub StretchedSizeIsTold : Type 0
+StretchedSizeIsTold =
+    (container : ContainingBlock) (style : Style) (candidate : OofCandidate)
+    → let box = resolvedBox container style candidate in
+    Plain style → style .table ≡ false
+    → (IsAutoSize (style .size .width) → stretches (box .horizontal) (stretchable style) ≡ true
+    → Asks (WidthTold (clamped (stretchFit (box .horizontal)) (box .min .width) (box .max .width))) (placed container style candidate))
+    × (IsAutoSize (style .size .height) → stretches (box .vertical) (stretchable style) ≡ true
+    → Asks (HeightTold (clamped (stretchFit (box .vertical)) (box .min .height) (box .max .height))) (placed container style candidate))
+
+-- the last question is lay out, and P holds of it, of its reply and of the outcome
+pub data LaysOut (P : LayoutInput → Laid → Placed → Type 0) : Talk Placed → Type 0 where
+  last : {l : LayoutInput} {outcome : Laid → Placed} → ((r : Laid) → P l r (outcome r)) → LaysOut P (ask (LayOut l) (λ r. done (outcome r)))
+  before : {q : Question} {next : ReplyTo q → Talk Placed} → ((r : ReplyTo q) → LaysOut P (next r)) → LaysOut P (ask q next)
+
+-- the layout has the size that was laid out, and the overflow of the reply; the candidates that the reply surfaces are passed on
+abbrev pub LayoutIsTheReply : Type 0
+LayoutIsTheReply =
+    (container : ContainingBlock) (style : Style) (candidate : OofCandidate)
+    → LaysOut
+    (λ l r p. (p .outcome .layout .size ≡ l .size) × (p .outcome .layout .overflow ≡ r .overflow) × (p .surfaced ≡ r .surfaced))
+    (placed container style candidate)
+
+-- ---- clamps
 
 -- a clamp that is done changes nothing when done again
 abbrev pub ClampIsSettled : Type 0
@@ -169,12 +239,9 @@ ClampIsSettled = (x : Float) (min max : MaybeF32) → clamped (clamped x min max
 -- nor do ratio and clamp change the size that step 2 resolved
 abbrev pub SizeIsSettled : Type 0
 SizeIsSettled = (container : ContainingBlock) (style : Style) (candidate : OofCandidate) → let box = resolvedBox container style candidate in settled (style .ratio) box (box .size) ≡ box .size
-
 -- ---- percentages
-
 abbrev pub percent : Float → CompactLength
 percent x = record { tag = 5; value = x }
-
 -- margins, padding and border, top and bottom too, take percentages of the area's width
 pub record OfTheWidth (w x : Float) (style : Style) (box : ResolvedBox) : Type 0 where
   pub marginLeft : style .margin .left ≡ percent x → box .horizontal .margin .start ≡ Some (w ⊗ x)
@@ -189,22 +256,18 @@ pub record OfTheWidth (w x : Float) (style : Style) (box : ResolvedBox) : Type 0
   pub borderRight : style .border .right ≡ percent x → box .border .right ≡ w ⊗ x
   pub borderTop : style .border .top ≡ percent x → box .border .top ≡ w ⊗ x
   pub borderBottom : style .border .bottom ≡ percent x → box .border .bottom ≡ w ⊗ x
-
 abbrev pub PercentagesOfTheWidth : Type 0
 PercentagesOfTheWidth =
     (container : ContainingBlock) (style : Style) (candidate : OofCandidate) (x : Float) → OfTheWidth (container .area .size .width) x style (resolvedBox container style candidate)
-
 -- insets take them of their own axis
 pub record OfTheirAxis (area : Size) (x : Float) (style : Style) (box : ResolvedBox) : Type 0 where
   pub left : style .inset .left ≡ percent x → box .horizontal .inset .start ≡ Some (area .width ⊗ x)
   pub right : style .inset .right ≡ percent x → box .horizontal .inset .end ≡ Some (area .width ⊗ x)
   pub top : style .inset .top ≡ percent x → box .vertical .inset .start ≡ Some (area .height ⊗ x)
   pub bottom : style .inset .bottom ≡ percent x → box .vertical .inset .end ≡ Some (area .height ⊗ x)
-
 abbrev pub InsetsOfTheirAxis : Type 0
 InsetsOfTheirAxis =
     (container : ContainingBlock) (style : Style) (candidate : OofCandidate) (x : Float) → OfTheirAxis (container .area .size) x style (resolvedBox container style candidate)
-
 -- ---- where a box stands
 
 -- where its axes place it, moved by the area's offset, with the margins of its axes
@@ -217,6 +280,24 @@ StandsByItsAxes =
     (l .location .x ≡ placement (box .horizontal) (l .size .width) .position ⊕ container .area .offset .x)
     × (l .location .y ≡ placement (box .vertical) (l .size .height) .position ⊕ container .area .offset .y)
     × (l .margin ≡ rectOf (placement (box .horizontal) (l .size .width) .margin) (placement (box .vertical) (l .size .height) .margin)))
+    (placed container style candidate)
+
+-- the gutter of a scrollbar: overflow scroll has one, as wide as the bar; no other value has (css-overflow-3 #scrollbar-layout)
+pub record GutterOf (overflow : Overflow) (bar gutter : Float) : Type 0 where
+  pub visible : overflow ≡ Visible → gutter ≡ 0f
+  pub clip : overflow ≡ Clip → gutter ≡ 0f
+  pub hidden : overflow ≡ Hidden → gutter ≡ 0f
+  pub scroll : overflow ≡ Scroll → gutter ≡ bar
+
+-- the bar that scrolls up and down takes width, the one that scrolls across takes height; padding and border are as resolved
+abbrev pub GuttersAndEdges : Type 0
+GuttersAndEdges =
+    (container : ContainingBlock) (style : Style) (candidate : OofCandidate)
+    → let box = resolvedBox container style candidate in
+    Always
+    (λ (p : Placed). let l = p .outcome .layout in
+    GutterOf (style .overflow .y) (style .scrollbar) (l .scrollbar .width) × GutterOf (style .overflow .x) (style .scrollbar) (l .scrollbar .height)
+    × (l .padding ≡ box .padding) × (l .border ≡ box .border) × (l .order ≡ candidate .order))
     (placed container style candidate)
 
 -- the same block at another offset
@@ -276,11 +357,26 @@ OffsetMovesAlone =
 
 -- ---- the contribution to the scrollable overflow
 
+-- overflow hidden or scroll, in either axis, makes a scroll container
+abbrev pub Scroller : OverflowPoint → Type 0
+Scroller o = ((o .x ≡ Hidden) ⊎ (o .x ≡ Scroll)) ⊎ ((o .y ≡ Hidden) ⊎ (o .y ≡ Scroll))
+
+-- visible or clip, in both, makes none
+abbrev pub NoScroller : OverflowPoint → Type 0
+NoScroller o = ((o .x ≡ Visible) ⊎ (o .x ≡ Clip)) × ((o .y ≡ Visible) ⊎ (o .y ≡ Clip))
+
+-- layout and paint containment each hold overflow in
+abbrev pub Contained : Contain → Type 0
+Contained c = (c .layout ≡ true) ⊎ (c .paint ≡ true)
+
+abbrev pub NotContained : Contain → Type 0
+NotContained c = (c .layout ≡ false) × (c .paint ≡ false)
+
 -- in a scrolling parent it is zeros, or can be scrolled to: right and bottom are above 0. It counts from the start edge by direction, so
 -- that this is one law for both.
 abbrev pub ScrollingContributionIsReachable : Type 0
 ScrollingContributionIsReachable =
-    (container : ContainingBlock) (style : Style) (candidate : OofCandidate) → anyScrollContainer (container .overflow) ≡ true
+    (container : ContainingBlock) (style : Style) (candidate : OofCandidate) → Scroller (container .overflow)
     → Always
     (λ (p : Placed). let r = p .outcome .contribution in (r ≡ zeroRect) ⊎ ((le (r .right) 0f ≡ false) × (le (r .bottom) 0f ≡ false)))
     (placed container style candidate)
@@ -338,7 +434,7 @@ ContributionHoldsTheBox =
 -- and the box's own overflow, along an axis in which that is visible, where the box is no scroll container and nothing contains it
 abbrev pub ContributionHoldsItsOverflow : Type 0
 ContributionHoldsItsOverflow =
-    (container : ContainingBlock) (style : Style) (candidate : OofCandidate) → anyScrollContainer (style .overflow) ≡ false → containsOverflow (style .contain) ≡ false
+    (container : ContainingBlock) (style : Style) (candidate : OofCandidate) → NoScroller (style .overflow) → NotContained (style .contain)
     → Always
     (λ (p : Placed). let l = p .outcome .layout in let r = p .outcome .contribution in
     Fine container l
@@ -353,13 +449,13 @@ PastTheStart container l =
     × (container .direction ≡ Rtl → (container .area .offset .x ∷ container .area .size .width ∷ [] ≤Σ l .location .x ∷ []) → ⊥)
     × ((l .location .y ∷ l .size .height ∷ [] ≤Σ container .area .offset .y ∷ []) → ⊥)
 
--- zeros are for a box without a size, or one that can't be scrolled to: any other counts
+-- a box with a size that can be scrolled to counts
 abbrev pub ContributionCounts : Type 0
 ContributionCounts =
     (container : ContainingBlock) (style : Style) (candidate : OofCandidate)
     → Always
     (λ (p : Placed). let l = p .outcome .layout in
-    Fine container l → lt 0f (l .size .width) ≡ true → lt 0f (l .size .height) ≡ true → (anyScrollContainer (container .overflow) ≡ true → PastTheStart container l)
+    Fine container l → lt 0f (l .size .width) ≡ true → lt 0f (l .size .height) ≡ true → (Scroller (container .overflow) → PastTheStart container l)
     → HoldsTheBox container l (p .outcome .contribution))
     (placed container style candidate)
 
@@ -377,11 +473,53 @@ ContributionHoldsNoMore =
     Fine container l → WithinTheBox l → (r ≡ zeroRect) ⊎ ((r .left ∷ l .size .width ∷ [] =Σ r .right ∷ []) × (r .top ∷ l .size .height ∷ [] =Σ r .bottom ∷ [])))
     (placed container style candidate)
 
--- what the box clips isn't counted: own overflow that a scroll container or containment holds, in both axes; along an axis that isn't
--- visible, in that one
+-- what the box clips isn't counted: own overflow that a scroll container or containment holds, in both axes; along an axis that clips, in
+-- that one
 abbrev pub ClippedOverflowIsNotCounted : Type 0
 ClippedOverflowIsNotCounted =
     (location : Point) (size : Size) (own own' : Rect) (overflow : OverflowPoint) (contain : Contain) (scrolls : Bool)
-    → (anyScrollContainer overflow || containsOverflow contain ≡ true → contribution location size own overflow contain scrolls ≡ contribution location size own' overflow contain scrolls)
-    × (isVisible (overflow .x) ≡ false → lineY own ≡ lineY own' → contribution location size own overflow contain scrolls ≡ contribution location size own' overflow contain scrolls)
-    × (isVisible (overflow .y) ≡ false → lineX own ≡ lineX own' → contribution location size own overflow contain scrolls ≡ contribution location size own' overflow contain scrolls)
+    → (Scroller overflow ⊎ Contained contain → contribution location size own overflow contain scrolls ≡ contribution location size own' overflow contain scrolls)
+    × (overflow .x ≡ Clip → lineY own ≡ lineY own' → contribution location size own overflow contain scrolls ≡ contribution location size own' overflow contain scrolls)
+    × (overflow .y ≡ Clip → lineX own ≡ lineX own' → contribution location size own overflow contain scrolls ≡ contribution location size own' overflow contain scrolls)
+
+-- how far a box reaches along an axis, from its own start edge: over its border box, and over its own overflow where that shows
+pub record Reaches (style : Style) (along : Overflow) (size : Float) (own reach : Line) : Type 0 where
+  pub shown : along ≡ Visible → NoScroller (style .overflow) → NotContained (style .contain) → reach ≡ smaller 0f (own .start) to larger size (own .end)
+  pub clipped : along ≡ Clip → reach ≡ 0f to size
+  pub scrolled : Scroller (style .overflow) → reach ≡ 0f to size
+  pub contained : Contained (style .contain) → reach ≡ 0f to size
+
+-- r is what reaches from l .start to l .end of the box's start edge, as `HoldsForwards` and `HoldsBackwards` count it
+abbrev pub IsForwards : Line → Float → Float → Line → Type 0
+IsForwards r offset at l = (r .start ∷ offset ∷ [] =Σ at ∷ l .start ∷ []) × (r .end ∷ offset ∷ [] =Σ at ∷ l .end ∷ [])
+
+abbrev pub IsBackwards : Line → Float → Float → Float → Float → Line → Type 0
+IsBackwards r offset width at size l =
+    (r .start ∷ at ∷ size ∷ [] =Σ offset ∷ width ∷ l .start ∷ []) × (r .end ∷ at ∷ size ∷ [] =Σ offset ∷ width ∷ l .end ∷ [])
+
+abbrev pub IsAcross : ContainingBlock → Layout → Line → Line → Type 0
+IsAcross container l r x =
+    (container .direction ≡ Ltr → IsForwards r (container .area .offset .x) (l .location .x) x)
+    × (container .direction ≡ Rtl → IsBackwards r (container .area .offset .x) (container .area .size .width) (l .location .x) (l .size .width) x)
+
+-- The union of border box and own overflow that shows, counted from the area's start edges, is the contribution; but that is zeros where the
+-- union's extent beyond the box's start edge is at most 0 in an axis (document 01; css-overflow-3 counts boxes without an area), and, in a
+-- scrolling parent, where the union ends at or before a start edge of the area, to which nothing scrolls.
+pub record Counted (container : ContainingBlock) (style : Style) (l : Layout) (r : Rect) : Type 0 where
+  pub x : Line
+  pub y : Line
+  pub reachX : Reaches style (style .overflow .x) (l .size .width) (lineX (l .overflow)) x
+  pub reachY : Reaches style (style .overflow .y) (l .size .height) (lineY (l .overflow)) y
+  pub union : Rect
+  pub across : Fine container l → IsAcross container l (lineX union) x
+  pub down : Fine container l → IsForwards (lineY union) (container .area .offset .y) (l .location .y) y
+  pub empty : (le (x .end) 0f ≡ true) ⊎ (le (y .end) 0f ≡ true) → r ≡ zeroRect
+  pub unreachable : Scroller (container .overflow) → (le (union .right) 0f ≡ true) ⊎ (le (union .bottom) 0f ≡ true) → r ≡ zeroRect
+  pub counts :
+      le (x .end) 0f ≡ false → le (y .end) 0f ≡ false → NoScroller (container .overflow) ⊎ ((le (union .right) 0f ≡ false) × (le (union .bottom) 0f ≡ false))
+      → r ≡ union
+
+abbrev pub ContributionIsTheUnion : Type 0
+ContributionIsTheUnion =
+    (container : ContainingBlock) (style : Style) (candidate : OofCandidate)
+    → Always (λ (p : Placed). Counted container style (p .outcome .layout) (p .outcome .contribution)) (placed container style candidate)

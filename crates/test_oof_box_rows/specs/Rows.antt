@@ -20,6 +20,7 @@ use Rattle.style.specs.declared.alignment.AlignItemsKeyword.the-variants.{Norma
 use Rattle.style.specs.declared.alignment.AlignmentSafety.the-variants.{Default}
 use Rattle.style.specs.declared.compact_length.CompactLength.{CompactLength}
 use Rattle.style.specs.declared.compact_length.LengthRect.{LengthRect}
+use Rattle.style.specs.declared.compact_length.LengthSize.{LengthSize}
 use Rattle.tree.specs.declared.layout.AxisStaticEdge.the-variants.{Start}
 use Rattle.tree.specs.declared.layout.AxisStaticPosition.{AxisStaticPosition}
 use Rattle.tree.specs.declared.layout.OofCandidate.{OofCandidate}
@@ -42,15 +43,19 @@ auto = record { tag = 3; value = 0f }
 abbrev pub sides : CompactLength → CompactLength → CompactLength → LengthRect
 sides left right others = record { left = left; right = right; top = others; bottom = others }
 
--- a box by its left and right inset, its width, min and max width and its left padding; 10 high; all else auto or 0
-unfoldable pub boxOf : CompactLength → CompactLength → CompactLength → CompactLength → CompactLength → CompactLength → Style
-boxOf left right width min max padding =
+-- 10 high
+abbrev pub tenHigh : CompactLength → LengthSize
+tenHigh width = record { width = width; height = length (px 10) }
+
+-- a box by its left and right inset, its size, min and max width and its left padding; all else auto or 0
+unfoldable pub boxOf : CompactLength → CompactLength → LengthSize → CompactLength → CompactLength → CompactLength → Style
+boxOf left right size min max padding =
     record {
       inset = sides left right auto;
       margin = sides (length 0f) (length 0f) (length 0f);
       padding = sides padding (length 0f) (length 0f);
       border = sides (length 0f) (length 0f) (length 0f);
-      size = record { width = width; height = length (px 10) };
+      size = size;
       min = record { width = min; height = auto };
       max = record { width = max; height = auto };
       ratio = None;
@@ -79,22 +84,22 @@ atStart = record { area = 0f to 0f; align = record { keyword = Start; safety = D
 unfoldable pub candidate : OofCandidate
 candidate = record { node = 0; order = 0; position = Absolute; place = record { x = atStart; y = atStart } }
 
--- what the host replies: a measured size of 0, and the right edge of the box's own overflow
-abbrev pub replied : ℕ → (q : Question) → ReplyTo q
-replied right (MeasureBoth m) = zeroSize
-replied right (MeasureWidth m) = 0f
-replied right (MeasureHeight m) = 0f
-replied right (LayOut l) = record { overflow = record { left = 0f; right = px right; top = 0f; bottom = 0f }; surfaced = [] }
+-- what the host replies: a measured size of 0, and the right and bottom edge of the box's own overflow
+abbrev pub replied : ℕ → ℕ → (q : Question) → ReplyTo q
+replied right bottom (MeasureBoth m) = zeroSize
+replied right bottom (MeasureWidth m) = 0f
+replied right bottom (MeasureHeight m) = 0f
+replied right bottom (LayOut l) = record { overflow = record { left = 0f; right = px right; top = 0f; bottom = px bottom }; surfaced = [] }
 
 -- ---- what is found
 
 -- the outcome of the whole dialogue
-unfoldable pub outcome : ℕ → Talk Placed → Placed
-outcome right (done p) = p
-outcome right (ask q next) = outcome right (next (replied right q))
+unfoldable pub outcome : ℕ → ℕ → Talk Placed → Placed
+outcome right bottom (done p) = p
+outcome right bottom (ask q next) = outcome right bottom (next (replied right bottom q))
 
 unfoldable pub hasWidth : Style → ℕ → Bool
-hasWidth style w = eq (outcome 0 (placed (containerOf Ltr Visible) style candidate) .outcome .layout .size .width) (px w)
+hasWidth style w = eq (outcome 0 0 (placed (containerOf Ltr Visible) style candidate) .outcome .layout .size .width) (px w)
 
 unfoldable pub is : MaybeF32 → ℕ → Bool
 is None w = false
@@ -106,11 +111,11 @@ hasMin style w = is (resolvedBox (containerOf Ltr Visible) style candidate .min 
 
 -- 10: its size, min and max
 unfoldable pub clampedBox : Style
-clampedBox = boxOf auto auto (length (px 30)) (length (px 50)) (length (px 20)) (length 0f)
+clampedBox = boxOf auto auto (tenHigh (length (px 30))) (length (px 50)) (length (px 20)) (length 0f)
 
 -- 11: min NaN, padding plus border 12; its width is given, or measured
 unfoldable pub flooredBox : CompactLength → Style
-flooredBox width = boxOf auto auto width (length nan) auto (length (px 12))
+flooredBox width = boxOf auto auto (tenHigh width) (length nan) auto (length (px 12))
 
 unfoldable pub boxRows : List Bool
 boxRows =
@@ -124,32 +129,41 @@ boxRows =
 
 -- ---- rows 12 and 13: what a box adds to the overflow. x counts from the container's start edge.
 
-unfoldable pub adds : ContainingBlock → Style → ℕ → Float → Float → Float → Bool
-adds container style right start end bottom =
-    let r = outcome right (placed container style candidate) .outcome .contribution in
-    eq (r .left) start && eq (r .right) end && eq (r .top) 0f && eq (r .bottom) bottom
+unfoldable pub adds : ContainingBlock → Style → ℕ → ℕ → Float → Float → Float → Bool
+adds container style right bottom start end down =
+    let r = outcome right bottom (placed container style candidate) .outcome .contribution in
+    eq (r .left) start && eq (r .right) end && eq (r .top) 0f && eq (r .bottom) down
+
+-- no width, or no height
+unfoldable pub thinBox : Style
+thinBox = boxOf auto auto (tenHigh (length 0f)) auto auto (length 0f)
 
 unfoldable pub flatBox : Style
-flatBox = boxOf auto auto (length 0f) auto auto (length 0f)
+flatBox = boxOf auto auto (record { width = length (px 10); height = length 0f }) auto auto (length 0f)
 
 -- 40 wide, so far before the start edge
 unfoldable pub outside : ℕ → Style
-outside n = boxOf (length (neg (px n))) auto (length (px 40)) auto auto (length 0f)
+outside n = boxOf (length (neg (px n))) auto (tenHigh (length (px 40))) auto auto (length 0f)
 
 unfoldable pub outsideRight : ℕ → Style
-outsideRight n = boxOf auto (length (neg (px n))) (length (px 40)) auto auto (length 0f)
+outsideRight n = boxOf auto (length (neg (px n))) (tenHigh (length (px 40))) auto auto (length 0f)
 
 unfoldable pub overflowRows : List Bool
 overflowRows =
     -- 12: visible, size 0 by 10, child right 0, then 5
-    adds (containerOf Ltr Visible) flatBox 0 0f 0f 0f
-    ∷ adds (containerOf Ltr Visible) flatBox 5 0f (px 5) (px 10)
+    adds (containerOf Ltr Visible) thinBox 0 0 0f 0f 0f
+    ∷ adds (containerOf Ltr Visible) thinBox 5 0 0f (px 5) (px 10)
+    -- 12, down: size 10 by 0, child bottom 0, then 5
+    ∷ adds (containerOf Ltr Visible) flatBox 0 0 0f 0f 0f
+    ∷ adds (containerOf Ltr Visible) flatBox 0 5 0f (px 10) (px 5)
     -- 13: scrolling parent, width 40, at -40, then -39
-    ∷ adds (containerOf Ltr Scroll) (outside 40) 0 0f 0f 0f
-    ∷ adds (containerOf Ltr Scroll) (outside 39) 0 (neg (px 39)) (px 1) (px 10)
+    ∷ adds (containerOf Ltr Scroll) (outside 40) 0 0 0f 0f 0f
+    ∷ adds (containerOf Ltr Scroll) (outside 39) 0 0 (neg (px 39)) (px 1) (px 10)
     -- 13, right-to-left: so far past the right edge
-    ∷ adds (containerOf Rtl Scroll) (outsideRight 40) 0 0f 0f 0f
-    ∷ adds (containerOf Rtl Scroll) (outsideRight 39) 0 (neg (px 39)) (px 1) (px 10)
+    ∷ adds (containerOf Rtl Scroll) (outsideRight 40) 0 0 0f 0f 0f
+    ∷ adds (containerOf Rtl Scroll) (outsideRight 39) 0 0 (neg (px 39)) (px 1) (px 10)
+    -- 13, by what overflows: at -40, child right 50
+    ∷ adds (containerOf Ltr Scroll) (outside 40) 50 0 (neg (px 40)) (px 10) (px 10)
     ∷ []
 
 -- the row set: 1 to 11 are the starred ones
