@@ -2,14 +2,11 @@
 use mathlib.Core.Path.{_≡_, refl, sym, ap, ap₂, _∙_}
 use mathlib.Core.Bool.{true, false, cond}
 use lib.Ieee.{Float}
-use Rattle.util.specs.Number.{_⊖_, _⊗_}
-use Rattle.util.specs.Maybe.{unwrapOr, orZero}
-use Rattle.util.specs.declared.math.MaybeF32.the-variants.{Some}
-use Rattle.geometry.specs.Geometry.{rectOrZero, maybeLineX, maybeLineY}
+use Rattle.util.specs.Number.{_⊖_}
+use Rattle.geometry.specs.Geometry.{maybeLineX, maybeLineY}
 use Rattle.geometry.specs.declared.Line.{Line}
 use Rattle.geometry.specs.declared.Point.{Point}
 use Rattle.geometry.specs.declared.Size.{Size}
-use Rattle.style.specs.Resolve.{byTag, resolved, maybeResolved, resolvedRect}
 use Rattle.style.specs.Values.{isRtl, isScrollContainer, selfRelative, anyScrollContainer}
 use Rattle.style.specs.declared.Overflow.{Overflow}
 use Rattle.style.specs.declared.Style.{Style}
@@ -18,14 +15,14 @@ use Rattle.tree.specs.declared.layout.AxisStaticAlign.{AxisStaticAlign}
 use Rattle.tree.specs.declared.layout.AxisStaticPosition.{AxisStaticPosition}
 use Rattle.tree.specs.declared.layout.OofCandidate.{OofCandidate}
 use Rattle.oof_axis.specs.Axis.{fromResolved, placement}
-use Rattle.oof_resolve.specs.Resolved.{ofWidth, ofEachAxis, lessOffset, horizontal, vertical, paddingOrBorder, resolvedBox}
+use Rattle.oof_resolve.specs.Resolved.{ofWidth, ofEachAxis, lessOffset, horizontal, vertical, resolvedBox}
 use Rattle.oof_resolve.specs.declared.ContainingBlock.{ContainingBlock}
 use Rattle.oof_resolve.specs.declared.ResolvedBox.{ResolvedBox}
 use Rattle.oof_common.specs.ScrollableOverflow.{contribution}
 use Rattle.oof_place.specs.Placing.{scrollbarOf, layoutOf, fromOrigin, boxLayout}
 use Rattle.oof_box.specs.Talk.{_>>=_, Laid}
 use Rattle.oof_box.specs.Box.{placed, stretched, measured, keywordSizes, sizeKeywords}
-use Rattle.oof_box_laws.specs.Laws.{percent, PercentagesOfTheWidth, InsetsOfTheirAxis, StandsByItsAxes, withOffset, SamePlace, StandAlike, ended, asking, MovedAlone, OffsetMovesAlone, GutterOf, GuttersAndEdges}
+use Rattle.oof_box_laws.specs.Laws.{StandsByItsAxes, withOffset, SamePlace, StandAlike, ended, asking, MovedAlone, OffsetMovesAlone, GutterOf, GuttersAndEdges}
 use Rattle.oof_box_laws.proofs.Always.{alike-bind, placed-always}
 
 -- ---- where a box stands

@@ -5,8 +5,7 @@ use mathlib.Core.Bool.{Bool, true, false, false≢true, cond, not, _&&_}
 use Prim.Native.Nat.{ℕ}
 use lib.Ieee.{Float, lt}
 use Rattle.util.specs.Order.{larger}
-use Rattle.util.specs.Number.{_⊕_}
-use Rattle.util.specs.Maybe.{present, orElse, unwrapOr, map, mapAdd, mapLarger, mapClamped, clamped}
+use Rattle.util.specs.Maybe.{present, unwrapOr, map, mapClamped, clamped}
 use Rattle.util.specs.Laws.{AtOrAbove, AtOrBelow}
 use Rattle.util.specs.declared.math.MaybeF32.{MaybeF32}
 use Rattle.util.specs.declared.math.MaybeF32.the-variants.{None, Some}

@@ -6,7 +6,7 @@
 use mathlib.Core.Path.{_≡_}
 use mathlib.Core.Logic.{_⊎_}
 use mathlib.Core.List.{[], _∷_}
-use mathlib.Core.Bool.{Bool, true, false, cond, not, _&&_, _||_}
+use mathlib.Core.Bool.{Bool, true, false, cond, not, _&&_}
 use Prim.Native.Nat.{ℕ, _≤_}
 use lib.Ieee.{Float, lt, le}
 use lib.Ieee.Exact.{HasValue}
@@ -39,9 +39,8 @@ use Rattle.oof_resolve.specs.Resolved.{resolvedBox}
 use Rattle.oof_resolve.specs.declared.ContainingBlock.{ContainingBlock}
 use Rattle.oof_resolve.specs.declared.ResolvedBox.{ResolvedBox}
 use Rattle.oof_common.specs.ScrollableOverflow.{contribution}
-use Rattle.oof_common.specs.declared.sizing_keyword.SizingKeywordResolution.the-variants.{NoKeyword}
 use Rattle.oof_box.specs.Talk.{Talk, done, ask, ReplyTo, Laid}
-use Rattle.oof_box.specs.Box.{Placed, placed, sizeKeywords, settled}
+use Rattle.oof_box.specs.Box.{Placed, placed, settled}
 use Rattle.oof_box.specs.declared.question.LayoutInput.{LayoutInput}
 use Rattle.oof_box.specs.declared.question.MeasureInput.{MeasureInput}
 use Rattle.oof_box.specs.declared.question.Question.{Question}
@@ -239,9 +238,11 @@ ClampIsSettled = (x : Float) (min max : MaybeF32) → clamped (clamped x min max
 -- nor do ratio and clamp change the size that step 2 resolved
 abbrev pub SizeIsSettled : Type 0
 SizeIsSettled = (container : ContainingBlock) (style : Style) (candidate : OofCandidate) → let box = resolvedBox container style candidate in settled (style .ratio) box (box .size) ≡ box .size
+
 -- ---- percentages
 abbrev pub percent : Float → CompactLength
 percent x = record { tag = 5; value = x }
+
 -- margins, padding and border, top and bottom too, take percentages of the area's width
 pub record OfTheWidth (w x : Float) (style : Style) (box : ResolvedBox) : Type 0 where
   pub marginLeft : style .margin .left ≡ percent x → box .horizontal .margin .start ≡ Some (w ⊗ x)
@@ -256,18 +257,22 @@ pub record OfTheWidth (w x : Float) (style : Style) (box : ResolvedBox) : Type 0
   pub borderRight : style .border .right ≡ percent x → box .border .right ≡ w ⊗ x
   pub borderTop : style .border .top ≡ percent x → box .border .top ≡ w ⊗ x
   pub borderBottom : style .border .bottom ≡ percent x → box .border .bottom ≡ w ⊗ x
+
 abbrev pub PercentagesOfTheWidth : Type 0
 PercentagesOfTheWidth =
     (container : ContainingBlock) (style : Style) (candidate : OofCandidate) (x : Float) → OfTheWidth (container .area .size .width) x style (resolvedBox container style candidate)
+
 -- insets take them of their own axis
 pub record OfTheirAxis (area : Size) (x : Float) (style : Style) (box : ResolvedBox) : Type 0 where
   pub left : style .inset .left ≡ percent x → box .horizontal .inset .start ≡ Some (area .width ⊗ x)
   pub right : style .inset .right ≡ percent x → box .horizontal .inset .end ≡ Some (area .width ⊗ x)
   pub top : style .inset .top ≡ percent x → box .vertical .inset .start ≡ Some (area .height ⊗ x)
   pub bottom : style .inset .bottom ≡ percent x → box .vertical .inset .end ≡ Some (area .height ⊗ x)
+
 abbrev pub InsetsOfTheirAxis : Type 0
 InsetsOfTheirAxis =
     (container : ContainingBlock) (style : Style) (candidate : OofCandidate) (x : Float) → OfTheirAxis (container .area .size) x style (resolvedBox container style candidate)
+
 -- ---- where a box stands
 
 -- where its axes place it, moved by the area's offset, with the margins of its axes
