@@ -8,6 +8,7 @@ use native.Mathlib.Omega.{arith}
 use lib.Dec.{lit<, lit≤}
 use lib.Ieee.{Float, lt, le}
 use Rattle.util.specs.Number.{_⊕_, _⊖_, 0f}
+use Rattle.util.specs.Order.{larger, smaller}
 use Rattle.geometry.specs.Geometry.{_to_, zeroRect, lineX, lineY, rectOf}
 use Rattle.geometry.specs.declared.Line.{Line}
 use Rattle.geometry.specs.declared.Point.{Point}

@@ -239,40 +239,6 @@ ClampIsSettled = (x : Float) (min max : MaybeF32) → clamped (clamped x min max
 abbrev pub SizeIsSettled : Type 0
 SizeIsSettled = (container : ContainingBlock) (style : Style) (candidate : OofCandidate) → let box = resolvedBox container style candidate in settled (style .ratio) box (box .size) ≡ box .size
 
--- ---- percentages
-abbrev pub percent : Float → CompactLength
-percent x = record { tag = 5; value = x }
-
--- margins, padding and border, top and bottom too, take percentages of the area's width
-pub record OfTheWidth (w x : Float) (style : Style) (box : ResolvedBox) : Type 0 where
-  pub marginLeft : style .margin .left ≡ percent x → box .horizontal .margin .start ≡ Some (w ⊗ x)
-  pub marginRight : style .margin .right ≡ percent x → box .horizontal .margin .end ≡ Some (w ⊗ x)
-  pub marginTop : style .margin .top ≡ percent x → box .vertical .margin .start ≡ Some (w ⊗ x)
-  pub marginBottom : style .margin .bottom ≡ percent x → box .vertical .margin .end ≡ Some (w ⊗ x)
-  pub paddingLeft : style .padding .left ≡ percent x → box .padding .left ≡ w ⊗ x
-  pub paddingRight : style .padding .right ≡ percent x → box .padding .right ≡ w ⊗ x
-  pub paddingTop : style .padding .top ≡ percent x → box .padding .top ≡ w ⊗ x
-  pub paddingBottom : style .padding .bottom ≡ percent x → box .padding .bottom ≡ w ⊗ x
-  pub borderLeft : style .border .left ≡ percent x → box .border .left ≡ w ⊗ x
-  pub borderRight : style .border .right ≡ percent x → box .border .right ≡ w ⊗ x
-  pub borderTop : style .border .top ≡ percent x → box .border .top ≡ w ⊗ x
-  pub borderBottom : style .border .bottom ≡ percent x → box .border .bottom ≡ w ⊗ x
-
-abbrev pub PercentagesOfTheWidth : Type 0
-PercentagesOfTheWidth =
-    (container : ContainingBlock) (style : Style) (candidate : OofCandidate) (x : Float) → OfTheWidth (container .area .size .width) x style (resolvedBox container style candidate)
-
--- insets take them of their own axis
-pub record OfTheirAxis (area : Size) (x : Float) (style : Style) (box : ResolvedBox) : Type 0 where
-  pub left : style .inset .left ≡ percent x → box .horizontal .inset .start ≡ Some (area .width ⊗ x)
-  pub right : style .inset .right ≡ percent x → box .horizontal .inset .end ≡ Some (area .width ⊗ x)
-  pub top : style .inset .top ≡ percent x → box .vertical .inset .start ≡ Some (area .height ⊗ x)
-  pub bottom : style .inset .bottom ≡ percent x → box .vertical .inset .end ≡ Some (area .height ⊗ x)
-
-abbrev pub InsetsOfTheirAxis : Type 0
-InsetsOfTheirAxis =
-    (container : ContainingBlock) (style : Style) (candidate : OofCandidate) (x : Float) → OfTheirAxis (container .area .size) x style (resolvedBox container style candidate)
-
 -- ---- where a box stands
 
 -- where its axes place it, moved by the area's offset, with the margins of its axes
