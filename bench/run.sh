@@ -19,6 +19,6 @@ log=$(mktemp)
 trap 'rm -f "$log"' EXIT
 cd "$here"
 # functions and loops start on lines of code of their own, so that where the linker puts them has no say
-RUSTFLAGS="${RUSTFLAGS:-} -C llvm-args=-align-all-functions=6 -C llvm-args=-align-all-nofallthru-blocks=6" \
+RUSTFLAGS="${RUSTFLAGS:-} -C llvm-args=-align-all-functions=6 -C llvm-args=-align-loops=64" \
     cargo build --offline --locked --release > "$log" 2>&1 || { cat "$log"; exit 1; }
 "$CARGO_TARGET_DIR/release/bench" "$@"

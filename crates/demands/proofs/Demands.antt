@@ -19,6 +19,7 @@ use Rattle.oof_box.specs.Cut.{layoutAfter}
 use Rattle.oof_box.proofs.Floor.{size-law as box-size-law}
 use Rattle.run.specs.declared.Opening.{Opening}
 use Rattle.run.specs.declared.State.{State}
+use Rattle.run.specs.declared.Step.{Step}
 use Rattle.run.specs.Call.{Lent, Outcome, outcome}
 use Rattle.run.specs.Theorems.{WroteSize, openIn, oneIfAsked, isRefused, askedFor, Heard, Loan, own, other, Turn, next, nextWith, turned, Lends, AllLend, called, Stands, heededIn, courseOf}
 use Rattle.run.specs.Run.{extentsOf, boxAtHand, opened, replied, takenBy, laidOut}
@@ -41,7 +42,8 @@ use Rattle.demands.specs.Demands.{OpeningDemands, ReplyDemands, Alignmen
 
 -- ---- one call
 
-pub opening-demands : (o : Opening) (candidates : List ℕ) (lent : Lent) {has : Outcome} → Opens o candidates lent has → OpeningDemands o candidates lent has
+pub opening-demands : (o : Opening) (candidates : List ℕ) (lent : Lent) {r : Step} {l w u : List ℕ} → Opens o candidates lent (outcome r l w u)
+    → OpeningDemands o candidates lent (outcome r l w u)
 opening-demands o candidates lent c =
     subst (OpeningDemands o candidates lent) (sym c)
     (record {
@@ -136,8 +138,8 @@ size-law s reply surfaced lent overflow k a = go (reply-way s reply surfaced len
     go (measures replies v t f) = never-kept s overflow (ap (takenBy s) (sym k) ∙ t)
     go (laysOut laid v t f) = subst (λ (x : Outcome). SizedLayout s lent (x .layouts)) (sym f) (sized s laid surfaced lent)
 
-pub reply-demands : (s : State) (reply : Reply) (surfaced : List ℕ) (lent : Lent) {has : Outcome} → RepliesTo s reply surfaced lent has
-    → ReplyDemands s reply surfaced lent has
+pub reply-demands : (s : State) (reply : Reply) (surfaced : List ℕ) (lent : Lent) {r : Step} {l w u : List ℕ} → RepliesTo s reply surfaced lent (outcome r l w u)
+    → ReplyDemands s reply surfaced lent (outcome r l w u)
 reply-demands s reply surfaced lent c =
     subst (ReplyDemands s reply surfaced lent) (sym c)
     (record {
