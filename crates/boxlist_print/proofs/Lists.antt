@@ -38,10 +38,11 @@ module _ (s : Step) (l w u : List ℕ) (o : Outcome) (left : outcome s l w u ≡
   list-refused e n p = rw (← left-step left, e, ← n) p
 
 -- its rows have room
-pub list-fits : (o : Opening) (replies candidates : List ℕ) (lent : Lent) (s : Step) (out : ℕ)
-    → s ≡ playedOut o replies candidates lent .step → length (lent .working) ≡ listWords → LIST-BYTES ≤ out
+pub list-fits : (o : Opening) (replies candidates : List ℕ) (lent : Lent) (s : Step) (l w u : List ℕ) (out : ℕ)
+    → outcome s l w u ≡ playedOut o replies candidates lent → length (lent .working) ≡ listWords → LIST-BYTES ≤ out
     → (1 + s .state .counts .filled .working) * ROW + OVERFLOW ≤ out
-list-fits o replies candidates lent s out e w h = let k = rw (w, ← e) at (room-kept o replies candidates lent) in fit (s .state .counts .filled .working) k
+list-fits o replies candidates lent s l w u out left room h =
+    let k = rw (room, ← left-step left) at (room-kept o replies candidates lent) in fit (s .state .counts .filled .working) k
   where
     fit : (n : ℕ) → n ≤ listWords / candidateWidth → (1 + n) * ROW + OVERFLOW ≤ out
     fit n k = omega arith

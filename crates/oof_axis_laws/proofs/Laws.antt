@@ -261,10 +261,13 @@ module _ (L A S : ℕ) (room : 10 * L + 6 * A + S < 16777216) (a : OofAxis) (α 
 
   -- ---- margins and insets
 
+  -- with an auto margin the margin box begins where the block does
+  place-from-start : TwoInsets a → present (a .margin .start) && present (a .margin .end) ≡ false → placeN (shape a) α u ≡ addN (ℓ .start) (marginsN (shape a) α u .start)
+  place-from-start i n = rw (i .start, i .end, n) refl
+
   auto-at : TwoInsets a → present (a .margin .start) && present (a .margin .end) ≡ false → BeginsAt a size (block a .start) × EndsAt a size (block a .end)
   auto-at i n =
-      let m = marginsN (shape a) α u in
-      let s = stands m (ℓ .start) refl (rw (i .start, i .end, n) refl) in
+      let s = stands (marginsN (shape a) α u) (ℓ .start) refl (place-from-start i n) in
       let even = even-of 2 (subN (spanN ℓ) u) (sub-exact (span-exact L A (omega arith) a α h) hu (omega arith) .mult) in
       let t = margins-fill (shape a) α ℓ u even (rw (i .start, i .end, n) refl) in
       (begins-at s (line .start) (omega arith), ends-at s (line .end) (omega (arith, t)))

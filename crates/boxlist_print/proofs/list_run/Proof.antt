@@ -1,6 +1,5 @@
 -- Generated skeleton (tools/proof/write-skeletons), answers by hand.
 use Rattle.run.specs.Call.{lent}
-use Rattle.run.proofs.Call.{left-step}
 use Rattle.boxlist_print.proofs.Lists.{list-asked, list-finished, list-refused, list-fits}
 use borrow.Author.Needs.{needs}
 use Rattle.boxlist_print.proofs.list_run.Statement.{statement}
@@ -24,8 +23,9 @@ enum-known-answer c = search needs
 put-list-requires : tie.Need-put-list-requires
 put-list-requires c κs =
     let p = c .before .before .before .before .before .before .before .before .before .before .before .before .before .before .play-out .ensures in
-    let a = c .before .before .before .before .before .before .before .before .before .before .before .before .before .before .before .before .before .before .before .before .before .before .before .before .before .args in
-    list-fits (a .o) (a .replies .now) (a .candidates .now) (lent (a .styles .now) (a .layouts .now) (a .working .now) (a .unclaimed .now)) _ _ (left-step p) (c .before .before .before .before .before .before .before .before .before .before .before .before .before .before .before .before .before .before .before .before .before .before .before .before .before .pre .0) (c .before .before .before .before .before .before .before .before .before .before .before .before .before .before .before .before .before .before .before .before .before .before .before .before .before .pre .1)
+    let d = c .before .before .before .before .before .before .before .before .before .before .before .before .before .before .before .before .before .before .before .before .before .before .before .before .before in
+    let a = d .args in
+    list-fits (a .o) (a .replies .now) (a .candidates .now) (lent (a .styles .now) (a .layouts .now) (a .working .now) (a .unclaimed .now)) _ _ _ _ _ p (d .pre .0) (d .pre .1)
 
 enum-known-answer-2 : tie.Need-enum-known-answer-2
 enum-known-answer-2 c = search needs

@@ -20,12 +20,15 @@ same-length-2 c = search needs
 same-length-3 : tie.Need-same-length-3
 same-length-3 c = search needs
 
+-- `l` are the words that the call left: layouts, working, unclaimed, state, answer
 returns : tie.Need-returns
 returns c =
     let a = c .before .before .before .before .before .before .before .before .before .before .before .before .before .before .before .before .before .args in
+    let k = c .before .before .before .before .before .before .oof-open in
+    let l = k .last .1 .1 .1 .1 .1 .1 .1 .1 .1 .1 in
     opening-demands (openingOf (a .width) (a .height) (a .x) (a .y) (a .direction) (a .claims) (a .overflow-x) (a .overflow-y)) (a .candidates .now) (a .styles .now)
     (words (a .layouts .now) (a .working .now) (a .unclaimed .now) (a .state .now) (a .answer .now))
-    (c .before .before .before .before .before .before .oof-open .ensures)
+    {has = record { result = k .result; words = words (l .0) (l .1 .0) (l .1 .1 .0) (l .1 .1 .1 .0) (l .1 .1 .1 .1 .0) }} (k .ensures)
 
 pub open-spec : {M : Type 1} → statement M
 open-spec = tie.close (tie.spec oof-open-requires same-length same-length-2 same-length-3 returns)
