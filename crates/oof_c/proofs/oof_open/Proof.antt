@@ -1,8 +1,6 @@
 -- Generated skeleton (tools/proof/write-skeletons), answers by hand.
-use Rattle.run.specs.declared.Step.{Step}
-use Rattle.oof_c.specs.StateWords.{stateWords}
-use Rattle.oof_c.specs.Entry.{openedInWords}
-use Rattle.oof_c.proofs.Calls.{in-words}
+use Rattle.oof_c.specs.Entry.{words, openingOf}
+use Rattle.oof_c.proofs.Calls.{opened-in-words}
 use borrow.Author.Needs.{needs}
 use Rattle.oof_c.proofs.oof_open.Statement.{statement}
 use Rattle.oof_c.proofs.oof_open.Tie as tie
@@ -31,11 +29,11 @@ same-length-3 : tie.Need-same-length-3
 same-length-3 c = search needs
 
 returns : tie.Need-returns
-unfolding openedInWords
 returns c =
     let a = c .before .before .before .before .before .before .before .before .before .before .before .before .before .before .before .before .before .before .before .args in
-    in-words (λ (t : Step). stateWords (t .state)) (a .answer .now)
-    ((c .before .before .before .before .before .before .before .before .before .before .«open» .ensures)) (c .before .before .state-words .ensures) (c .tell .ensures)
+    opened-in-words (words (a .layouts .now) (a .working .now) (a .unclaimed .now) (a .state .now) (a .answer .now)) (c .tell .result)
+    (openingOf (a .width) (a .height) (a .x) (a .y) (a .direction) (a .claims) (a .overflow-x) (a .overflow-y)) (a .candidates .now) (a .styles .now)
+    (c .before .before .before .before .before .before .before .before .before .before .«open» .ensures) (c .before .before .state-words .ensures) (c .tell .ensures)
 
 pub oof-open-spec : {M : Type 1} → statement M
 oof-open-spec =

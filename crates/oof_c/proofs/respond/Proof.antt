@@ -1,7 +1,6 @@
 -- Generated skeleton (tools/proof/write-skeletons), answers by hand.
-use Rattle.run.specs.declared.Step.{Step}
-use Rattle.oof_c.specs.Entry.{stateLeft, repliedInWords}
-use Rattle.oof_c.proofs.Calls.{in-words}
+use Rattle.oof_c.specs.Entry.{words}
+use Rattle.oof_c.proofs.Calls.{replied-in-words}
 use borrow.Author.Needs.{needs}
 use Rattle.oof_c.proofs.respond.Statement.{statement}
 use Rattle.oof_c.proofs.respond.Tie as tie
@@ -34,11 +33,11 @@ same-length-3 : tie.Need-same-length-3
 same-length-3 c = search needs
 
 returns : tie.Need-returns
-unfolding repliedInWords
 returns c =
     let a = c .before .before .before .before .before .before .before .before .before .before .before .before .before .before .before .before .before .before .before .before .before .args in
-    in-words (λ (t : Step). stateLeft t (a .state .now)) (a .answer .now)
-    (rw (c .before .before .before .before .before .before .before .before .before .before .before .before .before .before .state-of .ensures) at (c .before .before .before .before .before .before .before .before .before .before .reply .ensures)) (c .before .before .keep .ensures) (c .tell .ensures)
+    replied-in-words (words (a .layouts .now) (a .working .now) (a .unclaimed .now) (a .state .now) (a .answer .now)) (c .tell .result)
+    (a .reply) (a .surfaced .now) (a .styles .now) (c .before .before .before .before .before .before .before .before .before .before .before .before .before .before .state-of .ensures)
+    (c .before .before .before .before .before .before .before .before .before .before .reply .ensures) (c .before .before .keep .ensures) (c .tell .ensures)
 
 pub respond-spec : {M : Type 1} → statement M
 respond-spec =

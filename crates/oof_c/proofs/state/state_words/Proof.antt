@@ -1,8 +1,9 @@
 -- Generated skeleton (tools/proof/write-skeletons), answers by hand.
 use mathlib.Core.List.{[], _∷_}
-use mathlib.Core.Path.{_∙_}
+use mathlib.Core.Path.{ap, _∙_}
 use lib.ListN.{getD}
-use Rattle.oof_c.specs.StateWords.{stateWords, openingCodes, floatWord, countWord, progressCode, keywordKind, fillKind}
+use Rattle.geometry.specs.declared.Size.{Size}
+use Rattle.oof_c.specs.StateWords.{stateWords, openingCodes, floatWord}
 use borrow.Author.Needs.{needs}
 use Rattle.oof_c.proofs.state.state_words.Statement.{statement}
 use Rattle.oof_c.proofs.state.state_words.Tie as tie
@@ -114,14 +115,14 @@ count-word-requires-8 c κs = search needs
 returns : tie.Need-returns
 unfolding stateWords openingCodes
 returns c =
-    let s = c .before .before .before .before .before .before .before .before .before .before .before .before .before .before .before .before .before .before .before .before .before .before .before .before .before .before .before .before .before .args .s in
-    (λ j. c .before .before .before .before .before .before .before .before .before .before .before .before .before .before .before .before .before .before .before .before .before .before .before .before .progress-code .ensures j
+    let codes = c .before .before .before .before .before .before .before .before .before .before .before .before .before .before .before .before .before .before .before .before .before .before .before .before .before .opening-codes .ensures in
+    λ j. c .before .before .before .before .before .before .before .before .before .before .before .before .before .before .before .before .before .before .before .before .before .before .before .before .progress-code .ensures j
     ∷ c .before .before .before .before .before .before .before .before .before .before .before .before .before .before .before .before .before .before .before .before .before .before .before .keyword-kind .ensures j
-    ∷ c .before .before .before .before .before .before .before .before .before .before .before .before .before .before .before .before .before .before .before .before .before .to-word .ensures j
-    ∷ c .before .before .before .before .before .before .before .before .before .before .before .before .before .before .before .before .before .before .before .to-word2 .ensures j
+    ∷ (c .before .before .before .before .before .before .before .before .before .before .before .before .before .before .before .before .before .before .before .before .before .to-word .ensures ∙ ap floatWord (c .before .before .before .before .before .before .before .before .before .before .before .before .before .before .before .before .before .before .before .before .before .before .keyword-width .ensures)) j
+    ∷ (c .before .before .before .before .before .before .before .before .before .before .before .before .before .before .before .before .before .before .before .to-word2 .ensures ∙ ap floatWord (c .before .before .before .before .before .before .before .before .before .before .before .before .before .before .before .before .before .before .before .before .keyword-height .ensures)) j
     ∷ c .before .before .before .before .before .before .before .before .before .before .before .before .before .before .before .before .before .before .fill-kind .ensures j
-    ∷ c .before .before .before .before .before .before .before .before .before .before .before .before .before .before .before .before .before .to-word3 .ensures j
-    ∷ c .before .before .before .before .before .before .before .before .before .before .before .before .before .before .before .before .to-word4 .ensures j
+    ∷ (c .before .before .before .before .before .before .before .before .before .before .before .before .before .before .before .before .before .to-word3 .ensures ∙ ap floatWord (ap (λ (size : Size). size .width) (c .before .before .before .before .before .before .before .before .before .before .before .before .before .before .before .before .before .before .before .before .before .before .before .before .before .before .before .fill-size .ensures))) j
+    ∷ (c .before .before .before .before .before .before .before .before .before .before .before .before .before .before .before .before .to-word4 .ensures ∙ ap floatWord (ap (λ (size : Size). size .height) (c .before .before .before .before .before .before .before .before .before .before .before .before .before .before .before .before .before .before .before .before .before .before .before .before .before .before .before .fill-size .ensures))) j
     ∷ c .before .before .before .before .before .before .before .before .before .before .before .before .before .before .before .count-word .ensures j
     ∷ c .before .before .before .before .before .before .before .before .before .before .before .before .before .before .count-word2 .ensures j
     ∷ c .before .before .before .before .before .before .before .before .before .before .before .before .before .count-word3 .ensures j
@@ -134,43 +135,15 @@ returns c =
     ∷ c .before .before .before .before .before .before .to-word10 .ensures j
     ∷ c .before .before .before .before .before .to-word11 .ensures j
     ∷ c .before .before .before .before .to-word12 .ensures j
-    ∷ getD (c .before .before .before .before .before .before .before .before .before .before .before .before .before .before .before .before .before .before .before .before .before .before .before .before .before .opening-codes .result) 0 0
-    ∷ getD (c .before .before .before .before .before .before .before .before .before .before .before .before .before .before .before .before .before .before .before .before .before .before .before .before .before .opening-codes .result) 1 0
-    ∷ getD (c .before .before .before .before .before .before .before .before .before .before .before .before .before .before .before .before .before .before .before .before .before .before .before .before .before .opening-codes .result) 2 0
-    ∷ getD (c .before .before .before .before .before .before .before .before .before .before .before .before .before .before .before .before .before .before .before .before .before .before .before .before .before .opening-codes .result) 3 0
+    ∷ getD (codes j) 0 0
+    ∷ getD (codes j) 1 0
+    ∷ getD (codes j) 2 0
+    ∷ getD (codes j) 3 0
     ∷ c .before .before .before .count-word5 .ensures j
     ∷ c .before .before .count-word6 .ensures j
     ∷ c .before .count-word7 .ensures j
     ∷ c .count-word8 .ensures j
-    ∷ [])
-    ∙ (λ j. progressCode (s .progress)
-    ∷ keywordKind (s .replies .keyword)
-    ∷ floatWord (c .before .before .before .before .before .before .before .before .before .before .before .before .before .before .before .before .before .before .before .before .before .before .keyword-width .ensures j)
-    ∷ floatWord (c .before .before .before .before .before .before .before .before .before .before .before .before .before .before .before .before .before .before .before .before .keyword-height .ensures j)
-    ∷ fillKind (s .replies .fill)
-    ∷ floatWord (c .before .before .before .before .before .before .before .before .before .before .before .before .before .before .before .before .before .before .before .before .before .before .before .before .before .before .before .fill-size .ensures j .width)
-    ∷ floatWord (c .before .before .before .before .before .before .before .before .before .before .before .before .before .before .before .before .before .before .before .before .before .before .before .before .before .before .before .fill-size .ensures j .height)
-    ∷ countWord (s .counts .filled .working)
-    ∷ countWord (s .counts .filled .unclaimed)
-    ∷ countWord (s .counts .begun)
-    ∷ countWord (s .counts .answered)
-    ∷ floatWord (s .overflow .left)
-    ∷ floatWord (s .overflow .right)
-    ∷ floatWord (s .overflow .top)
-    ∷ floatWord (s .overflow .bottom)
-    ∷ floatWord (s .opened .container .area .size .width)
-    ∷ floatWord (s .opened .container .area .size .height)
-    ∷ floatWord (s .opened .container .area .offset .x)
-    ∷ floatWord (s .opened .container .area .offset .y)
-    ∷ getD (c .before .before .before .before .before .before .before .before .before .before .before .before .before .before .before .before .before .before .before .before .before .before .before .before .before .opening-codes .ensures j) 0 0
-    ∷ getD (c .before .before .before .before .before .before .before .before .before .before .before .before .before .before .before .before .before .before .before .before .before .before .before .before .before .opening-codes .ensures j) 1 0
-    ∷ getD (c .before .before .before .before .before .before .before .before .before .before .before .before .before .before .before .before .before .before .before .before .before .before .before .before .before .opening-codes .ensures j) 2 0
-    ∷ getD (c .before .before .before .before .before .before .before .before .before .before .before .before .before .before .before .before .before .before .before .before .before .before .before .before .before .opening-codes .ensures j) 3 0
-    ∷ countWord (s .opened .extents .styles)
-    ∷ countWord (s .opened .extents .layouts)
-    ∷ countWord (s .opened .extents .working)
-    ∷ countWord (s .opened .extents .unclaimed)
-    ∷ [])
+    ∷ []
 
 pub state-words-spec : {M : Type 1} → statement M
 state-words-spec =
