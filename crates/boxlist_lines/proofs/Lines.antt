@@ -2,13 +2,14 @@
 use Prim.Native.Nat.{ℕ, _+_, _*_}
 use native.Mathlib.Omega.{arith}
 use mathlib.Core.Path.{_≡_, refl, _∙_}
-use mathlib.Core.List.{List, [], _∷_, _++_, append-assoc}
-use lib.ListN.{length, set, length-append}
+use mathlib.Core.List.{List, [], _∷_, _++_, map, append-assoc}
+use lib.ListN.{length, set, replicate, length-append}
 use lib.Seq.{sets}
-use lib.Ieee.{Float}
+use lib.Ieee.{Float, ofBits, binary32}
+use Rattle.util.specs.Eighths.{countOf, counted}
 use Rattle.geometry.specs.declared.Rect.{Rect}
 use Rattle.boxlist_lines.specs.declared.list.Row.{Row}
-use Rattle.boxlist_lines.specs.Column.{COLUMN, eighthsText, codeText}
+use Rattle.boxlist_lines.specs.Column.{COLUMN, cells, cellOf, leftOf, countInk, eighthsText, codeText}
 use Rattle.boxlist_lines.specs.Lines.{joined, lineText, wordText, sides, rowText, overflowText, refusalText}
 use Rattle.boxlist_lines.proofs.Stores.{part-then}
 use Rattle.boxlist_lines.proofs.Cells.{cells-length}
@@ -20,6 +21,13 @@ eighths-length x = cells-length COLUMN _
 pub code-length : (n : ℕ) → length (codeText n) ≡ COLUMN
 unfolding codeText
 code-length n = cells-length COLUMN _
+
+-- computed: left, right, top and bottom of 1, 2, 3 and 4 eighths, each its digit after seven blanks
+sides-computed :
+    sides (record { left = ofBits binary32 1040187392; right = ofBits binary32 1048576000; top = ofBits binary32 1052770304; bottom = ofBits binary32 1056964608 })
+    ≡ map (λ (digit : ℕ). replicate 7 32 ++ (digit ∷ [])) (49 ∷ 50 ∷ 51 ∷ 52 ∷ [])
+unfolding eighthsText ofBits countOf counted countInk cells cellOf leftOf
+sides-computed = refl
 
 module _ (l : List ℕ) (at : ℕ) where
   -- a column, then the rest of the line

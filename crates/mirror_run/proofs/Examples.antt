@@ -1,7 +1,7 @@
 -- The theorem on a screen that is computed, and screens on which it fails, each for want of one thing that it asks. Assumes nothing.
-use Prim.Native.Nat.{ℕ}
+use Prim.Native.Nat.{ℕ, _+_}
 use native.Mathlib.Omega.{arith}
-use mathlib.Core.Path.{_≡_, refl, subst}
+use mathlib.Core.Path.{_≡_, refl, sym, ap, subst, _∙_}
 use mathlib.Core.Bool.{true, false}
 use mathlib.Core.List.{List, [], _∷_}
 use lib.Ieee.{eq, ofBits}
@@ -29,7 +29,7 @@ use Rattle.mirror_run.specs.Runs.{Message, isUnread, Alike, Fair, AllFai
 use Rattle.mirror_run.proofs.Decided.{quarter-decided, table-decided, candidates-decided}
 use Rattle.mirror_run.proofs.Unread.{accepted-read}
 use Rattle.mirror_run.proofs.Mirror.{mirror}
-use Rattle.mirror_run.proofs.Screens.{word, turn, nothing, panel, table, four, lent, lent', wrongKind, surfacesFixed, measured, laidOut, wrongLengths, replies, after, imageAfter, ran, imageRan, still, content, tenths, atStart, centered, upTo, narrow, small, wide, aside, far, surfacing, tenth, definiteIn, told, Differ, computed}
+use Rattle.mirror_run.proofs.Screens.{word, turn, nothing, panel, table, four, lent, lent', wrongKind, surfacesFixed, measured, laidOut, wrongLengths, replies, after, imageAfter, ran, imageRan, still, content, tenths, atStart, centered, upTo, narrow, small, wide, aside, far, surfacing, tenth, shorter, number, definiteIn, told, Differ, computed}
 
 nought : Quarter (word 0)
 unfolding ofBits
@@ -191,3 +191,15 @@ quarter-replies-needed = ((quarter-small, table-decided content refl, quarter-at
 -- no surfaced box that is claimed: the run offers it 0.25 and its image 0
 no-surfaced-needed : (QuarterArea (small .area) × QuarterTable still × QuarterCandidates atStart) × Fails small still atStart surfacing
 no-surfaced-needed = ((quarter-small, quarter-still, quarter-at-start), fails (computed .surfaced))
+
+-- slices that are as long in both: the run finishes, and its image, which alone is lent others, is refused with 2
+same-lengths-needed : (QuarterArea (small .area) × QuarterTable still × QuarterCandidates atStart) × Fails small still atStart shorter
+same-lengths-needed = ((quarter-small, quarter-still, quarter-at-start), λ n h. eleven (sym (computed .slices) ∙ same-number (h .answer) ∙ computed .imageSlices))
+  where
+    same-number : {a a' : Answer} → SameAnswer a a' → number a ≡ number a'
+    same-number (ask q) = refl
+    same-number (finish r c) = ap (λ (n : ℕ). 10 + n) c
+    same-number refused = refl
+
+    eleven : _≡_ {A = ℕ} 11 22 → ⊥
+    eleven e = omega (arith, e)

@@ -1,12 +1,15 @@
--- The words of a list of records and of its image. Assumes nothing.
+-- The words of a list of records and of its image; and the image computed on a few words. Assumes nothing.
 use Prim.Native.Nat.{ℕ, zero, suc, _+_, _*_, _/_, _%_, _<_}
 use native.Mathlib.Omega.{arith}
 use native.Mathlib.Nat.{add-zero, mul-suc, mul-le-mul-left, mul-div-le, mul-add-div, mul-add-mod-self-left, div-eq-of-lt, mod-eq-of-lt, not-suc-le-zero, le-of-suc-le-suc}
 use mathlib.Core.Path.{_≡_, refl, ap, _∙_}
-use mathlib.Core.List.{List}
+use mathlib.Core.List.{List, [], _∷_, _++_, map}
 use lib.ListN.{length, getD}
+use lib.Ieee.{add, sub, mul, neg, sum, round, units, odd, size, span, climb, ofBits, toBits, ofFields, nanBits, binary32}
 use borrow.Author.Tests.{lt-ltb}
-use Rattle.mirror_run.specs.Image.{listed, eachRecord}
+use Rattle.run.specs.declared.Opening.{Opening}
+use Rattle.mirror_box.specs.Image.{edgeSum}
+use Rattle.mirror_run.specs.Image.{otherDirection, otherEdge, counterpart, imageStyle, reflectedWord, imageCandidate, listed, eachRecord, imageOpening, imageStyles, imageCandidates}
 
 -- ---- a list by its words
 
@@ -44,3 +47,41 @@ module _ (w : ℕ) (image : (ℕ → ℕ) → ℕ → ℕ) (ws : List ℕ) where
   each-word i k h l =
       listed-word (length ws) _ (w * i + k) (word-there w (length ws) i k h l)
       ∙ rw (record-of-word w i k h, place-of-word w i k h, lt-ltb i (length ws / w) l) refl
+
+-- ---- computed: what each word becomes
+
+-- an area 100 wide and 50 high, at 8 across
+abbrev panel : ℕ → Opening
+panel direction =
+    record {
+      area = record { size = record { width = ofBits binary32 1120403456; height = ofBits binary32 1112014848 }; offset = record { x = ofBits binary32 1090519040; y = ofBits binary32 0 } };
+      direction = direction;
+      claims = 1;
+      overflowx = 0;
+      overflowy = 0;
+    }
+
+pub record Images : Type 0 where
+  -- left-to-right and right-to-left change places; 2, which is no direction, stays
+  pub openings : map (λ (d : ℕ). imageOpening (panel d) .direction) (0 ∷ 1 ∷ 2 ∷ []) ≡ 1 ∷ 0 ∷ 2 ∷ []
+  -- start and end change places; center stays, and so does 3, which is no edge
+  pub edges : map otherEdge (0 ∷ 1 ∷ 2 ∷ 3 ∷ []) ≡ 2 ∷ 1 ∷ 0 ∷ 3 ∷ []
+  -- a candidate that stands in x from 30 to 40, its edge start and its fallback edge end: from 76 to 86, end and start
+  pub candidate :
+      imageCandidates (panel 0 .area) (9 ∷ 8 ∷ 2 ∷ 1106247680 ∷ 1109393408 ∷ 0 ∷ 1 ∷ 2 ∷ 7 ∷ 6 ∷ 0 ∷ 0 ∷ 2 ∷ [])
+      ≡ 9 ∷ 8 ∷ 2 ∷ 1117257728 ∷ 1118568448 ∷ 2 ∷ 1 ∷ 0 ∷ 7 ∷ 6 ∷ 0 ∷ 0 ∷ 2 ∷ []
+  -- a style whose words are their own places, but for its direction, 0. Inset, margin, padding and border have each left, right, top and
+  -- bottom, of two words: the first two and the next two change places. The direction is flipped
+  pub style :
+      imageStyles (listed 48 (λ k. k) ++ 0 ∷ 49 ∷ 50 ∷ 51 ∷ 52 ∷ 53 ∷ 54 ∷ 55 ∷ 56 ∷ [])
+      ≡ (2 ∷ 3 ∷ 0 ∷ 1 ∷ 4 ∷ 5 ∷ 6 ∷ 7 ∷ [])
+      ++ (10 ∷ 11 ∷ 8 ∷ 9 ∷ 12 ∷ 13 ∷ 14 ∷ 15 ∷ [])
+      ++ (18 ∷ 19 ∷ 16 ∷ 17 ∷ 20 ∷ 21 ∷ 22 ∷ 23 ∷ [])
+      ++ (26 ∷ 27 ∷ 24 ∷ 25 ∷ 28 ∷ 29 ∷ 30 ∷ 31 ∷ [])
+      ++ (32 ∷ 33 ∷ 34 ∷ 35 ∷ 36 ∷ 37 ∷ 38 ∷ 39 ∷ 40 ∷ 41 ∷ 42 ∷ 43 ∷ 44 ∷ 45 ∷ 46 ∷ 47 ∷ 1 ∷ 49 ∷ 50 ∷ 51 ∷ 52 ∷ 53 ∷ 54 ∷ 55 ∷ 56 ∷ [])
+  -- words that are no whole record stay
+  pub part : imageStyles (1 ∷ 2 ∷ 3 ∷ []) ≡ 1 ∷ 2 ∷ 3 ∷ []
+
+pub images : Images
+unfolding add sub mul neg sum round units odd size span climb ofBits toBits ofFields nanBits edgeSum otherDirection otherEdge counterpart imageStyle reflectedWord imageCandidate listed eachRecord
+images = record { openings = refl; edges = refl; candidate = refl; style = refl; part = refl }
