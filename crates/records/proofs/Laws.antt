@@ -159,7 +159,7 @@ others-kept w k i ws r e h d = go (ltb i k) refl
 
 pub nan-word : NanWord
 unfolding canonicalWord toBits
-nan-word word n = rw (is-nan (ofBits binary32 word) n) refl
+nan-word word n = ap (toBits binary32) (is-nan (ofBits binary32 word) n)
 
 pub float-word : FloatWord
 unfolding canonicalWord

@@ -3,11 +3,16 @@ use Prim.Native.Nat.{ℕ, _+_}
 use native.Mathlib.Nat.{add-zero, add-assoc}
 use mathlib.Core.Path.{_≡_, refl, _∙_}
 use mathlib.Core.Bool.{Bool, true, false, cond, not, _&&_}
-use mathlib.Core.List.{List}
+use mathlib.Core.List.{List, [], _∷_, map}
 use lib.Dec.{leb}
-use lib.ListN.{getD}
+use lib.ListN.{getD, replicate}
 use Rattle.records.specs.Records.{every, wrong, breaks, good}
 use Rattle.tree_record.specs.Candidate.{axisKinds, candidateKinds}
+
+-- computed, of two items: a record of node 1 is good, one of node 2 isn't
+nodes-computed : map (λ (node : ℕ). good (candidateKinds 2) (node ∷ replicate 12 0) 0) (1 ∷ 2 ∷ []) ≡ true ∷ false ∷ []
+unfolding good every breaks wrong
+nodes-computed = refl
 
 -- edge, safety and fallback edge, one after another
 axis-codes : (a b c : Bool) → (true && true && not a && not b && not c) ≡ cond a false (cond b false (cond c false true))
