@@ -96,10 +96,6 @@ pub candidate-width : length (fieldsOf Candidate) ≡ 13
 unfolding fieldsOf candidateFields
 candidate-width = refl
 
-pub style-width : length styleFields ≡ 57
-unfolding styleFields
-style-width = refl
-
 pub first-bytes : bytesOf First ≡ FIRST
 unfolding bytesOf
 first-bytes = rw first-width refl

@@ -16,7 +16,7 @@ use Rattle.screen.specs.Field.{wordOf, valueOf}
 use Rattle.screen.specs.Place.{part}
 use Rattle.screen.specs.Screen.{goodFields, goodLine, goodLines, wordsOf, rowsOf, headerOf, itemCount, candidateCount, candidatesAt, screenBytes, isScreen, answerOf, stylesOf, repliesOf, candidatesOf, written}
 use Rattle.screen.proofs.Text.{apart}
-use Rattle.screen.proofs.Table.{FIRST, ITEM, CANDIDATE, first-width, style-width, first-bytes, item-bytes, candidate-bytes}
+use Rattle.screen.proofs.Table.{FIRST, ITEM, CANDIDATE, first-width, first-bytes, item-bytes, candidate-bytes}
 use Rattle.screen.proofs.Lines.{words-at}
 
 -- ---- sizes
@@ -167,8 +167,8 @@ module _ (text l after : List ℕ) (n m : ℕ) (t : Told text n m) where
   styles-read e = e ∙ rw (t .good, styles-part, ← t .items, first-bytes) refl
 
   pub replies-read : after ≡ sets l 0 (rowsOf (part (fieldsOf Item) 57 6) Item n (drop (FIRST + COLUMNS * 57) text)) → after ≡ written (isScreen text) l (repliesOf text)
-  unfolding written repliesOf
-  replies-read e = e ∙ rw (t .good, replies-part, ← t .items, first-bytes, style-width) refl
+  unfolding written repliesOf styleFields
+  replies-read e = e ∙ rw (t .good, replies-part, ← t .items, first-bytes) refl
 
   pub candidates-read : after ≡ sets l 0 (rowsOf (part (fieldsOf Candidate) 0 13) Candidate m (drop (FIRST + n * ITEM) text)) → after ≡ written (isScreen text) l (candidatesOf text)
   unfolding written candidatesOf

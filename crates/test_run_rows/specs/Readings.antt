@@ -212,8 +212,7 @@ lengthsKept =
     ∷ refuses 2 (reply (opening absolute of58 .step .state) (over box 1 1) (surfacing []))
     -- a forged state that records 58, with 58 lent
     ∷ refuses 2 (reply (withExtents (openedBox .step .state) 58) of58 (surfacing []))
-    -- an accepted run; a reply with another list; a reply after the finish
-    ∷ laysOut boxAsked openedBox
+    -- an accepted run: a reply with another list; its finish; a reply after that
     ∷ refuses 2 (reply (openedBox .step .state) (over box 2 1) (surfacing []))
     ∷ finishes (boxEnd 1) finished
     ∷ refuses 6 (next box finished (surfacing []))
@@ -232,7 +231,9 @@ measured = next item measuring (both (px 30) (px 20))
 
 unfoldable pub surfacedByKind : List Bool
 surfacedByKind =
+    -- two openings, one that asks to measure and one that asks to lay out
     measuresBoth (0 ∷ none ∷ none ∷ px 100 ∷ px 100 ∷ []) measuring
+    ∷ laysOut boxAsked openedBox
     -- lay out, 12 words, to a measure question; a measure, 12 words, to a lay out question; lay out, 12 words, after the finish
     ∷ refuses 2 (next item measuring (surfacing twelve))
     ∷ refuses 6 (next box openedBox (lending twelve (both 0 0)))
@@ -495,6 +496,6 @@ inOrder =
 
 unfoldable pub readings : List Bool
 readings =
-    lengthsKept ++ surfacedByKind ++ limits ++ withoutBoxes ++ styles ++ candidates ++ full ++ forged ++ kept ++ measures ++ layouts
+    surfacedByKind ++ lengthsKept ++ limits ++ withoutBoxes ++ styles ++ candidates ++ full ++ forged ++ kept ++ measures ++ layouts
     ++ overflows
     ++ inOrder
