@@ -29,7 +29,7 @@ use Rattle.mirror_run.specs.Runs.{Message, isUnread, Alike, Fair, AllFai
 use Rattle.mirror_run.proofs.Decided.{quarter-decided, table-decided, candidates-decided}
 use Rattle.mirror_run.proofs.Unread.{accepted-read}
 use Rattle.mirror_run.proofs.Mirror.{mirror}
-use Rattle.mirror_run.proofs.Screens.{word, turn, nothing, panel, table, four, lent, lent', wrongKind, surfacesFixed, measured, laidOut, wrongLengths, replies, after, imageAfter, ran, imageRan, still, content, tenths, atStart, centered, upTo, narrow, small, wide, aside, far, surfacing, tenth, shorter, number, definiteIn, told, Differ, computed}
+use Rattle.mirror_run.proofs.Screens.{word, turn, nothing, panel, table, four, lent, lent', wrongKind, surfacesFixed, measured, laidOut, wrongLengths, replies, after, imageAfter, ran, imageRan, unflipped, still, content, tenths, ahead, atStart, centered, upTo, narrow, small, wide, aside, far, surfacing, tenth, shorter, number, definiteIn, told, Differ, computed}
 
 nought : Quarter (word 0)
 unfolding ofBits
@@ -137,6 +137,10 @@ quarter-small : QuarterArea (small .area)
 unfolding ofBits eq
 quarter-small = record { width = quarter-decided (word 1048576000) refl; height = quarter-decided (word 1048576000) refl; x = nought; y = nought; notZero = λ e. no e refl }
 
+quarter-wide : QuarterArea (wide .area)
+unfolding ofBits eq
+quarter-wide = record { width = quarter-decided (word 1083179008) refl; height = quarter-decided (word 1048576000) refl; x = nought; y = nought; notZero = λ e. no e refl }
+
 -- an area whose width isn't 0: in one of 0 the run offers 0.5 and its image 0
 width-needed :
     (Quarter (narrow .area .size .width) × Quarter (narrow .area .size .height) × Quarter (narrow .area .offset .x) × Quarter (narrow .area .offset .y) × QuarterTable still × QuarterCandidates centered)
@@ -176,12 +180,7 @@ quarter-lengths-needed = ((quarter-small, quarter-at-start), fails (computed .le
 
 -- candidates' areas of whole quarter pixels
 quarter-candidates-needed : (QuarterArea (wide .area) × QuarterTable still) × Fails wide still upTo []
-unfolding ofBits eq
 quarter-candidates-needed = ((quarter-wide, quarter-still), fails (computed .place))
-  where
-    quarter-wide : QuarterArea (wide .area)
-    quarter-wide =
-        record { width = quarter-decided (word 1083179008) refl; height = quarter-decided (word 1048576000) refl; x = nought; y = nought; notZero = λ e. no e refl }
 
 -- replies of whole quarter pixels: both are given 0.1, with their own slices
 quarter-replies-needed : (QuarterArea (small .area) × QuarterTable content × QuarterCandidates atStart) × Fails small content atStart tenth
@@ -191,6 +190,14 @@ quarter-replies-needed = ((quarter-small, table-decided content refl, quarter-at
 -- no surfaced box that is claimed: the run offers it 0.25 and its image 0
 no-surfaced-needed : (QuarterArea (small .area) × QuarterTable still × QuarterCandidates atStart) × Fails small still atStart surfacing
 no-surfaced-needed = ((quarter-small, quarter-still, quarter-at-start), fails (computed .surfaced))
+
+-- the image of the styles: a box that stands 1 before the left edge stands there in both over the same styles, and is before the start
+-- edge in one only
+image-styles-needed :
+    (QuarterArea (wide .area) × QuarterTable ahead × QuarterCandidates atStart)
+    × ((n : ℕ) → MirroredRuns (wide .area) n (ran wide ahead atStart (laidOut ∷ [])) (unflipped wide ahead atStart (laidOut ∷ [])) → ⊥)
+unfolding ofBits every items lengthAt floatAt
+image-styles-needed = ((quarter-wide, table-decided ahead refl, quarter-at-start), λ n h. no (same-told (h .answer)) (computed .leftDiffers))
 
 -- slices that are as long in both: the run finishes, and its image, which alone is lent others, is refused with 2
 same-lengths-needed : (QuarterArea (small .area) × QuarterTable still × QuarterCandidates atStart) × Fails small still atStart shorter

@@ -193,7 +193,12 @@ abbrev pub imageRan : Opening → List ℕ → List ℕ → List Message → Out
 imageRan o styles candidates messages =
     foldl (imageNext (imageStyles styles)) (opened (imageOpening o) (imageCandidates (o .area) candidates) (lentWith (imageStyles styles) 0 23 26 26)) messages
 
--- a box of no size; as wide as its content; between insets of 0.05 and 0.1
+-- the image over the run's own styles
+abbrev pub unflipped : Opening → List ℕ → List ℕ → List Message → Outcome
+unflipped o styles candidates messages =
+    foldl (imageNext styles) (opened (imageOpening o) (imageCandidates (o .area) candidates) (lentWith styles 0 23 26 26)) messages
+
+-- a box of no size; as wide as its content; between insets of 0.05 and 0.1; 2 wide and 0.25 high, its left inset -1
 abbrev pub still : List ℕ
 still = plain noInsets (px 0 ++ px 0)
 
@@ -202,6 +207,9 @@ content = plain noInsets (asContent ++ px 1048576000)
 
 abbrev pub tenths : List ℕ
 tenths = plain (sides (px 1028443341) (px 1036831949)) (px 0 ++ px 0)
+
+abbrev pub ahead : List ℕ
+ahead = plain (px 3212836864 ++ auto ++ px 0 ++ px 0) (px 1073741824 ++ px 1048576000)
 
 -- its static position: at 0, from there on; centered at 0.25; up to 0.05
 abbrev pub atStart : List ℕ
@@ -295,6 +303,10 @@ pub record Computed : Type 0 where
   pub reply : Differ small content atStart tenth 0 2986344448
   -- 0.25 and 0
   pub surfaced : Differ small still atStart surfacing 1048576000 0
+  -- -1, and over the run's own styles 0
+  pub left : toBits binary32 (told (ran wide ahead atStart (laidOut ∷ []) .step .answer)) ≡ 3212836864
+  pub leftUnflipped : toBits binary32 (told (unflipped wide ahead atStart (laidOut ∷ []) .step .answer)) ≡ 0
+  pub leftDiffers : eq (told (ran wide ahead atStart (laidOut ∷ []) .step .answer)) (told (unflipped wide ahead atStart (laidOut ∷ []) .step .answer)) ≡ false
   -- a finish after one answer, and a refusal 2
   pub slices : numberAfter (ran small still atStart shorter) ≡ 11
   pub imageSlices : numberAfter (imageRan small still atStart shorter) ≡ 22
@@ -319,6 +331,9 @@ computed =
       place = record { run = refl; image = refl; differ = refl };
       reply = record { run = refl; image = refl; differ = refl };
       surfaced = record { run = refl; image = refl; differ = refl };
+      left = refl;
+      leftUnflipped = refl;
+      leftDiffers = refl;
       slices = refl;
       imageSlices = refl;
     }
