@@ -1,4 +1,4 @@
--- Generated: tools/proof/write-skeletons, then tools/proof/list-facts --fill.
+-- Generated skeleton (tools/proof/write-skeletons), answers by hand.
 use Rattle.run.specs.Run.{boxAtHand}
 use borrow.Author.Needs.{needs}
 use Rattle.placer.proofs.boxes.box_at_hand.Statement.{statement}
@@ -15,7 +15,7 @@ candidate-at-requires c κs = search needs
 
 returns : tie.Need-returns
 unfolding boxAtHand
-returns c = simp (← c .candidate-at .ensures)
+returns c = c .candidate-at .ensures
 
 pub box-at-hand-spec : {M : Type 1} → statement M
 box-at-hand-spec = tie.close (tie.spec sub-candidate-at candidate-at-requires returns)
