@@ -29,7 +29,7 @@ use Rattle.mirror_run.specs.Runs.{Message, isUnread, Alike, Fair, AllFai
 use Rattle.mirror_run.proofs.Decided.{quarter-decided, table-decided, candidates-decided}
 use Rattle.mirror_run.proofs.Unread.{accepted-read}
 use Rattle.mirror_run.proofs.Mirror.{mirror}
-use Rattle.mirror_run.proofs.Screens.{word, turn, nothing, panel, table, four, lent, lent', wrongKind, surfacesFixed, measured, laidOut, wrongLengths, replies, after, imageAfter, ran, imageRan, unflipped, still, content, tenths, ahead, atStart, centered, upTo, narrow, small, wide, aside, far, surfacing, tenth, shorter, number, definiteIn, told, Differ, computed}
+use Rattle.mirror_run.proofs.Screens.{word, turn, nothing, panel, table, four, lent, lent', wrongKind, surfacesFixed, measured, laidOut, wrongLengths, replies, after, imageAfter, ran, imageRan, unflipped, still, content, tenths, ahead, atStart, centered, upTo, narrow, small, wide, aside, far, surfacing, tenth, shorter, badTable, number, definiteIn, told, Differ, computed}
 
 nought : Quarter (word 0)
 unfolding ofBits
@@ -199,14 +199,23 @@ image-styles-needed :
 unfolding ofBits every items lengthAt floatAt
 image-styles-needed = ((quarter-wide, table-decided ahead refl, quarter-at-start), λ n h. no (same-told (h .answer)) (computed .leftDiffers))
 
+-- the same answers have the same number
+same-number : {a a' : Answer} → SameAnswer a a' → number a ≡ number a'
+same-number (ask q) = refl
+same-number (finish r c) = ap (λ (n : ℕ). 10 + n) c
+same-number refused = refl
+
 -- slices that are as long in both: the run finishes, and its image, which alone is lent others, is refused with 2
 same-lengths-needed : (QuarterArea (small .area) × QuarterTable still × QuarterCandidates atStart) × Fails small still atStart shorter
 same-lengths-needed = ((quarter-small, quarter-still, quarter-at-start), λ n h. eleven (sym (computed .slices) ∙ same-number (h .answer) ∙ computed .imageSlices))
   where
-    same-number : {a a' : Answer} → SameAnswer a a' → number a ≡ number a'
-    same-number (ask q) = refl
-    same-number (finish r c) = ap (λ (n : ℕ). 10 + n) c
-    same-number refused = refl
-
     eleven : _≡_ {A = ℕ} 11 22 → ⊥
+    eleven e = omega (arith, e)
+
+-- the run's own words, but for a call that is refused with 2 or 6: the run, which alone is lent others, is refused with 3, and its image
+-- finishes
+own-words-needed : (QuarterArea (small .area) × QuarterTable still × QuarterCandidates atStart) × Fails small still atStart badTable
+own-words-needed = ((quarter-small, quarter-still, quarter-at-start), λ n h. eleven (sym (computed .table) ∙ same-number (h .answer) ∙ computed .imageTable))
+  where
+    eleven : _≡_ {A = ℕ} 23 11 → ⊥
     eleven e = omega (arith, e)
