@@ -1,12 +1,21 @@
 #!/usr/bin/env python3
 """Misreadings written into definition and code alike, and what the checker then refuses. Run at the root of the repository after a check.
 
-    tools/misread/edits.py [WORD]      those whose name has WORD; one after another, in a copy of crates/ and target/
+    tools/misread/edits.py [--rewrite] [axis|box] [WORD]
 
-Prints, for each, the laws that are refused, and the functions and theorems whose proof no longer fits: a changed call or operation asks for a
-changed proof script, which refuses nothing. No row and no stored sample is asked. An edit of an axis takes as long as `rt dev oof_axis`; one of a box
-proves all crates from its own to oof_box_laws anew: minutes. Fails where no law refuses an edit."""
+tries all of both lists, of one of them, or those whose name has WORD, one after another, in a copy of crates/ and target/. An entry of axis_edits.py
+or box_edits.py is a name, the crates whose laws are asked in turn (or a pair of such a crate and more edits before it is asked), and edits: a file
+under crates/, the old text, the new one, and how often the old one stands there if not once. A pair as old text is all from the first up to the
+second (None: to the file's end); None as old text takes the file away. A name is that of the same misreading of the models axis.py and box.py,
+which then say which of the refused laws are false: so a law that is broken is told apart from a law whose proof merely no longer fits.
+
+Prints, for each, the laws that are refused, first those that are false on the model, then the functions whose proof no longer fits: a changed
+call or operation asks for a changed proof script, which refuses nothing. With --rewrite tools/proof/rewrite-proof writes these scripts anew, and
+the check says whether the code then meets the definition again. No row and no stored sample is asked. An edit of an axis takes as long as
+`rt dev oof_axis`, some 10 s; one that is asked of the laws on quarters a minute; one of a box proves all crates from its own to oof_box_laws anew:
+minutes. Fails where no law refuses an edit, or none that the model says is false."""
 import os
+import pathlib
 import re
 import shutil
 import subprocess
@@ -14,118 +23,121 @@ import sys
 import tempfile
 import time
 
-AXIS, CODE = 'oof_axis/specs/Axis.antt', 'oof_axis/src/lib.rt'
-STATIC = 'alignIn (a .place .area) outer (a .place .align .keyword)'
-# name, the crates whose laws are asked in turn, and (file, old, new)
-EDITS = [
-    ('lone start inset: the end margin', ['oof_axis'], [
-        (AXIS, 'positionIn (Some start) None a l size m = l .start ⊕ m .start', 'positionIn (Some start) None a l size m = l .start ⊕ m .end'),
-        (CODE, 'MaybeF32::None => imcb.start + margin.start,', 'MaybeF32::None => imcb.start + margin.end,')]),
-    ('lone end inset: the start margin', ['oof_axis'], [
-        (AXIS, 'l .end ⊖ size ⊖ m .end', 'l .end ⊖ size ⊖ m .start'),
-        (CODE, 'imcb.end - size - margin.end', 'imcb.end - size - margin.start')]),
-    ('lone start inset: margin ignored', ['oof_axis'], [
-        (AXIS, 'positionIn (Some start) None a l size m = l .start ⊕ m .start', 'positionIn (Some start) None a l size m = l .start'),
-        (CODE, 'MaybeF32::None => imcb.start + margin.start,', 'MaybeF32::None => imcb.start,')]),
-    ('lone start inset: block is the area', ['oof_axis'], [
-        (AXIS, 'insetBlock (Some start) None a = start to a .size', 'insetBlock (Some start) None a = 0f to a .size'),
-        (CODE, 'MaybeF32::None => Line {\n                    start: start,\n                    end: self.size,', 'MaybeF32::None => Line {\n                    start: 0.0,\n                    end: self.size,')]),
-    ('weaker edge: always right', ['oof_axis'], [
-        (AXIS, 'startIsWeaker (Some start) (Some end) a = a .reversed', 'startIsWeaker (Some start) (Some end) a = false'),
-        (CODE, 'MaybeF32::Some(_) => start_is_end,', 'MaybeF32::Some(_) => false,')]),
-    ('end aligned as start', ['oof_axis'], [
-        (AXIS, 'alignEdge align.End a = endEdge (a .reversed)', 'alignEdge align.End a = startEdge (a .reversed)'),
-        (CODE, 'OofAlignment::End => axis.end_edge(),', 'OofAlignment::End => axis.start_edge(),')]),
-    ('limit for normal', ['oof_axis'], [
-        (AXIS, 'isNormal align.Normal = true', 'isNormal align.Normal = false'),
-        (CODE, 'OofAlignment::Normal => true,', 'OofAlignment::Normal => false,')]),
-    ('safe: always at the start', ['oof_axis'], [
-        (AXIS, '(cond (lt (span l) outer) (startEdge (a .reversed)) edge)', '(cond (lt (span l) outer) (startEdge (a .reversed)) (startEdge (a .reversed)))'),
-        (CODE, 'return align_in_line(imcb, outer, start);\n                }\n                align_in_line(imcb, outer, edge)', 'return align_in_line(imcb, outer, start);\n                }\n                align_in_line(imcb, outer, start)')]),
-    ('safe: never at the start', ['oof_axis'], [
-        (AXIS, '(cond (lt (span l) outer) (startEdge (a .reversed)) edge)', '(cond (lt (span l) outer) edge edge)'),
-        (CODE, 'return align_in_line(imcb, outer, start);', 'return align_in_line(imcb, outer, edge);')]),
-    ('static: aligned in the block', ['oof_axis'], [
-        (AXIS, 'staticAligned Default a l outer = alignIn (a .place .area) outer', 'staticAligned Default a l outer = alignIn l outer'),
-        (CODE, 'AlignmentSafety::Default => align_in_line(area, outer, edge),', 'AlignmentSafety::Default => align_in_line(imcb, outer, edge),')]),
-    ('static safe: never at the start', ['oof_axis'], [
-        (AXIS, f'cond (lt (span l) outer) (alignIn l outer (startEdge (a .reversed))) ({STATIC})', f'cond (lt (span l) outer) ({STATIC}) ({STATIC})'),
-        (CODE, 'return align_in_line(imcb, outer, start_edge);', 'return align_in_line(area, outer, edge);')]),
-    ('negative free space: to the other margin', ['oof_axis'], [
-        (AXIS, '(cond (a .reversed) (free to 0f) (0f to free))', '(cond (a .reversed) (0f to free) (free to 0f))'),
-        (CODE, 'start: free,\n                    end: 0.0,', 'start: 0.0,\n                    end: FREE,'),
-        (CODE, 'start: 0.0,\n                end: free,', 'start: free,\n                end: 0.0,'),
-        (CODE, 'FREE', 'free')]),
-    ('lone auto margin: all free space', ['oof_axis'], [
-        (AXIS, 'filledMargins (Some start) None free a = start to free ⊖ start', 'filledMargins (Some start) None free a = start to free'),
-        (CODE, 'end: free - start,', 'end: free,')]),
-    ('too large for the limit: at its right', ['oof_axis'], [
-        (AXIS, '(lim .start)) (alignIn lim outer (startEdge (a .reversed)))', '(lim .start)) (alignIn lim outer (endEdge (a .reversed)))'),
-        (CODE, 'align_in_line(limit, outer, self.start_edge())', 'align_in_line(limit, outer, self.end_edge())')]),
-    # a box: every crate up to the laws is proved anew
-    ('box: top margin of the height', ['oof_resolve', 'oof_box_laws'], [
-        ('oof_resolve/specs/Resolved.antt', 'ofWidth f sides areaSize = resolvedRect f sides (areaSize .width) (areaSize .width)', 'ofWidth f sides areaSize = resolvedRect f sides (areaSize .width) (areaSize .height)'),
-        ('oof_resolve/src/lib.rt', 'resolve::maybe_resolve_rect(field, sides, area.width, area.width)', 'resolve::maybe_resolve_rect(field, sides, area.width, area.height)')]),
-    ('box: normal stretches a table', ['oof_box', 'oof_box_laws'], [
-        ('oof_box/specs/Box.antt', 'let plain = not (style .replaced) && not (style .table) in', 'let plain = not (style .replaced) && not (style .replaced) in'),
-        ('oof_box/src/sizing.rt', 'stretches axis (not (style .replaced) && not (style .table))', 'stretches axis (not (style .replaced) && not (style .replaced))'),
-        ('oof_box/src/sizing.rt', 'axis.is_stretch_sized(style.replaced, style.table)', 'axis.is_stretch_sized(style.replaced, style.replaced)')]),
-    ('box: self-start as start', ['oof_resolve', 'oof_box_laws'], [
-        ('oof_resolve/specs/Resolved.antt', 'selfRelative (style .justify) (style .direction) (block .direction) true', 'selfRelative (style .justify) (style .direction) (block .direction) false'),
-        ('oof_resolve/src/lib.rt', 'justify_style.resolve_self_relative(item_direction, direction, true)', 'justify_style.resolve_self_relative(item_direction, direction, false)')]),
-    ('contribution: a box above the start edge counts', ['common', 'oof_box_laws'], [
-        ('oof_common/specs/ScrollableOverflow.antt', 'cond (parentScrolls && (le (x .end) 0f || le (y .end) 0f)) zeroRect', 'cond (parentScrolls && (le (x .end) 0f || le (x .end) 0f)) zeroRect'),
-        ('oof_common/src/scrollable_overflow.rt', '(scrolls && (le (x .end) 0f || le (y .end) 0f))', '(scrolls && (le (x .end) 0f || le (x .end) 0f))'),
-        ('oof_common/src/scrollable_overflow.rt', 'scrolls && either_at_most_zero(x.end, y.end)', 'scrolls && either_at_most_zero(x.end, x.end)')]),
-    ('contribution: from the right edge, less the height', ['oof_place', 'oof_box_laws'], [
-        ('oof_place/specs/Placing.antt', 'container .area .size .width ⊖ x ⊖ size .width', 'container .area .size .width ⊖ x ⊖ size .height'),
-        ('oof_place/src/lib.rt', 'x: container.area.size.width - x - size.width,', 'x: container.area.size.width - x - size.height,')]),
-]
+sys.dont_write_bytecode = True
+sys.path.insert(0, str(pathlib.Path(__file__).parent))
+import axis
+import axis_edits
+import box
+import box_edits
+
+INPUTS = 3000
+ERROR = re.compile(r'crates/(\w+)/proofs/(\S+?)\.antt:(\d+):\d+: error: ')
 
 
-def laws_and_unfit(errors):
-    """The laws that are refused, by the lemma at which each is, and the functions or theorems whose proof no longer fits."""
-    laws, unfit = [], []
-    for line in errors:
-        crate, proof = re.search(r'crates/(\w+)/proofs/(\S+?)\.antt:', line).groups()
-        lemma = re.search(r'`([^`]+)`', line).group(1)
-        if proof.endswith('Proof'): unfit.append(proof.split('/')[-2])
-        elif proof == 'Laws' or crate in ('oof_axis_laws', 'oof_box_laws'): laws.append(f'{crate}: {lemma}')
-        else: unfit.append(f'{crate}: {lemma}')
+def declarations(file):
+    """The line at which each declaration of a proof file begins, its name, and the statement that it proves, if it proves a law."""
+    found = []
+    for n, text in enumerate(open(file), 1):
+        named = re.match(r'(?:pub )?([a-z]\S*) : (.*)|(module) ', text)
+        if named: found.append((n, named[1] or named[3], named[2] if re.fullmatch(r'[A-Z]\w*', named[2] or '') else None))
+    return found
+
+
+def laws_and_unfit(copy, output):
+    """The laws that are refused, at their own lemma or at one below it, and the functions and theorems whose proof no longer fits."""
+    laws, unfit = [], re.findall(r'^fn \w+::(\S+): not proved(?!; it calls)', output, re.M)
+    for text in output.splitlines():
+        error = ERROR.search(text)
+        if not error or error[2].endswith('Proof'): continue
+        crate, proof, at = error[1], error[2], int(error[3])
+        name, law = next(((name, law) for n, name, law in reversed(declarations(f'{copy}/crates/{crate}/proofs/{proof}.antt')) if n <= at), (proof, None))
+        of_laws = proof == 'Laws' or crate.endswith('_laws')
+        if of_laws and law: laws.append(law)
+        if not of_laws and 'was not admitted' not in text: unfit.append(f'{crate}: {name}')
     return list(dict.fromkeys(laws)), list(dict.fromkeys(unfit))
 
 
-def tried(root, copy, name, crates, edits):
-    texts = {}
-    for file, old, new in edits:
-        text = texts.get(file) or open(os.path.join(root, 'crates', file)).read()
-        assert text.count(old) == 1, (name, file, old, text.count(old))
-        texts[file] = text.replace(old, new)
-    for file, text in texts.items(): open(os.path.join(copy, 'crates', file), 'w').write(text)
-    began, laws, unfit = time.time(), [], []
+def asked(copy, crate):
+    run = subprocess.run(['rt', 'dev', crate], cwd=copy, capture_output=True, text=True)
+    return run.stdout + run.stderr
+
+
+def rewrite(root, copy, crate, function):
+    """Has the proof script of a function written anew, with the definitions that the old one unfolds."""
+    file = os.path.join(root, 'crates', crate, 'proofs', function.replace('::', '/'), 'Proof.antt')
+    old = open(file).read() if os.path.exists(file) else ''
+    definitions = ' '.join(dict.fromkeys(re.findall(r'\S+', ' '.join(re.findall(r'^unfolding (.*)', old, re.M)))))
+    uses = '\n'.join(re.findall(rf'^use Rattle·{crate}·(?:specs\.specs|proofs\.proofs)\.\w+\.\{{.*', old, re.M))
+    subprocess.run([os.path.join(root, 'tools/proof/rewrite-proof'), crate, function.replace('::', '/'), definitions, uses], cwd=copy, capture_output=True)
+
+
+def false_on_model(module, changed, laws):
+    """Those of the laws that the misreading breaks on the model."""
+    found = set()
+    for i in module.inputs(INPUTS):
+        found.update(law for law in laws if law in module.LAWS and law not in found and module.LAWS[law](changed(), *i) is False)
+    return [law for law in laws if law in found]
+
+
+def write(copy, name, edits):
+    for file, old, new, *times in edits:
+        path = os.path.join(copy, 'crates', file)
+        if old is None:
+            shutil.rmtree(path) if os.path.isdir(path) else os.remove(path)
+            continue
+        text = open(path).read()
+        if isinstance(old, tuple): old = text[text.index(old[0]):old[1] and text.index(old[1], text.index(old[0]))]
+        assert text.count(old) == (times or [1])[0], (name, file, old, text.count(old))
+        open(path, 'w').write(text.replace(old, new))
+
+
+def tried(root, copy, again, module, name, crates, edits):
+    """Whether a law refuses the entry, one that is false on the model if that has it; and what became of the functions' proofs."""
+    began, laws, unfit, left = time.time(), [], [], []
+    write(copy, name, edits)
     for crate in crates:
-        run = subprocess.run(['rt', 'dev', crate], cwd=copy, capture_output=True, text=True)
-        found = laws_and_unfit([l for l in (run.stdout + run.stderr).splitlines() if re.search(r'/proofs/\S+\.antt:.*error:', l) and 'was not admitted' not in l])
-        laws += found[0]
-        unfit += found[1]
+        if isinstance(crate, tuple):
+            crate, more = crate
+            write(copy, name, more)
+        output = asked(copy, crate)
+        found, other = laws_and_unfit(copy, output)
+        if again and other:
+            for function in other:
+                if ': ' not in function: rewrite(root, copy, crate, function)
+            left += laws_and_unfit(copy, asked(copy, crate))[1]
+        laws += found
+        unfit += other
         if laws: break
-    if not laws: print(next((l for l in (run.stdout + run.stderr).splitlines() if 'error' in l or 'NOT PROVED' in l or 'no proof' in l), 'all is proved'))
-    for file in texts: shutil.copy(os.path.join(root, 'crates', file), os.path.join(copy, 'crates', file))
-    print(f'{name}: refused by {", ".join(laws) or "NOTHING"}; proofs of code that no longer fit: {", ".join(unfit) or "none"}; {time.time() - began:.0f} s', flush=True)
-    return bool(laws)
+    if not laws: print(next((l for l in output.splitlines() if 'error' in l or 'not proved' in l or 'no proof' in l), 'all is proved'))
+    for crate in {f.split('/')[0] for f, *_ in edits + [e for c in crates if isinstance(c, tuple) for e in c[1]]}:
+        shutil.rmtree(os.path.join(copy, 'crates', crate))
+        shutil.copytree(os.path.join(root, 'crates', crate), os.path.join(copy, 'crates', crate), symlinks=True)
+    changed = dict(module.MISREADINGS).get(name)
+    false = false_on_model(module, changed, laws) if changed else laws
+    said = f'refused by {", ".join(false) or "NO LAW THAT IS FALSE"}' + (' (false on the model)' if changed and false else '')
+    if laws != false: said += f', and with it {", ".join(l for l in laws if l not in false)}'
+    fits = ", ".join(unfit) or 'none'
+    if again and unfit: fits += ' (written anew: ' + ('all proved' if not left else f'not {", ".join(left)}') + ')'
+    print(f'{name}: {said if laws else "refused by NOTHING"}; proofs of code that no longer fit: {fits}; {time.time() - began:.0f} s', flush=True)
+    return bool(false), not unfit, not left
 
 
 def main():
-    root, copy = os.getcwd(), tempfile.mkdtemp()
-    chosen = [e for e in EDITS if len(sys.argv) < 2 or sys.argv[1] in e[0]]
+    root, copy, began, words = os.getcwd(), tempfile.mkdtemp(), time.time(), sys.argv[1:]
+    again, lists = '--rewrite' in words, [(axis, axis_edits), (box, box_edits)]
+    words = [w for w in words if w != '--rewrite']
+    if words and words[0] in ('axis', 'box'): lists, words = [l for l in lists if l[0].__name__ == words[0]], words[1:]
+    chosen = [(module, *e) for module, entries in lists for e in entries.EDITS if not words or words[0] in e[0]]
     try:
         for n in ('crates', 'target'): shutil.copytree(os.path.join(root, n), os.path.join(copy, n), symlinks=True)
         shutil.copy(os.path.join(root, 'crates.txt'), copy)
-        refused = sum([tried(root, copy, *e) for e in chosen])
+        outcomes = [tried(root, copy, again, *e) for e in chosen]
     finally:
         shutil.rmtree(copy)
-    print(f'{refused} of {len(chosen)} refused by a law')
+    refused, fit, met = [sum(o[i] for o in outcomes) for i in range(3)]
+    print(f'{refused} of {len(chosen)} refused by a law that is false on the model, or by a law where the model has no such misreading')
+    print(f'{fit} leave every proof of the code as it was' + (f', {met} with proofs written anew' if again else '') + f'; {time.time() - began:.0f} s')
     sys.exit(refused < len(chosen))
 
 
-main()
+if __name__ == '__main__': main()
