@@ -45,7 +45,7 @@ def declarations(file):
 
 def laws_and_unfit(copy, output):
     """The laws that are refused, at their own lemma or at one below it, and the functions and theorems whose proof no longer fits."""
-    laws, unfit = [], re.findall(r'^fn \w+::(\S+): not proved(?!; it calls)', output, re.M)
+    laws, unfit = [], re.findall(r'^fn \w+::(\S+): (?:not proved(?!; it calls)|no proof)', output, re.M)
     for text in output.splitlines():
         error = ERROR.search(text)
         if not error or error[2].endswith('Proof'): continue
@@ -57,18 +57,26 @@ def laws_and_unfit(copy, output):
     return list(dict.fromkeys(laws)), list(dict.fromkeys(unfit))
 
 
-def asked(copy, crate):
-    run = subprocess.run(['rt', 'dev', crate], cwd=copy, capture_output=True, text=True)
+def asked(copy, crate, *words):
+    run = subprocess.run(['rt', 'dev', crate, *words], cwd=copy, capture_output=True, text=True, env={**os.environ, 'RT_CUT': '0'})
     return run.stdout + run.stderr
 
 
-def rewrite(root, copy, crate, function):
-    """Has the proof script of a function written anew, with the definitions that the old one unfolds."""
-    file = os.path.join(root, 'crates', crate, 'proofs', function.replace('::', '/'), 'Proof.antt')
-    old = open(file).read() if os.path.exists(file) else ''
-    definitions = ' '.join(dict.fromkeys(re.findall(r'\S+', ' '.join(re.findall(r'^unfolding (.*)', old, re.M)))))
-    uses = '\n'.join(re.findall(rf'^use Rattle·{crate}·(?:specs\.specs|proofs\.proofs)\.\w+\.\{{.*', old, re.M))
-    subprocess.run([os.path.join(root, 'tools/proof/rewrite-proof'), crate, function.replace('::', '/'), definitions, uses], cwd=copy, capture_output=True)
+def rewrite(root, copy, crate, functions):
+    """Has the proof scripts of functions written anew (as tools/proof/rewrite-proof does), with the definitions that the old ones unfold."""
+    old = {f: os.path.join(root, 'crates', crate, 'proofs', f, 'Proof.antt') for f in functions}
+    old = {f: open(path).read() if os.path.exists(path) else '' for f, path in old.items()}
+    for f in functions: shutil.rmtree(os.path.join(copy, 'crates', crate, 'proofs', f), ignore_errors=True)
+    output = asked(copy, crate)
+    for path, lines in re.findall(r'^help: write (\S*Proof\.antt) with these lines.*\n((?:    .*\n|\n)+)', output, re.M):
+        if os.path.exists(os.path.join(copy, path)): continue
+        os.makedirs(os.path.dirname(os.path.join(copy, path)), exist_ok=True)
+        open(os.path.join(copy, path), 'w').write(re.sub('^    ', '', lines, flags=re.M))
+    asked(copy, crate, '--generated', os.path.join(copy, f'target/gen-{crate}'))
+    for f in functions:
+        definitions = ' '.join(dict.fromkeys(' '.join(re.findall(r'^unfolding (.*)', old[f], re.M)).split()))
+        uses = '\n'.join(re.findall(rf'^use Rattle·{crate}·(?:specs\.specs|proofs\.proofs)\.\w+\.\{{.*', old[f], re.M))
+        subprocess.run([os.path.join(root, 'tools/proof/list-facts'), crate, f, '--cached', '--fill', definitions, '--use', uses], cwd=copy, capture_output=True)
 
 
 def false_on_model(module, changed, laws):
@@ -102,8 +110,7 @@ def tried(root, copy, again, module, name, crates, edits):
         output = asked(copy, crate)
         found, other = laws_and_unfit(copy, output)
         if again and other:
-            for function in other:
-                if ': ' not in function: rewrite(root, copy, crate, function)
+            rewrite(root, copy, crate, [f.replace('::', '/') for f in other if ': ' not in f])
             left += laws_and_unfit(copy, asked(copy, crate))[1]
         laws += found
         unfit += other
