@@ -380,8 +380,18 @@ byDirection End a = endEdge (a .reversed)
         (CODE, LEFTWARDS, line('0.0', '0.0', 16)),
         (CODE, RIGHTWARDS, line('0.0', '0.0', 12))]),
     ('free space: all to the start margin', LAWS, [
-        (AXIS, HALVES, f'halves free a = cond (lt free 0f && a .inline) {NEGATIVE} (cond (lt free 0f) {HALF} (free to 0f))'),
-        (CODE, EVEN, f'if free < 0.0 {{\nreturn {EVEN};\n}}\n{line("free", "0.0", 8)}')]),
+        (AXIS, HALVES, f'halves free a = cond (lt free 0f) (cond (a .inline) {NEGATIVE} {HALF}) (free to 0f)'),
+        (CODE, ('        if self.overflows_inline(free) {', '    }\n\n    // The margins where both insets are given.'), f'''        if free < 0.0 {{
+            if self.inline {{
+                if end_is_left {{
+                    return {line("free", "0.0", 20)};
+                }}
+                return {line("0.0", "free", 16)};
+            }}
+            return {line("free / 2.0", "free / 2.0", 12)};
+        }}
+        {line("free", "0.0", 8)}
+''')]),
     ('lone auto margin: 0', LAWS, [
         (AXIS, 'filledMargins (Some start) None free a = start to free ⊖ start', 'filledMargins (Some start) None free a = start to 0f'),
         (AXIS, 'filledMargins None (Some end) free a = free ⊖ end to end', 'filledMargins None (Some end) free a = 0f to end'),
@@ -416,7 +426,18 @@ let alignment = self.alignment;
         (CODE, 'sys::f32_max(self.inset_modified_containing_block_size() - margins, 0.0)', 'self.inset_modified_containing_block_size() - margins')]),
     ('stretches with one inset', LAWS, [
         (AXIS, 'stretches a plain = bothInsets a && ', 'stretches a plain = (present (a .inset .start) || present (a .inset .end)) && '),
-        (CODE, 'self.both_insets() && alignment.stretches', 'let inset = self.inset;\nlet from = inset.start;\nlet to = inset.end;\n(from.is_some() || to.is_some()) && alignment.stretches')]),
+        (CODE, 'mathlib.Core.Bool.{not, _&&_}', 'mathlib.Core.Bool.{not, _&&_, _||_}'),
+        (CODE, 'self.both_insets() && alignment.stretches', 'self.any_inset() && alignment.stretches'),
+        (CODE, '    // Whether an auto size is the stretch-fit size.', '''    fn any_inset(self) -> bool
+        ensures { λ r. ⌜ r ≡ present (self .inset .start) || present (self .inset .end) ⌝ }
+    {
+        let inset = self.inset;
+        let from = inset.start;
+        let to = inset.end;
+        from.is_some() || to.is_some()
+    }
+
+    // Whether an auto size is the stretch-fit size.''')]),
     ('normal stretches replaced boxes', LAWS, [
         (AXIS, 'stretching align.Normal plain = plain', 'stretching align.Normal plain = true'),
         (CODE, 'OofAlignment::Normal => plain,', 'OofAlignment::Normal => true,')]),

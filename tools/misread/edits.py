@@ -48,8 +48,11 @@ def laws_and_unfit(copy, output):
     laws, unfit = [], re.findall(r'^fn \w+::(\S+): (?:not proved(?!; it calls)|no proof)', output, re.M)
     for text in output.splitlines():
         error = ERROR.search(text)
-        if not error or error[2].endswith('Proof'): continue
+        if not error: continue
         crate, proof, at = error[1], error[2], int(error[3])
+        if proof.endswith('/Proof'):
+            if 'was not admitted' not in text: unfit.append(proof[:-len('/Proof')].replace('/', '::'))
+            continue
         name, law = next(((name, law) for n, name, law in reversed(declarations(f'{copy}/crates/{crate}/proofs/{proof}.antt')) if n <= at), (proof, None))
         of_laws = proof == 'Laws' or crate.endswith('_laws')
         if of_laws and law: laws.append(law)
@@ -77,6 +80,10 @@ def rewrite(root, copy, crate, functions):
         definitions = ' '.join(dict.fromkeys(' '.join(re.findall(r'^unfolding (.*)', old[f], re.M)).split()))
         uses = '\n'.join(re.findall(rf'^use Rattle·{crate}·(?:specs\.specs|proofs\.proofs)\.\w+\.\{{.*', old[f], re.M))
         subprocess.run([os.path.join(root, 'tools/proof/list-facts'), crate, f, '--cached', '--fill', definitions, '--use', uses], cwd=copy, capture_output=True)
+        lemmas, path = re.findall(r'·proofs\.proofs\.\w+\.\{(.*)\}', uses), os.path.join(copy, 'crates', crate, 'proofs', f, 'Proof.antt')
+        if not lemmas or not os.path.exists(path): continue
+        text = open(path).read()
+        open(path, 'w').write(re.sub(r'^(returns\S* c = simp \(.*)\)$', rf'\1, {", ".join(lemmas)})', text, flags=re.M))
 
 
 def false_on_model(module, changed, laws):
