@@ -459,6 +459,12 @@ def sample(r):
         static=(line(-60, 100), line(-60, 100)), key=(pick('Start', 'Center', 'End'), pick('Start', 'Center', 'End')),
         psf=(pick('Default', 'Safe'), pick('Default', 'Safe')), measured=(n(0, 120), n(0, 120)), own=own)
 
+# row 12's boxes, no width or no height: no random one has that, for its padding and border
+FLAT = [(PLAIN.but(size=size, own=own),) for size, own in (
+    ((('px', 0), ('px', 10)), ZEROS), ((('px', 0), ('px', 10)), (0, 5, 0, 0)), ((('px', 10), ('px', 0)), ZEROS), ((('px', 10), ('px', 0)), (0, 0, 0, 5)))]
+
 def inputs(count, seed=7):
     r = random.Random(seed)
-    return [(sample(r),) for _ in range(count)]
+    found = [(sample(r),) for _ in range(count - len(FLAT))]
+    found[200:200] = FLAT
+    return found

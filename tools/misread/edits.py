@@ -4,16 +4,20 @@
     tools/misread/edits.py [--rewrite] [axis|box] [WORD]
 
 tries all of both lists, of one of them, or those whose name has WORD, one after another, in a copy of crates/ and target/. An entry of axis_edits.py
-or box_edits.py is a name, the crates whose laws are asked in turn (or a pair of such a crate and more edits before it is asked), and edits: a file
-under crates/, the old text, the new one, and how often the old one stands there if not once. A pair as old text is all from the first up to the
-second (None: to the file's end); None as old text takes the file away. A name is that of the same misreading of the models axis.py and box.py,
-which then say which of the refused laws are false: so a law that is broken is told apart from a law whose proof merely no longer fits.
+or box_edits.py is a name, crates, and edits: a file under crates/, the old text, the new one, and how often the old one stands there if not once. A
+pair as old text is all from the first up to the second (None: to the file's end); None as old text takes the file away. A name is that of the same
+misreading of the models axis.py and box.py, which then say which of the refused laws and rows are false: so a law that is broken is told apart from
+a law whose proof merely no longer fits.
 
-Prints, for each, the laws that are refused, first those that are false on the model, then the functions whose proof no longer fits: a changed
-call or operation asks for a changed proof script, which refuses nothing. With --rewrite tools/proof/rewrite-proof writes these scripts anew, and
-the check says whether the code then meets the definition again. No row and no stored sample is asked. An edit of an axis takes as long as
-`rt dev oof_axis`, some 10 s; one that is asked of the laws on quarters a minute; one of a box proves all crates from its own to oof_box_laws anew:
-minutes. Fails where no law refuses an edit, or none that the model says is false."""
+- Of an axis: the crates are those whose laws are asked in turn (or a pair of such a crate and more edits before it is asked). Some 10 s; a minute
+  where the laws on quarters are asked.
+- Of a box: laws and rows are asked of the changed definitions without the code (bare.py); then the crates named, whose code is edited, are proved
+  anew, not those above. Half a minute or more.
+
+Prints, for each, what refuses it, first what is false on the model, then the functions whose proof no longer fits: a changed call or operation asks
+for a changed proof script, which refuses nothing. With --rewrite the scripts of an axis are written anew as tools/proof/rewrite-proof does, and the
+check says whether the code then meets the definition again. No stored sample is asked. Fails where nothing refuses an edit that the model says is
+false."""
 import os
 import pathlib
 import re
@@ -27,6 +31,7 @@ sys.dont_write_bytecode = True
 sys.path.insert(0, str(pathlib.Path(__file__).parent))
 import axis
 import axis_edits
+import bare
 import box
 import box_edits
 
@@ -136,20 +141,70 @@ def tried(root, copy, again, module, name, crates, edits):
     return bool(false), not unfit, not left
 
 
+# ---- a box: its laws and rows without the code, then the code
+
+def laws_of_a_box(root):
+    """The statements of oof_box_laws, by the names of their proofs."""
+    texts = [open(os.path.join(root, 'crates/oof_box_laws/specs', f)).read() for f in ('Laws.antt', 'Resolved.antt')]
+    names = re.findall(r'(?m)^abbrev pub (\w+) : Type 0$', ''.join(texts))
+    return {re.sub(r'(?<!^)(?=[A-Z])', '-', n).lower(): n for n in names}
+
+
+def refused_without_code(root, copy):
+    """The laws and rows that are refused of the definitions in a copy without code; what else went wrong."""
+    names, refused, broken = laws_of_a_box(root), [], []
+    for crate in ('oof_box_laws', 'test_oof_box_rows'):
+        output = asked(copy, crate)
+        lemmas = [m[1] for m in re.finditer(rf'crates/{crate}/\S+\.antt:\S+ error:.*?`([^`]+)`', output)]
+        if crate == 'oof_box_laws': refused += [names[n] for n in dict.fromkeys(lemmas) if n in names]
+        else: refused += [r for r in bare.ROWS if r.replace(' ', '-') in lemmas]
+        if not lemmas and 'logic=proved' not in output: broken.append(output.splitlines()[-1])
+    return refused, broken
+
+
+def tried_box(root, copy, bare_copy, name, crates, edits):
+    """As tried, of a box. The size law is oof_box's own."""
+    began, files = time.time(), dict.fromkeys(f for f, *_ in edits)
+    write(copy, name, edits)
+    for file in [f for f in files if '/specs/' in f]: shutil.copy(os.path.join(copy, 'crates', file), os.path.join(bare_copy, 'crates', file))
+    refused, broken = refused_without_code(root, bare_copy)
+    unfit = []
+    for crate in crates:
+        output = asked(copy, crate)
+        unfit += laws_and_unfit(copy, output)[1]
+        if 'error: `size-law`' in output: refused.append('SizeLaw')
+    unfit = [u for u in dict.fromkeys(unfit) if u != 'oof_box: size-law']
+    for file in files:
+        for to in (copy, bare_copy) if '/specs/' in file else (copy,): shutil.copy(os.path.join(root, 'crates', file), os.path.join(to, 'crates', file))
+    changed = dict(box.MISREADINGS)[name]
+    rows = [next(r for r in bare.ROWS if row[-2:] in r) for row, holds in box.ROWS.items() if not holds(changed())]
+    false = [r for r in refused if r in rows] + false_on_model(box, changed, refused)
+    said = f'refused by {", ".join(false) or "NOTHING THAT IS FALSE"}' + (' (false on the model)' if false else '')
+    if len(refused) > len(false): said += f', and with it {", ".join(r for r in refused if r not in false)}'
+    print(f'{name}: {said}; proofs of code that no longer fit: {", ".join(unfit) or "none"}; {time.time() - began:.0f} s', *broken, flush=True)
+    return bool(false) and not broken, not unfit, not unfit
+
+
 def main():
-    root, copy, began, words = os.getcwd(), tempfile.mkdtemp(), time.time(), sys.argv[1:]
+    root, began, words = os.getcwd(), time.time(), sys.argv[1:]
     again, lists = '--rewrite' in words, [(axis, axis_edits), (box, box_edits)]
     words = [w for w in words if w != '--rewrite']
     if words and words[0] in ('axis', 'box'): lists, words = [l for l in lists if l[0].__name__ == words[0]], words[1:]
     chosen = [(module, *e) for module, entries in lists for e in entries.EDITS if not words or words[0] in e[0]]
+    if not chosen or len(words) > 1: sys.exit('edits: no misreading of that name')
+    copies = [tempfile.mkdtemp() for _ in range(2 if any(e[0] is box for e in chosen) else 1)]
     try:
-        for n in ('crates', 'target'): shutil.copytree(os.path.join(root, n), os.path.join(copy, n), symlinks=True)
-        shutil.copy(os.path.join(root, 'crates.txt'), copy)
-        outcomes = [tried(root, copy, again, *e) for e in chosen]
+        for copy in copies:
+            for n in ('crates', 'target'): shutil.copytree(os.path.join(root, n), os.path.join(copy, n), symlinks=True)
+            shutil.copy(os.path.join(root, 'crates.txt'), copy)
+        if copies[1:]:
+            bare.make_bare(copies[1])
+            if any(refused_without_code(root, copies[1])): sys.exit('edits: refused without an edit')
+        outcomes = [tried_box(root, *copies, *e[1:]) if e[0] is box else tried(root, copies[0], again, *e) for e in chosen]
     finally:
-        shutil.rmtree(copy)
+        for copy in copies: shutil.rmtree(copy)
     refused, fit, met = [sum(o[i] for o in outcomes) for i in range(3)]
-    print(f'{refused} of {len(chosen)} refused by a law that is false on the model, or by a law where the model has no such misreading')
+    print(f'{refused} of {len(chosen)} refused by a law or a row that is false on the model')
     print(f'{fit} leave every proof of the code as it was' + (f', {met} with proofs written anew' if again else '') + f'; {time.time() - began:.0f} s')
     sys.exit(refused < len(chosen))
 
