@@ -1,6 +1,6 @@
 #!/bin/sh
 # Builds the Rust host, tests it and holds its example to examples/panel.stdout; then checks and documents it without the library,
-# and builds the example in another workspace, outside the repository. Prints one line; exits with 1 at a failure.
+# and builds the example in another workspace, outside the repository, against an installed copy. Prints one line; exits with 1 at a failure.
 #
 #     hosts/rust/run.sh
 #
@@ -35,7 +35,8 @@ cp -r "$here" "$work/ws/oof"
 cp "$here/examples/panel.rs" "$work/ws/panel/src/main.rs"
 printf '[workspace]\nresolver = "2"\nmembers = ["panel"]\n' > "$work/ws/Cargo.toml"
 printf '[package]\nname = "panel"\nversion = "0.1.0"\nedition = "2021"\n\n[dependencies]\noof = { path = "../oof" }\n' > "$work/ws/panel/Cargo.toml"
+OOF_LIB=$OOF_LIB "$here/../c/install.sh" "$work/prefix" > "$log"
 cd "$work/ws"
-CARGO_TARGET_DIR=$work/target cargo run --offline --quiet 2> "$log" > "$work/out" || fail "it does not build in another workspace"
+OOF_LIB=$work/prefix/lib CARGO_TARGET_DIR=$work/target cargo run --offline --quiet 2> "$log" > "$work/out" || fail "it does not build in another workspace"
 diff "$here/examples/panel.stdout" "$work/out" > "$log" || fail "in another workspace the example prints something else"
 echo "hosts/rust: $tests tests passed, the example prints what it should, also in another workspace"

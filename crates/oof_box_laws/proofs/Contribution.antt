@@ -499,12 +499,12 @@ counted container style l =
       reachX = reaches style (style .overflow .x) (l .size .width) (lineX (l .overflow));
       reachY = reaches style (style .overflow .y) (l .size .height) (lineY (l .overflow));
       union = rectOf (placedAt (at .x) x) (placedAt (at .y) y);
-      across =
+      unionX =
           λ h. (
             λ e. rw e (is-forwards (exactly (h .offsetX)) (exactly (h .x)) (exactly (h .width)) (exactly (h .sizeX)) (x-reach container style l h .start) (x-reach container style l h .end)),
             λ e. rw e (is-backwards (exactly (h .offsetX)) (exactly (h .x)) (exactly (h .width)) (exactly (h .sizeX)) (x-reach container style l h .start) (x-reach container style l h .end)),
           );
-      down = λ h. is-forwards (exactly (h .offsetY)) (exactly (h .y)) (exactly (h .width)) (exactly (h .sizeY)) (y-reach container style l h .start) (y-reach container style l h .end);
+      unionY = λ h. is-forwards (exactly (h .offsetY)) (exactly (h .y)) (exactly (h .width)) (exactly (h .sizeY)) (y-reach container style l h .start) (y-reach container style l h .end);
       empty = empty-zeros at scrolls x y;
       unreachable = λ s. unreachable-zeros at scrolls x y (is-scroller (container .overflow) s);
       counts =

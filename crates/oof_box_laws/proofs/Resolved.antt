@@ -158,7 +158,7 @@ alignment-of-the-style container style candidate =
     record {
       along = λ e. rw (same-way (style .direction) (container .direction) e) (aligned-by (style .justify .keyword) false);
       against = λ f. rw (other-way (style .direction) (container .direction) f) (aligned-by (style .justify .keyword) true);
-      down = aligned-by (style .align .keyword) false;
+      vertical = aligned-by (style .align .keyword) false;
       justifySafety = refl;
       alignSafety = refl;
     }

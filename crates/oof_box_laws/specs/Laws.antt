@@ -1,8 +1,8 @@
 -- What CSS says of one box (css-position-3 #abspos-auto-size, css-sizing-3 #min-size-properties, css-tables-3 #abspos) and of what it adds to
--- the scrollable overflow (css-overflow-3 #scrollable), as laws of `placed`: they hold of the whole dialogue, whatever the host replies. (Two
--- are of a part: `ClampIsSettled` of a clamp, `ClippedOverflowIsNotCounted` of `contribution`.) What the style comes to first is said by
--- Resolved.antt; where a box stands in an axis by the laws of one axis (oof_axis/specs/Laws.antt, oof_axis_laws/specs/Laws.antt), to which
--- `StandsByItsAxes` leads. `proofs/` proves each, under its name in small letters. Assumes nothing.
+-- the scrollable overflow (css-overflow-3 #scrollable), as laws of `placed`: they hold of the whole dialogue, whatever the host replies.
+-- (Three are of a part: `ClampIsSettled` of a clamp, `SizeIsSettled` of ratio and clamp, `ClippedOverflowIsNotCounted` of `contribution`.)
+-- What the style comes to first is said by Resolved.antt; where a box stands in an axis by the laws of one axis (oof_axis/specs/Laws.antt,
+-- oof_axis_laws/specs/Laws.antt), to which `StandsByItsAxes` leads. `proofs/` proves each, under its name in small letters. Assumes nothing.
 use mathlib.Core.Path.{_≡_}
 use mathlib.Core.Logic.{_⊎_}
 use mathlib.Core.List.{[], _∷_}
@@ -448,10 +448,10 @@ ContributionHoldsNoMore =
 -- that one
 abbrev pub ClippedOverflowIsNotCounted : Type 0
 ClippedOverflowIsNotCounted =
-    (location : Point) (size : Size) (own own' : Rect) (overflow : OverflowPoint) (contain : Contain) (scrolls : Bool)
-    → (Scroller overflow ⊎ Contained contain → contribution location size own overflow contain scrolls ≡ contribution location size own' overflow contain scrolls)
-    × (overflow .x ≡ Clip → lineY own ≡ lineY own' → contribution location size own overflow contain scrolls ≡ contribution location size own' overflow contain scrolls)
-    × (overflow .y ≡ Clip → lineX own ≡ lineX own' → contribution location size own overflow contain scrolls ≡ contribution location size own' overflow contain scrolls)
+    (location : Point) (size : Size) (own own' : Rect) (overflow : OverflowPoint) (contain : Contain) (parentScrolls : Bool)
+    → (Scroller overflow ⊎ Contained contain → contribution location size own overflow contain parentScrolls ≡ contribution location size own' overflow contain parentScrolls)
+    × (overflow .x ≡ Clip → lineY own ≡ lineY own' → contribution location size own overflow contain parentScrolls ≡ contribution location size own' overflow contain parentScrolls)
+    × (overflow .y ≡ Clip → lineX own ≡ lineX own' → contribution location size own overflow contain parentScrolls ≡ contribution location size own' overflow contain parentScrolls)
 
 -- how far a box reaches along an axis, from its own start edge: over its border box, and over its own overflow where that shows
 pub record Reaches (style : Style) (along : Overflow) (size : Float) (own reach : Line) : Type 0 where
@@ -482,8 +482,8 @@ pub record Counted (container : ContainingBlock) (style : Style) (l : Layout) (r
   pub reachX : Reaches style (style .overflow .x) (l .size .width) (lineX (l .overflow)) x
   pub reachY : Reaches style (style .overflow .y) (l .size .height) (lineY (l .overflow)) y
   pub union : Rect
-  pub across : Fine container l → IsAcross container l (lineX union) x
-  pub down : Fine container l → IsForwards (lineY union) (container .area .offset .y) (l .location .y) y
+  pub unionX : Fine container l → IsAcross container l (lineX union) x
+  pub unionY : Fine container l → IsForwards (lineY union) (container .area .offset .y) (l .location .y) y
   pub empty : (le (x .end) 0f ≡ true) ⊎ (le (y .end) 0f ≡ true) → r ≡ zeroRect
   pub unreachable : Scroller (container .overflow) → (le (union .right) 0f ≡ true) ⊎ (le (union .bottom) 0f ≡ true) → r ≡ zeroRect
   pub counts :

@@ -150,7 +150,7 @@ pub record AlignedBy (k : AlignItemsKeyword) (ownStart ownEnd : OofAlignment) (a
 pub record AlignmentOf (container : ContainingBlock) (style : Style) (box : ResolvedBox) : Type 0 where
   pub along : style .direction ≡ container .direction → AlignedBy (style .justify .keyword) align.Start align.End (box .horizontal .alignment)
   pub against : (style .direction ≡ container .direction → ⊥) → AlignedBy (style .justify .keyword) align.End align.Start (box .horizontal .alignment)
-  pub down : AlignedBy (style .align .keyword) align.Start align.End (box .vertical .alignment)
+  pub vertical : AlignedBy (style .align .keyword) align.Start align.End (box .vertical .alignment)
   pub justifySafety : box .horizontal .safety ≡ style .justify .safety
   pub alignSafety : box .vertical .safety ≡ style .align .safety
 
@@ -165,8 +165,8 @@ paddingBorderOf box = sums (rectSum (box .padding) (box .border))
 
 -- what a length of a box sizing leaves out: padding plus border where it is of the content box
 abbrev pub leftOut : BoxSizing → Size → Size
-leftOut BorderBox edges = zeroSize
-leftOut ContentBox edges = edges
+leftOut BorderBox paddingBorder = zeroSize
+leftOut ContentBox paddingBorder = paddingBorder
 
 abbrev pub toBorderBox : Style → ResolvedBox → Size
 toBorderBox style box = leftOut (style .sizing) (paddingBorderOf box)

@@ -130,9 +130,9 @@ boxRows =
 -- ---- rows 12 and 13: what a box adds to the overflow. x counts from the container's start edge.
 
 unfoldable pub adds : ContainingBlock → Style → ℕ → ℕ → Float → Float → Float → Bool
-adds container style right bottom start end down =
+adds container style right bottom start end low =
     let r = outcome right bottom (placed container style candidate) .outcome .contribution in
-    eq (r .left) start && eq (r .right) end && eq (r .top) 0f && eq (r .bottom) down
+    eq (r .left) start && eq (r .right) end && eq (r .top) 0f && eq (r .bottom) low
 
 -- no width, or no height
 unfoldable pub thinBox : Style
