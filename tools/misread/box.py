@@ -259,6 +259,15 @@ def stands_by_its_axes(D, b):
     p = D.placed(b)
     q = [D.axis.placement(D.axis_of(b, y), p.size[y]) for y in (0, 1)]
     return all(p.at[y] == q[y][0] + b.offset[y] and p.margin[y] == q[y][1] for y in (0, 1))
+def stretched_box_fills_its_block(D, b):
+    def free(y):
+        fit, low, high = Axis().stretch_fit(D.axis_of(b, y)), D.min(b)[y], D.max(b)[y]
+        return stretches(D, b, y) and fit > 0 and not fit < low and (high is None or not high < fit)
+    def is_the_block(y):
+        at, l = p.at[y] - b.offset[y], Axis().block(D.axis_of(b, y))
+        return at == l[0] + p.margin[y][0] and at + p.size[y] + p.margin[y][1] == l[1]
+    says, p = [y for y in auto(D, b, False) if free(y)], D.placed(b)
+    return all(is_the_block(y) for y in says) if says else None
 def offset_moves_alone(D, b):
     d = (13, -7)
     c = b.but(offset=tuple(b.offset[y] + d[y] for y in (0, 1)), static=tuple(tuple(x + d[y] for x in b.static[y]) for y in (0, 1)))
@@ -300,7 +309,7 @@ LAWS = named((sizes_of_its_box, min_holds, max_holds, given_size_stays, stretch_
     percentages_of_the_width, insets_of_their_axis, stands_by_its_axes, offset_moves_alone, scrolling_contribution_is_reachable,
     contribution_holds_the_box, contribution_holds_its_overflow, contribution_counts, contribution_holds_no_more, clipped_overflow_is_not_counted,
     size_law, axes_of_the_block, auto_sides_are_none, alignment_of_the_style, auto_is_no_size, ratio_completes, space_is_the_block, given_size_is_told,
-    stretched_size_is_told, layout_is_the_reply, gutters_and_edges, contribution_is_the_union))
+    stretched_size_is_told, layout_is_the_reply, gutters_and_edges, contribution_is_the_union, stretched_box_fills_its_block))
 
 # ---- document 01's rows
 

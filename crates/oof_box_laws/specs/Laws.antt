@@ -33,7 +33,7 @@ use Rattle.style.specs.declared.available_space.AvailableSpace.the-variants.{De
 use Rattle.tree.specs.declared.layout.AxisStaticPosition.{AxisStaticPosition}
 use Rattle.tree.specs.declared.layout.Layout.{Layout}
 use Rattle.tree.specs.declared.layout.OofCandidate.{OofCandidate}
-use Rattle.oof_axis.specs.Axis.{stretchFit, stretches, placement}
+use Rattle.oof_axis.specs.Axis.{block, stretchFit, stretches, placement}
 use Rattle.oof_axis.specs.declared.OofAxis.{OofAxis}
 use Rattle.oof_resolve.specs.Resolved.{resolvedBox}
 use Rattle.oof_resolve.specs.declared.ContainingBlock.{ContainingBlock}
@@ -45,6 +45,8 @@ use Rattle.oof_box.specs.declared.question.LayoutInput.{LayoutInput}
 use Rattle.oof_box.specs.declared.question.MeasureInput.{MeasureInput}
 use Rattle.oof_box.specs.declared.question.Question.{Question}
 use Rattle.oof_box.specs.declared.question.Question.the-variants.{MeasureBoth, MeasureWidth, MeasureHeight, LayOut}
+use Rattle.util_exact.specs.Value.{Quarter}
+use Rattle.mirror_axis.specs.Law.{Bounded}
 use Rattle.oof_axis_laws.specs.Laws.{_=Σ_, _≤Σ_}
 use Rattle.oof_box_laws.specs.Resolved.{IsAutoSize}
 
@@ -104,8 +106,8 @@ pub record Plain (style : Style) : Type 0 where
 abbrev pub stretchable : Style → Bool
 stretchable style = not (style .replaced) && not (style .table)
 
--- stretch fills: an auto size that stretches is the stretch-fit size, clamped, whatever is measured. By `StretchedBoxIsTheBlock` of oof_axis_laws
--- the margin box is then the block, where min and max leave it.
+-- stretch fills: an auto size that stretches is the stretch-fit size, clamped, whatever is measured. Where the box then stands is said by
+-- `StretchedBoxFillsItsBlock`.
 abbrev pub StretchFills : Type 0
 StretchFills =
     (container : ContainingBlock) (style : Style) (candidate : OofCandidate)
@@ -252,6 +254,41 @@ StandsByItsAxes =
     × (l .location .y ≡ placement (box .vertical) (l .size .height) .position ⊕ container .area .offset .y)
     × (l .margin ≡ rectOf (placement (box .horizontal) (l .size .width) .margin) (placement (box .vertical) (l .size .height) .margin)))
     (placed container style candidate)
+
+-- an auto size stretches (between two insets, by its alignment: `StretchesBetweenInsets`), to a stretch-fit size above 0 that neither min nor max
+-- changes. An auto min is padding plus border, an auto max is none (`AutoIsNoSize`).
+pub record StretchesFreely (a : OofAxis) (plain : Bool) (min max : MaybeF32) : Type 0 where
+  pub stretching : stretches a plain ≡ true
+  pub room : lt 0f (stretchFit a) ≡ true
+  pub atLeastMin : (low : Float) → min ≡ Some low → lt (stretchFit a) low ≡ false
+  pub atMostMax : (high : Float) → max ≡ Some high → lt high (stretchFit a) ≡ false
+
+-- whole quarter pixels: of size 4,096 at most the area's extent and offset, insets and margins, of twice that the static area, counted from the
+-- area's edge
+pub record InQuarters (a : OofAxis) (offset : Float) : Type 0 where
+  pub lengths : Bounded 16384 32768 a
+  pub areaOffset : Quarter offset
+
+-- the margin box, of a border box that begins at `at`, is the line l, which counts from the area's edge: it begins and ends where l does
+abbrev pub MarginBoxIs : Line → Float → Float → Float → Line → Type 0
+MarginBoxIs l offset at size margin = (at ∷ [] =Σ offset ∷ l .start ∷ margin .start ∷ []) × (at ∷ size ∷ margin .end ∷ [] =Σ offset ∷ l .end ∷ [])
+
+-- a stretched box fills its block: its margin box is the block, with no rounding, whatever is replied, whatever direction, safety and scrolling,
+-- and whether margins are given or auto
+abbrev pub StretchedBoxFillsItsBlock : Type 0
+StretchedBoxFillsItsBlock =
+    (container : ContainingBlock) (style : Style) (candidate : OofCandidate)
+    → let box = resolvedBox container style candidate in
+    let offset = container .area .offset in
+    Plain style → style .table ≡ false
+    → (IsAutoSize (style .size .width) → StretchesFreely (box .horizontal) (stretchable style) (box .min .width) (box .max .width) → InQuarters (box .horizontal) (offset .x)
+    → Always
+    (λ (p : Placed). let l = p .outcome .layout in MarginBoxIs (block (box .horizontal)) (offset .x) (l .location .x) (l .size .width) (lineX (l .margin)))
+    (placed container style candidate))
+    × (IsAutoSize (style .size .height) → StretchesFreely (box .vertical) (stretchable style) (box .min .height) (box .max .height) → InQuarters (box .vertical) (offset .y)
+    → Always
+    (λ (p : Placed). let l = p .outcome .layout in MarginBoxIs (block (box .vertical)) (offset .y) (l .location .y) (l .size .height) (lineY (l .margin)))
+    (placed container style candidate))
 
 -- the gutter of a scrollbar: overflow scroll has one, as wide as the bar; no other value has (css-overflow-3 #scrollbar-layout)
 pub record GutterOf (overflow : Overflow) (bar gutter : Float) : Type 0 where
