@@ -45,8 +45,7 @@ use Rattle.oof_box.specs.declared.question.LayoutInput.{LayoutInput}
 use Rattle.oof_box.specs.declared.question.MeasureInput.{MeasureInput}
 use Rattle.oof_box.specs.declared.question.Question.{Question}
 use Rattle.oof_box.specs.declared.question.Question.the-variants.{MeasureBoth, MeasureWidth, MeasureHeight, LayOut}
-use Rattle.util_exact.specs.Value.{Quarter}
-use Rattle.mirror_axis.specs.Law.{Bounded}
+use Rattle.util_exact.specs.Value.{Quarter, MaybeQuarters}
 use Rattle.oof_axis_laws.specs.Laws.{_=Σ_, _≤Σ_}
 use Rattle.oof_box_laws.specs.Resolved.{IsAutoSize}
 
@@ -263,18 +262,21 @@ pub record StretchesFreely (a : OofAxis) (plain : Bool) (min max : MaybeF32) : T
   pub atLeastMin : (low : Float) → min ≡ Some low → lt (stretchFit a) low ≡ false
   pub atMostMax : (high : Float) → max ≡ Some high → lt high (stretchFit a) ≡ false
 
--- whole quarter pixels: of size 4,096 at most the area's extent and offset, insets and margins, of twice that the static area, counted from the
--- area's edge
+-- whole quarter pixels of size 4,096 at most: the area's extent and offset, insets and margins
 pub record InQuarters (a : OofAxis) (offset : Float) : Type 0 where
-  pub lengths : Bounded 16384 32768 a
+  pub area : Quarter (a .size)
   pub areaOffset : Quarter offset
+  pub insetStart : MaybeQuarters 16384 (a .inset .start)
+  pub insetEnd : MaybeQuarters 16384 (a .inset .end)
+  pub marginStart : MaybeQuarters 16384 (a .margin .start)
+  pub marginEnd : MaybeQuarters 16384 (a .margin .end)
 
 -- the margin box, of a border box that begins at `at`, is the line l, which counts from the area's edge: it begins and ends where l does
 abbrev pub MarginBoxIs : Line → Float → Float → Float → Line → Type 0
 MarginBoxIs l offset at size margin = (at ∷ [] =Σ offset ∷ l .start ∷ margin .start ∷ []) × (at ∷ size ∷ margin .end ∷ [] =Σ offset ∷ l .end ∷ [])
 
--- a stretched box fills its block: its margin box is the block, with no rounding, whatever is replied, whatever direction, safety and scrolling,
--- and whether margins are given or auto
+-- a stretched box fills its block: its margin box is the block, with no rounding, whatever is replied, whatever direction, safety, scrolling
+-- and static position, and whether margins are given or auto
 abbrev pub StretchedBoxFillsItsBlock : Type 0
 StretchedBoxFillsItsBlock =
     (container : ContainingBlock) (style : Style) (candidate : OofCandidate)
