@@ -6,7 +6,7 @@ use mathlib.Core.Bool.{Bool, true, false, not, _&&_}
 use mathlib.Core.List.{List}
 use lib.Dec.{eqb, leb}
 use lib.ListN.{length}
-use lib.Ieee.{Float, nan, inf, fin, up, down}
+use lib.Ieee.{Float, nan, inf, fin, up, down, ofBits, binary32}
 use borrow.Author.Tests.{eqb-true, eqb-false, leb-true, not-true}
 use Rattle.util.proofs.Floats.{no}
 use Rattle.records.specs.Records.{every, recordAt}
@@ -15,7 +15,7 @@ use Rattle.tree.specs.declared.layout.OofCandidate.{OofCandidate}
 use Rattle.tree_record.specs.Candidate.{candidateWidth, candidateOf}
 use Rattle.style.specs.declared.compact_length.CompactLength.{CompactLength}
 use Rattle.style_record.specs.Record.{lengthWords, lengths, afterLengths, item, items}
-use Rattle.style_record.specs.Decode.{floatAt, lengthAt}
+use Rattle.style_record.specs.Decode.{lengthAt}
 use Rattle.util_exact.specs.Value.{Quarter}
 use Rattle.mirror_box.specs.Quarter.{TagRule, wholeQuarters, leftOut, free, ruleOf, Keeps}
 use Rattle.mirror_run.specs.Quarter.{QuarterItem, QuarterTable, QuarterPlace, QuarterCandidates}
@@ -62,15 +62,15 @@ abbrev pub isLength : CompactLength → Bool
 isLength l = isKept (ruleOf (l .tag)) (l .value)
 
 abbrev pub isItem : (ℕ → ℕ) → Bool
-isItem word = every lengths (λ l. isLength (lengthAt word (lengthWords * l))) && isQuarter (floatAt word (afterLengths + 11)) && not (eqb (word afterLengths) 1)
+isItem word = every lengths (λ l. isLength (lengthAt word (lengthWords * l))) && isQuarter (ofBits binary32 (word (afterLengths + 11))) && not (eqb (word afterLengths) 1)
 
 item-decided : (word : ℕ → ℕ) → isItem word ≡ true → QuarterItem word
 item-decided word e =
-    let b = both-true (every lengths (λ l. isLength (lengthAt word (lengthWords * l))) && isQuarter (floatAt word (afterLengths + 11))) (not (eqb (word afterLengths) 1)) e in
-    let c = both-true (every lengths (λ l. isLength (lengthAt word (lengthWords * l)))) (isQuarter (floatAt word (afterLengths + 11))) (b .0) in
+    let b = both-true (every lengths (λ l. isLength (lengthAt word (lengthWords * l))) && isQuarter (ofBits binary32 (word (afterLengths + 11)))) (not (eqb (word afterLengths) 1)) e in
+    let c = both-true (every lengths (λ l. isLength (lengthAt word (lengthWords * l)))) (isQuarter (ofBits binary32 (word (afterLengths + 11)))) (b .0) in
     record {
       each = λ l h. kept-decided (ruleOf (lengthAt word (lengthWords * l) .tag)) (lengthAt word (lengthWords * l) .value) (every-is lengths (λ l. isLength (lengthAt word (lengthWords * l))) .0 (c .0) l h);
-      scrollbar = quarter-decided (floatAt word (afterLengths + 11)) (c .1);
+      scrollbar = quarter-decided (ofBits binary32 (word (afterLengths + 11))) (c .1);
       ratio = eqb-false (word afterLengths) 1 (not-true (eqb (word afterLengths) 1) (b .1));
     }
 

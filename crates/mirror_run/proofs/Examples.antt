@@ -11,7 +11,7 @@ use Rattle.style.specs.declared.available_space.AvailableSpace.{AvailableSpace}
 use Rattle.records.specs.Records.{every, recordAt, records}
 use Rattle.tree.specs.declared.layout.OofPositioningArea.{OofPositioningArea}
 use Rattle.style_record.specs.Record.{items}
-use Rattle.style_record.specs.Decode.{lengthAt, floatAt}
+use Rattle.style_record.specs.Decode.{lengthAt}
 use Rattle.tree_record.specs.Candidate.{candidateOf, axisOf}
 use Rattle.sweep.specs.Sweep.{firstCandidates, candidatesIn, claimed, keep}
 use Rattle.oof_box.specs.declared.question.Reply.{Reply}
@@ -82,7 +82,7 @@ quarter-panel =
 
 -- so it is mirrored, at the end and on the way; one unclaimed record is the opening's
 met : (MirroredRuns (panel .area) 1 (after replies) (imageAfter replies)) × MirroredRuns (panel .area) 1 (after (wrongKind ∷ surfacesFixed ∷ [])) (imageAfter (wrongKind ∷ surfacesFixed ∷ []))
-unfolding ofBits every items lengthAt floatAt recordAt candidateOf axisOf listed eachRecord
+unfolding ofBits every items lengthAt recordAt candidateOf axisOf listed eachRecord
 met = (at-end, on-the-way)
   where
     quarter-table : QuarterTable table
@@ -126,7 +126,7 @@ fails : {o : Opening} {styles candidates : List ℕ} {messages : List Message} {
 fails d n h = no (same-told (h .answer)) (d .differ)
 
 quarter-still : QuarterTable still
-unfolding ofBits every items lengthAt floatAt
+unfolding ofBits every items lengthAt
 quarter-still = table-decided still refl
 
 quarter-at-start : QuarterCandidates atStart
@@ -184,7 +184,7 @@ quarter-candidates-needed = ((quarter-wide, quarter-still), fails (computed .pla
 
 -- replies of whole quarter pixels: both are given 0.1, with their own slices
 quarter-replies-needed : (QuarterArea (small .area) × QuarterTable content × QuarterCandidates atStart) × Fails small content atStart tenth
-unfolding ofBits every items lengthAt floatAt
+unfolding ofBits every items lengthAt
 quarter-replies-needed = ((quarter-small, table-decided content refl, quarter-at-start), fails (computed .reply))
 
 -- no surfaced box that is claimed: the run offers it 0.25 and its image 0
@@ -196,7 +196,7 @@ no-surfaced-needed = ((quarter-small, quarter-still, quarter-at-start), fails (c
 image-styles-needed :
     (QuarterArea (wide .area) × QuarterTable ahead × QuarterCandidates atStart)
     × ((n : ℕ) → MirroredRuns (wide .area) n (ran wide ahead atStart (laidOut ∷ [])) (unflipped wide ahead atStart (laidOut ∷ [])) → ⊥)
-unfolding ofBits every items lengthAt floatAt
+unfolding ofBits every items lengthAt
 image-styles-needed = ((quarter-wide, table-decided ahead refl, quarter-at-start), λ n h. no (same-told (h .answer)) (computed .leftDiffers))
 
 -- the same answers have the same number

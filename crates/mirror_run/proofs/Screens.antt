@@ -322,7 +322,7 @@ pub record Computed : Type 0 where
   pub imageAtHand : placeWords (imageAfter []) 0 ≡ 7 ∷ 7 ∷ []
 
 pub computed : Computed
-unfolding add sub mul div neg lt le eq isNan sum round units odd size span climb ofBits toBits ofFields nanBits util-order.zeroOf util-order.before util-order.larger util-order.smaller util-order.magnitude util-maybe.present util-maybe.orElse util-maybe.unwrapOr util-maybe.map util-maybe.mapAdd util-maybe.mapLarger util-maybe.atMost util-maybe.atLeast util-maybe.clamped util-maybe.mapClamped geometry-geometry.rectOrZero geometry-geometry.sumX geometry-geometry.sumY geometry-geometry.sums geometry-geometry.rectSum geometry-geometry.unionOf geometry-geometry.smallerSize geometry-geometry.definite geometry-geometry.bothPresent geometry-geometry.firstSize geometry-geometry.filledSize geometry-geometry.addedSize geometry-geometry.raisedSize geometry-geometry.clampedSize geometry-geometry.clampedFloats geometry-geometry.completed geometry-geometry.withRatio style-resolve.byTag style-resolve.resolved style-resolve.takes style-resolve.maybeResolved style-resolve.resolvedRect style-resolve.resolvedSize style-values.selfRelative style-values.clampedSpace style-values.clampedSpaces style-values.definiteSpaces style-codes.sizingCode style-codes.overflowCode style-codes.directionCode style-codes.safetyCode style-codes.keywordCode style-codes.bitsCode style-codes.sizingOf style-codes.overflowOf style-codes.directionOf style-codes.safetyOf style-codes.keywordOf style-codes.alignmentOf style-codes.containOf style-record-record.lengthField style-record-record.lengthKinds style-record-record.codeKinds style-record-record.kindOf style-record-record.items style-record-check.safetyBreaks style-record-check.breaksAs style-record-check.breaksRule style-record-check.breaks style-record-check.firstFrom style-record-check.firstBroken style-record-check.orRest style-record-check.checkedFrom style-record-check.checked style-record-decode.floatAt style-record-decode.lengthAt style-record-decode.rectAt style-record-decode.sizeAt style-record-decode.alignAt style-record-decode.ratioAt style-record-decode.overflowAt style-record-decode.styleOf style-record-decode.styleAt records-records.recordAt records-records.records records-records.room records-records.written records-records.wrong records-records.every records-records.breaks records-records.good records-records.goodRecords tree-static.shiftedAxis tree-static.translated tree-record-codes.positionCode tree-record-codes.positionOf tree-record-codes.edgeCode tree-record-codes.edgeOf tree-record-candidate.axisOf tree-record-candidate.candidateOf tree-record-candidate.candidateWords tree-record-layout.rectOf tree-record-layout.layoutOf tree-record-layout.layoutWords sweep-sweep.firstCandidates sweep-sweep.candidatesIn sweep-sweep.moved sweep-sweep.side sweep-sweep.keep sweep-sweep.listWords oof-axis-axis.fromResolved oof-axis-axis.alignIn oof-axis-axis.centeredBlock oof-axis-axis.staticBlock oof-axis-axis.insetBlock oof-axis-axis.startIsWeaker oof-axis-axis.repaired oof-axis-axis.block oof-axis-axis.bothInsets oof-axis-axis.stretchFit oof-axis-axis.stretching oof-axis-axis.stretches oof-axis-axis.isStretch oof-axis-axis.halves oof-axis-axis.filledMargins oof-axis-axis.margins oof-axis-axis.isNormal oof-axis-axis.alignEdge oof-axis-axis.limit oof-axis-axis.keptWithin oof-axis-axis.selfAligned oof-axis-axis.staticAligned oof-axis-axis.positionIn oof-axis-axis.position oof-axis-axis.placement common-sizingkeyword.byKeyword common-sizingkeyword.ofResolved common-sizingkeyword.keywordOf common-sizingkeyword.absoluteStretch common-sizingkeyword.ifAbsent common-sizingkeyword.keywordsOf common-scrollableoverflow.propagates common-scrollableoverflow.reach common-scrollableoverflow.placedAt common-scrollableoverflow.contribution oof-resolve-resolved.ofWidth oof-resolve-resolved.ofEachAxis oof-resolve-resolved.lessOffset oof-resolve-resolved.horizontal oof-resolve-resolved.vertical oof-resolve-resolved.paddingOrBorder oof-resolve-resolved.styleSize oof-resolve-resolved.minSize oof-resolve-resolved.lessMargins oof-resolve-resolved.spaceFor oof-resolve-resolved.resolvedBox oof-place-placing.scrollbarOf oof-place-placing.layoutOf oof-place-placing.fromOrigin oof-place-placing.boxLayout oof-box-box.keywordStretch oof-box-box.sizeKeywords oof-box-box.settled oof-box-box.ignoresRatio oof-box-box.stretchRatio oof-box-box.widened oof-box-box.heightened oof-box-box.raisedMin oof-box-box.stretched oof-box-box.finalSize oof-box-cut.taken oof-box-cut.knownBy oof-box-cut.stretchedBy oof-box-cut.sizeBy oof-box-cut.keywordAsked oof-box-cut.sizeAsked oof-box-cut.askedOf oof-box-cut.askedAfter oof-box-cut.layoutAfter run-refusals._when_else_ run-refusals.badArea run-refusals.badTable run-refusals.badList run-refusals.badSlices run-refusals.otherLengths run-refusals.badStyle run-refusals.badCandidate run-refusals.listFull run-refusals.wrongCounts run-run.boxAtHand run-run.asking run-run.finishing run-run.proceeding run-run.openingVerdict run-run.closed run-run.begun run-run.opened run-run.takenBy run-run.replyVerdict run-run.measuredOn run-run.laidOut run-run.replied mirror-box-image.edgeSum otherDirection otherEdge counterpart imageStyle reflectedWord imageCandidate listed eachRecord theorems.next
+unfolding add sub mul div neg lt le eq isNan sum round units odd size span climb ofBits toBits ofFields nanBits util-order.zeroOf util-order.before util-order.larger util-order.smaller util-order.magnitude util-maybe.present util-maybe.orElse util-maybe.unwrapOr util-maybe.map util-maybe.mapAdd util-maybe.mapLarger util-maybe.atMost util-maybe.atLeast util-maybe.clamped util-maybe.mapClamped geometry-geometry.rectOrZero geometry-geometry.sumX geometry-geometry.sumY geometry-geometry.sums geometry-geometry.rectSum geometry-geometry.unionOf geometry-geometry.smallerSize geometry-geometry.definite geometry-geometry.bothPresent geometry-geometry.firstSize geometry-geometry.filledSize geometry-geometry.addedSize geometry-geometry.raisedSize geometry-geometry.clampedSize geometry-geometry.clampedFloats geometry-geometry.completed geometry-geometry.withRatio style-resolve.byTag style-resolve.resolved style-resolve.takes style-resolve.maybeResolved style-resolve.resolvedRect style-resolve.resolvedSize style-values.selfRelative style-values.clampedSpace style-values.clampedSpaces style-values.definiteSpaces style-codes.sizingCode style-codes.overflowCode style-codes.directionCode style-codes.safetyCode style-codes.keywordCode style-codes.bitsCode style-codes.sizingOf style-codes.overflowOf style-codes.directionOf style-codes.safetyOf style-codes.keywordOf style-codes.alignmentOf style-codes.containOf style-record-record.lengthField style-record-record.lengthKinds style-record-record.codeKinds style-record-record.kindOf style-record-record.items style-record-check.safetyBreaks style-record-check.breaksAs style-record-check.breaksRule style-record-check.breaks style-record-check.firstFrom style-record-check.firstBroken style-record-check.orRest style-record-check.checkedFrom style-record-check.checked style-record-decode.lengthAt style-record-decode.rectAt style-record-decode.sizeAt style-record-decode.alignAt style-record-decode.ratioAt style-record-decode.overflowAt style-record-decode.styleOf style-record-decode.styleAt records-records.recordAt records-records.records records-records.room records-records.written records-records.wrong records-records.every records-records.breaks records-records.good records-records.goodRecords tree-static.shiftedAxis tree-static.translated tree-record-codes.positionCode tree-record-codes.positionOf tree-record-codes.edgeCode tree-record-codes.edgeOf tree-record-candidate.axisOf tree-record-candidate.candidateOf tree-record-candidate.candidateWords tree-record-layout.rectOf tree-record-layout.layoutOf tree-record-layout.layoutWords sweep-sweep.firstCandidates sweep-sweep.candidatesIn sweep-sweep.moved sweep-sweep.side sweep-sweep.keep sweep-sweep.listWords oof-axis-axis.fromResolved oof-axis-axis.alignIn oof-axis-axis.centeredBlock oof-axis-axis.staticBlock oof-axis-axis.insetBlock oof-axis-axis.startIsWeaker oof-axis-axis.repaired oof-axis-axis.block oof-axis-axis.bothInsets oof-axis-axis.stretchFit oof-axis-axis.stretching oof-axis-axis.stretches oof-axis-axis.isStretch oof-axis-axis.halves oof-axis-axis.filledMargins oof-axis-axis.margins oof-axis-axis.isNormal oof-axis-axis.alignEdge oof-axis-axis.limit oof-axis-axis.keptWithin oof-axis-axis.selfAligned oof-axis-axis.staticAligned oof-axis-axis.positionIn oof-axis-axis.position oof-axis-axis.placement common-sizingkeyword.byKeyword common-sizingkeyword.ofResolved common-sizingkeyword.keywordOf common-sizingkeyword.absoluteStretch common-sizingkeyword.ifAbsent common-sizingkeyword.keywordsOf common-scrollableoverflow.propagates common-scrollableoverflow.reach common-scrollableoverflow.placedAt common-scrollableoverflow.contribution oof-resolve-resolved.ofWidth oof-resolve-resolved.ofEachAxis oof-resolve-resolved.lessOffset oof-resolve-resolved.horizontal oof-resolve-resolved.vertical oof-resolve-resolved.paddingOrBorder oof-resolve-resolved.styleSize oof-resolve-resolved.minSize oof-resolve-resolved.lessMargins oof-resolve-resolved.spaceFor oof-resolve-resolved.resolvedBox oof-place-placing.scrollbarOf oof-place-placing.layoutOf oof-place-placing.fromOrigin oof-place-placing.boxLayout oof-box-box.keywordStretch oof-box-box.sizeKeywords oof-box-box.settled oof-box-box.ignoresRatio oof-box-box.stretchRatio oof-box-box.widened oof-box-box.heightened oof-box-box.raisedMin oof-box-box.stretched oof-box-box.finalSize oof-box-cut.taken oof-box-cut.knownBy oof-box-cut.stretchedBy oof-box-cut.sizeBy oof-box-cut.keywordAsked oof-box-cut.sizeAsked oof-box-cut.askedOf oof-box-cut.askedAfter oof-box-cut.layoutAfter run-refusals._when_else_ run-refusals.badArea run-refusals.badTable run-refusals.badList run-refusals.badSlices run-refusals.otherLengths run-refusals.badStyle run-refusals.badCandidate run-refusals.listFull run-refusals.wrongCounts run-run.boxAtHand run-run.asking run-run.finishing run-run.proceeding run-run.openingVerdict run-run.closed run-run.begun run-run.opened run-run.takenBy run-run.replyVerdict run-run.measuredOn run-run.laidOut run-run.replied mirror-box-image.edgeSum otherDirection otherEdge counterpart imageStyle reflectedWord imageCandidate listed eachRecord theorems.next
 computed =
     record {
       kind = refl;

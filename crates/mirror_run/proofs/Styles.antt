@@ -11,7 +11,7 @@ use Rattle.style.specs.Codes.{directionOf}
 use Rattle.util.specs.declared.math.MaybeF32.the-variants.{None}
 use Rattle.style_record.specs.Record.{afterLengths, codeKinds, kindOf, styleWords, item, items}
 use Rattle.style_record.specs.Check.{breaksAs, breaksRule, breaks, checked}
-use Rattle.style_record.specs.Decode.{floatAt, lengthAt, rectAt, sizeAt, alignAt, ratioAt, overflowAt, styleOf, styleAt}
+use Rattle.style_record.specs.Decode.{lengthAt, rectAt, sizeAt, alignAt, ratioAt, overflowAt, styleOf, styleAt}
 use Rattle.style_record.specs.Laws.{NoneBreaks, First}
 use Rattle.style_record.specs.declared.check.TableCheck.{TableCheck}
 use Rattle.style_record.proofs.First.{TableIs, good, bad, table-is}
@@ -25,7 +25,7 @@ use Rattle.mirror_run.proofs.Counterpart.{counterpart-there, counterpar
 
 module _ (r r' : ℕ → ℕ) (same : (k : ℕ) → k < styleWords → r k ≡ r' k) where
   same-length : (k : ℕ) → k + 1 < styleWords → lengthAt r k ≡ lengthAt r' k
-  unfolding lengthAt floatAt
+  unfolding lengthAt
   same-length k h = rw (same k (omega arith), same (k + 1) h) refl
 
   same-rect : (k : ℕ) → k + 7 < styleWords → rectAt r k ≡ rectAt r' k
@@ -38,7 +38,7 @@ module _ (r r' : ℕ → ℕ) (same : (k : ℕ) → k < styleWords → r k ≡ r
   same-size k h = rw (same-length k (omega arith), same-length (k + 2) (omega arith)) refl
 
   same-style : styleOf r ≡ styleOf r'
-  unfolding styleOf ratioAt alignAt overflowAt floatAt
+  unfolding styleOf ratioAt alignAt overflowAt
   same-style =
       rw (
         same-rect 0 (lit< tt),
@@ -77,7 +77,7 @@ direction-decoded (suc zero) h = refl
 direction-decoded (suc (suc d)) h = absurd (omega arith)
 
 image-decoded : (r : ℕ → ℕ) → r 48 < 2 → styleOf (imageStyle r) ≡ box.imageStyle (styleOf r)
-unfolding styleOf rectAt sizeAt lengthAt floatAt ratioAt alignAt overflowAt imageStyle counterpart box.imageStyle box.exchangedLengths
+unfolding styleOf rectAt sizeAt lengthAt ratioAt alignAt overflowAt imageStyle counterpart box.imageStyle box.exchangedLengths
 image-decoded r h = rw (direction-decoded (r 48) h) refl
 
 -- ---- a table

@@ -4,6 +4,7 @@ use Prim.Native.Nat.{ℕ, _+_, _*_, _/_, _<_}
 use mathlib.Core.Path.{_≡_}
 use mathlib.Core.List.{List}
 use lib.ListN.{length}
+use lib.Ieee.{ofBits, binary32}
 use Rattle.util.specs.Number.{0f}
 use Rattle.geometry.specs.declared.Line.{Line}
 use Rattle.tree.specs.declared.layout.OofPositioningArea.{OofPositioningArea}
@@ -11,7 +12,7 @@ use Rattle.tree.specs.declared.layout.OofCandidate.{OofCandidate}
 use Rattle.records.specs.Records.{recordAt}
 use Rattle.tree_record.specs.Candidate.{candidateWidth, candidateOf}
 use Rattle.style_record.specs.Record.{lengthWords, lengths, afterLengths, item, items}
-use Rattle.style_record.specs.Decode.{floatAt, lengthAt}
+use Rattle.style_record.specs.Decode.{lengthAt}
 use Rattle.oof_box.specs.declared.question.Reply.{Reply}
 use Rattle.oof_box.specs.declared.question.Reply.the-variants.{Both, Width, Height, LaidOut}
 use Rattle.util_exact.specs.Value.{_≐_, Quarter}
@@ -27,7 +28,7 @@ pub record QuarterArea (area : OofPositioningArea) : Type 0 where
 -- a style: each of its lengths by its tag, the scrollbar width; no ratio is present
 pub record QuarterItem (word : ℕ → ℕ) : Type 0 where
   pub each : (l : ℕ) → l < lengths → QuarterLength (lengthAt word (lengthWords * l))
-  pub scrollbar : Quarter (floatAt word (afterLengths + 11))
+  pub scrollbar : Quarter (ofBits binary32 (word (afterLengths + 11)))
   pub ratio : word afterLengths ≡ 1 → ⊥
 
 abbrev pub QuarterTable : List ℕ → Type 0

@@ -98,15 +98,23 @@ inTurn node wide tall known stretch = do
   height ← heightAs node tall (width by known .height) stretch
   done (width by height)
 
--- two measured sides are one question; any others come in turn
-unfoldable pub byKeywords : ℕ → SizingKeywordResolution → SizingKeywordResolution → MaybeSize → Size → Talk MaybeSize
-byKeywords node (Measure spaceX) (Measure spaceY) known stretch = do
+-- what the space of a measured side gives, or else `other`
+abbrev pub ifMeasured : SizingKeywordResolution → (AvailableSpace → Talk MaybeSize) → Talk MaybeSize → Talk MaybeSize
+ifMeasured NoKeyword given other = other
+ifMeasured (Exact x) given other = other
+ifMeasured (Measure space) given other = given space
+
+-- both sides by one question
+abbrev pub atOnce : ℕ → AvailableSpace → AvailableSpace → Talk MaybeSize
+atOnce node spaceX spaceY = do
   size ← measureBoth (bothInput node spaceX spaceY)
   done (definite size)
-byKeywords node (Measure spaceX) NoKeyword known stretch = inTurn node (Measure spaceX) NoKeyword known stretch
-byKeywords node (Measure spaceX) (Exact h) known stretch = inTurn node (Measure spaceX) (Exact h) known stretch
-byKeywords node NoKeyword tall known stretch = inTurn node NoKeyword tall known stretch
-byKeywords node (Exact w) tall known stretch = inTurn node (Exact w) tall known stretch
+
+-- two measured sides are one question; any others come in turn
+unfoldable pub byKeywords : ℕ → SizingKeywordResolution → SizingKeywordResolution → MaybeSize → Size → Talk MaybeSize
+byKeywords node wide tall known stretch =
+    let others = inTurn node wide tall known stretch in
+    ifMeasured wide (λ spaceX. ifMeasured tall (atOnce node spaceX) others) others
 
 -- an absent side with a keyword is filled; ratio and clamp follow. (The Rust applies both once more where only a known side has a
 -- keyword: they change nothing there, by the law `SizeIsSettled` of oof_box_laws.)

@@ -14,10 +14,10 @@ use Rattle.screen.specs.Format.{isFloat, firstFields, styleFields, reply
 use Rattle.screen.proofs.Text.{apart}
 
 -- the test that the code makes
-unfoldable pub floatAt : Line → ℕ → Bool
-floatAt First j = ltb j 4
-floatAt Item j = cond (ltb j 44) (eqb (j % 2) 1) (cond (eqb j 45) true (cond (eqb j 55) true (leb 57 j)))
-floatAt Candidate j = cond (ltb j 3) false (ltb ((j - 3) % 5) 2)
+unfoldable pub isFloatAt : Line → ℕ → Bool
+isFloatAt First j = ltb j 4
+isFloatAt Item j = cond (ltb j 44) (eqb (j % 2) 1) (cond (eqb j 45) true (cond (eqb j 55) true (leb 57 j)))
+isFloatAt Candidate j = cond (ltb j 3) false (ltb ((j - 3) % 5) 2)
 
 abbrev same : Bool → Bool → Bool
 same true b = b
@@ -54,14 +54,14 @@ from f (k ∷ ks) i t (suc j) h =
     subst (λ (m : ℕ). f m ≡ isFloat (getD ks j Code)) (suc-add i j ∙ sym (add-suc i j))
     (from f ks (suc i) (both-right (same (f i) (isFloat k)) (every f (suc i) ks) t) j (le-of-suc-le-suc h))
 
-tested : (line : Line) → T (every (floatAt line) 0 (fieldsOf line))
-unfolding floatAt isFloat fieldsOf firstFields styleFields replyFields candidateFields
+tested : (line : Line) → T (every (isFloatAt line) 0 (fieldsOf line))
+unfolding isFloatAt isFloat fieldsOf firstFields styleFields replyFields candidateFields
 tested First = tt
 tested Item = tt
 tested Candidate = tt
 
-pub float-at : (line : Line) (j : ℕ) → j < length (fieldsOf line) → floatAt line j ≡ isFloat (getD (fieldsOf line) j Code)
-float-at line j h = subst (λ (m : ℕ). floatAt line m ≡ isFloat (getD (fieldsOf line) j Code)) (zero-add j) (from (floatAt line) (fieldsOf line) 0 (tested line) j h)
+pub float-at : (line : Line) (j : ℕ) → j < length (fieldsOf line) → isFloatAt line j ≡ isFloat (getD (fieldsOf line) j Code)
+float-at line j h = subst (λ (m : ℕ). isFloatAt line m ≡ isFloat (getD (fieldsOf line) j Code)) (zero-add j) (from (isFloatAt line) (fieldsOf line) 0 (tested line) j h)
 
 pub float-is : (k : Kind) → isFloat k ≡ true → Eighths ≡ k
 unfolding isFloat

@@ -22,7 +22,7 @@ use Rattle.style.specs.Codes.{safetyCode, keywordCode, bitsCode, safetyOf, keyw
 use Rattle.style.proofs.Laws.{sizing-codes, overflow-codes, direction-codes, safety-codes, keyword-codes, bits-codes}
 use Rattle.style_record.specs.Record.{upTo, styleWords, kindOf, codeKinds, lengthKinds, lengthField}
 use Rattle.style_record.specs.Check.{safetyBreaks, breaksAs, breaksRule}
-use Rattle.style_record.specs.Decode.{floatAt, lengthAt, rectAt, sizeAt, alignAt, ratioAt, overflowAt, styleOf}
+use Rattle.style_record.specs.Decode.{lengthAt, rectAt, sizeAt, alignAt, ratioAt, overflowAt, styleOf}
 use Rattle.style_record.specs.Encode.{lengthWordsOf, rectWordsOf, sizeWordsOf, presentCode, ratioBits, alignWordsOf, encoded, keptAs, keptFrom}
 use Rattle.style_record.specs.Laws.{FitsLengthRect, FitsLengthSize, FitsMaybe, FitsStyle}
 
@@ -70,7 +70,7 @@ unfolding alignmentOf
 align-back a = rw (present-keyword (a .keyword)) (λ j. record { keyword = keyword-codes .0 (a .keyword) j; safety = safety-codes .0 (a .safety) j })
 
 pub written-back : (y : Style) → FitsStyle y → styleOf (λ k. getD (encoded y) k 0) ≡ y
-unfolding styleOf floatAt lengthAt rectAt sizeAt alignAt ratioAt overflowAt containOf lengthWordsOf rectWordsOf sizeWordsOf alignWordsOf encoded
+unfolding styleOf lengthAt rectAt sizeAt alignAt ratioAt overflowAt containOf lengthWordsOf rectWordsOf sizeWordsOf alignWordsOf encoded
 written-back y f =
     λ j. record {
       inset = rect-back (y .inset) (f .inset) j;
@@ -144,7 +144,7 @@ module _ (r : ℕ → ℕ) (good : (k : ℕ) → k < styleWords → breaksRule r
   code-word last k h e = at-most last (r k) (rw e at (rule k h))
 
   pub decoded-back : encoded (styleOf r) ≡ keptFrom r styleWords 0
-  unfolding styleOf floatAt lengthAt rectAt sizeAt alignAt ratioAt overflowAt containOf lengthWordsOf rectWordsOf sizeWordsOf alignWordsOf encoded keptFrom keptAs kindOf codeKinds lengthKinds lengthField breaksAs
+  unfolding styleOf lengthAt rectAt sizeAt alignAt ratioAt overflowAt containOf lengthWordsOf rectWordsOf sizeWordsOf alignWordsOf encoded keptFrom keptAs kindOf codeKinds lengthKinds lengthField breaksAs
   decoded-back =
       let present = ratio-word (r 44) (r 45) (code-word 1 44 (omega arith) refl) in
       rw (

@@ -4,7 +4,7 @@ use Prim.Native.Nat.{ℕ, _+_, _*_}
 use mathlib.Core.Bool.{cond}
 use mathlib.Core.List.{List}
 use lib.Dec.{eqb}
-use lib.Ieee.{Float, ofBits, binary32}
+use lib.Ieee.{ofBits, binary32}
 use Rattle.util.specs.declared.math.MaybeF32.{MaybeF32}
 use Rattle.util.specs.declared.math.MaybeF32.the-variants.{None, Some}
 use Rattle.style.specs.declared.compact_length.CompactLength.{CompactLength}
@@ -18,11 +18,8 @@ use Rattle.style_record.specs.Record.{lengthWords, afterLengths, item}
 
 -- ---- from word k of a record on
 
-unfoldable pub floatAt : (ℕ → ℕ) → ℕ → Float
-floatAt r k = ofBits binary32 (r k)
-
 unfoldable pub lengthAt : (ℕ → ℕ) → ℕ → CompactLength
-lengthAt r k = record { tag = r k; value = floatAt r (k + 1) }
+lengthAt r k = record { tag = r k; value = ofBits binary32 (r (k + 1)) }
 
 unfoldable pub rectAt : (ℕ → ℕ) → ℕ → LengthRect
 rectAt r k =
@@ -44,7 +41,7 @@ alignAt r k = alignmentOf (r k) (r (k + 1))
 
 -- the ratio's word is read where it is present
 unfoldable pub ratioAt : (ℕ → ℕ) → MaybeF32
-ratioAt r = cond (eqb (r afterLengths) 0) None (Some (floatAt r (afterLengths + 1)))
+ratioAt r = cond (eqb (r afterLengths) 0) None (Some (ofBits binary32 (r (afterLengths + 1))))
 
 unfoldable pub overflowAt : (ℕ → ℕ) → OverflowPoint
 overflowAt r = record { x = overflowOf (r (afterLengths + 9)); y = overflowOf (r (afterLengths + 10)) }
@@ -69,7 +66,7 @@ styleOf r =
       justify = alignAt r (afterLengths + 5);
       align = alignAt r (afterLengths + 7);
       overflow = overflowAt r;
-      scrollbar = floatAt r (afterLengths + 11);
+      scrollbar = ofBits binary32 (r (afterLengths + 11));
       contain = containOf (r (afterLengths + 12));
     }
 

@@ -2,8 +2,9 @@
 ghost use mathlib.Core.Path.{_≡_};
 ghost use Prim.Native.Nat.{_+_, _*_, _≤_};
 ghost use lib.ListN.{length};
+ghost use lib.Ieee.{ofBits, binary32};
 ghost use Rattle.style_record.specs.Record.{lengthWords, styleWords, wordsFrom};
-ghost use Rattle.style_record.specs.Decode.{floatAt, lengthAt, rectAt, sizeAt, ratioAt, alignAt, overflowAt, styleAt};
+ghost use Rattle.style_record.specs.Decode.{lengthAt, rectAt, sizeAt, ratioAt, alignAt, overflowAt, styleAt};
 use crate::words;
 use style::BoxSizing;
 use style::Contain;
@@ -30,7 +31,7 @@ fn word_at(styles: &[u32], at: usize, k: usize) -> u32
 
 fn float_at(styles: &[u32], at: usize, k: usize) -> f32
     requires { ⌜ at + (k + 1) ≤ length (now styles) ⌝ }
-    ensures { λ r. ⌜ r ≡ floatAt (wordsFrom (now (styles .entry)) at) k ⌝ }
+    ensures { λ r. ⌜ r ≡ ofBits binary32 (wordsFrom (now (styles .entry)) at k) ⌝ }
 {
     floats::from_word(styles[at + k])
 }

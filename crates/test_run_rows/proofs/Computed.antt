@@ -15,7 +15,7 @@ use Rattle.style.specs.Resolve.{byTag, resolved, takes, maybeResolved, resolved
 use Rattle.records.specs.Records.{recordAt, records, room, written, wrong, canonicalWord, canonicalFrom, every, breaks, good, goodRecords}
 use Rattle.style_record.specs.Record.{lengthField, lengthKinds, codeKinds, kindOf, items}
 use Rattle.style_record.specs.Check.{safetyBreaks, breaksAs, breaksRule, breaks as breaks′, firstFrom, firstBroken, orRest, checkedFrom, checked}
-use Rattle.style_record.specs.Decode.{floatAt, lengthAt, rectAt, sizeAt, alignAt, ratioAt, overflowAt, styleOf, styleAt}
+use Rattle.style_record.specs.Decode.{lengthAt, rectAt, sizeAt, alignAt, ratioAt, overflowAt, styleOf, styleAt}
 use Rattle.tree.specs.Static.{fromAlignment, shiftedAxis, translated}
 use Rattle.tree_record.specs.Codes.{positionCode, positionOf, edgeCode, edgeOf}
 use Rattle.tree_record.specs.Candidate.{axisOf, candidateOf, candidateWords}
@@ -33,5 +33,5 @@ use Rattle.run.specs.Run.{boxAtHand, asking, finishing, proceeding, openingVerd
 use Rattle.run.specs.Theorems.{askedAtOpening, askedWith, next, hearing, laidInto}
 
 calls-agree : (allAgree runs ≡ true) × (all readings ≡ true)
-unfolding add sub mul div neg lt le eq isNan sum round units odd size span climb ofBits toBits ofFields nanBits ofInt openingOf both width height laid knownWord spaceWord measureWords questionWords answerWords told plain same sameAll lentTo agrees allAgree runs px minus lengths item sized box broken candidate absolute fixed badAbsolute badFixed over left openingIn opening reply surfacing lending withExtents withCounts atLayOut refuses measuresBoth measuresWidth measuresHeight laysOut finishes unwritten counts laidAt neverLaid boxAsked boxEnd all refusedOpening of58 openedBox finished lengthsKept twelve measuring measured surfacedByKind limits unclaimedOnly withoutBoxes styles openedTwo afterOne rewriting rewritingUnclaimed candidates openedInTwo fullByOne full counted forged pair openedPair redirected kept first leastByStretch leastByMost leastByAuto narrow hundredByLeast stretchByLeast measures claimedTwice layouts flatBox outside overflows inOrder readings zeroOf before larger smaller magnitude present orElse unwrapOr map mapAdd mapLarger atMost atLeast clamped mapClamped rectOrZero sumX sumY sums rectSum unionOf smallerSize definite bothPresent firstSize filledSize addedSize raisedSize clampedSize clampedFloats completed withRatio sizingCode overflowCode directionCode safetyCode keywordCode bitsCode sizingOf overflowOf directionOf safetyOf keywordOf alignmentOf containOf selfRelative clampedSpace clampedSpaces definiteSpaces byTag resolved takes maybeResolved resolvedRect resolvedSize recordAt records room written wrong canonicalWord canonicalFrom every breaks good goodRecords lengthField lengthKinds codeKinds kindOf items safetyBreaks breaksAs breaksRule breaks′ firstFrom firstBroken orRest checkedFrom checked floatAt lengthAt rectAt sizeAt alignAt ratioAt overflowAt styleOf styleAt fromAlignment shiftedAxis translated positionCode positionOf edgeCode edgeOf axisOf candidateOf candidateWords rectOf layoutOf layoutWords firstCandidates candidatesIn moved side keep listWords swept propagates reach placedAt contribution byKeyword ofResolved keywordOf′ absoluteStretch ifAbsent keywordsOf fromResolved alignIn centeredBlock staticBlock insetBlock startIsWeaker repaired block bothInsets stretchFit stretching stretches isStretch halves filledMargins margins isNormal alignEdge limit keptWithin selfAligned staticAligned positionIn position placement ofWidth ofEachAxis lessOffset horizontal vertical paddingOrBorder styleSize minSize lessMargins spaceFor resolvedBox scrollbarOf layoutOf′ fromOrigin boxLayout keywordStretch sizeKeywords settled widthAs heightAs inTurn byKeywords keywordSizes ignoresRatio stretchRatio widened heightened raisedMin stretched finalSize measured′ placed taken knownBy stretchedBy sizeBy keywordAsked sizeAsked askedOf askedAfter layoutAfter _when_else_ badArea badTable badList badSlices otherLengths badStyle badCandidate listFull wrongCounts boxAtHand asking finishing proceeding openingVerdict closed begun opened takenBy replyVerdict measuredOn laidOut replied askedAtOpening askedWith next hearing laidInto
+unfolding add sub mul div neg lt le eq isNan sum round units odd size span climb ofBits toBits ofFields nanBits ofInt openingOf both width height laid knownWord spaceWord measureWords questionWords answerWords told plain same sameAll lentTo agrees allAgree runs px minus lengths item sized box broken candidate absolute fixed badAbsolute badFixed over left openingIn opening reply surfacing lending withExtents withCounts atLayOut refuses measuresBoth measuresWidth measuresHeight laysOut finishes unwritten counts laidAt neverLaid boxAsked boxEnd all refusedOpening of58 openedBox finished lengthsKept twelve measuring measured surfacedByKind limits unclaimedOnly withoutBoxes styles openedTwo afterOne rewriting rewritingUnclaimed candidates openedInTwo fullByOne full counted forged pair openedPair redirected kept first leastByStretch leastByMost leastByAuto narrow hundredByLeast stretchByLeast measures claimedTwice layouts flatBox outside overflows inOrder readings zeroOf before larger smaller magnitude present orElse unwrapOr map mapAdd mapLarger atMost atLeast clamped mapClamped rectOrZero sumX sumY sums rectSum unionOf smallerSize definite bothPresent firstSize filledSize addedSize raisedSize clampedSize clampedFloats completed withRatio sizingCode overflowCode directionCode safetyCode keywordCode bitsCode sizingOf overflowOf directionOf safetyOf keywordOf alignmentOf containOf selfRelative clampedSpace clampedSpaces definiteSpaces byTag resolved takes maybeResolved resolvedRect resolvedSize recordAt records room written wrong canonicalWord canonicalFrom every breaks good goodRecords lengthField lengthKinds codeKinds kindOf items safetyBreaks breaksAs breaksRule breaks′ firstFrom firstBroken orRest checkedFrom checked lengthAt rectAt sizeAt alignAt ratioAt overflowAt styleOf styleAt fromAlignment shiftedAxis translated positionCode positionOf edgeCode edgeOf axisOf candidateOf candidateWords rectOf layoutOf layoutWords firstCandidates candidatesIn moved side keep listWords swept propagates reach placedAt contribution byKeyword ofResolved keywordOf′ absoluteStretch ifAbsent keywordsOf fromResolved alignIn centeredBlock staticBlock insetBlock startIsWeaker repaired block bothInsets stretchFit stretching stretches isStretch halves filledMargins margins isNormal alignEdge limit keptWithin selfAligned staticAligned positionIn position placement ofWidth ofEachAxis lessOffset horizontal vertical paddingOrBorder styleSize minSize lessMargins spaceFor resolvedBox scrollbarOf layoutOf′ fromOrigin boxLayout keywordStretch sizeKeywords settled widthAs heightAs inTurn byKeywords keywordSizes ignoresRatio stretchRatio widened heightened raisedMin stretched finalSize measured′ placed taken knownBy stretchedBy sizeBy keywordAsked sizeAsked askedOf askedAfter layoutAfter _when_else_ badArea badTable badList badSlices otherLengths badStyle badCandidate listFull wrongCounts boxAtHand asking finishing proceeding openingVerdict closed begun opened takenBy replyVerdict measuredOn laidOut replied askedAtOpening askedWith next hearing laidInto
 calls-agree = (refl, refl)

@@ -437,7 +437,8 @@ measures =
     ∷ measuresBoth (0 ∷ none ∷ none ∷ least ∷ most ∷ []) (first leastByMost)
     ∷ refuses 6 (next leastByMost (first leastByMost) (width (px 30)))
     ∷ laysOut boxAsked (next leastByMost (first leastByMost) (both (px 30) (px 20)))
-    -- a second question fills the absent side only
+    -- three questions of one box, the most that there are: the second fills the absent side only
+    ∷ measuresWidth (0 ∷ none ∷ none ∷ least ∷ px 100 ∷ []) (first leastByAuto)
     ∷ measuresBoth (0 ∷ px 30 ∷ none ∷ px 100 ∷ px 100 ∷ []) (next leastByAuto (first leastByAuto) (width (px 30)))
     ∷ laysOut boxAsked (next leastByAuto (next leastByAuto (first leastByAuto) (width (px 30))) (both (px 99) (px 20)))
     ∷ []

@@ -1,5 +1,4 @@
 -- Generated: tools/proof/write-skeletons, then tools/proof/list-facts --fill.
-use Rattle.style_record.specs.Decode.{floatAt}
 use borrow.Author.Needs.{needs}
 use Rattle.style_record.proofs.decode.float_at.Statement.{statement}
 use Rattle.style_record.proofs.decode.float_at.Tie as tie
@@ -20,7 +19,6 @@ from-word-requires : tie.Need-from-word-requires
 from-word-requires c κs = search needs
 
 returns : tie.Need-returns
-unfolding floatAt
 returns c = simp (← c .from-word .ensures)
 
 pub float-at-spec : {M : Type 1} → statement M
