@@ -100,17 +100,17 @@ EDITS = [
         (SIZING, """        let min_width = min.width;
         let min_height = min.height;
         let raised = MaybeSize {
-            width: raised_min(across, min_width, resolved.fit.width),
-            height: raised_min(down, min_height, resolved.fit.height),
+            width: raised_min(stretchx, min_width, resolved.fit.width),
+            height: raised_min(stretchy, min_height, resolved.fit.height),
         };
         return Stretched {
             known: known,
             min: raised,
         };
-""", """        let own = stretch_ratio(style, resolved, across, down);
-        let widened = widen(known, own, resolved, across);
+""", """        let own = stretch_ratio(style, resolved, stretchx, stretchy);
+        let widened = widen(known, own, resolved, stretchx);
         return Stretched {
-            known: heighten(widened, own, resolved, down),
+            known: heighten(widened, own, resolved, stretchy),
             min: min,
         };
 """)]),
@@ -152,10 +152,10 @@ EDITS = [
     # ---- step 7: location, margins, gutters
     ('offset: not added to the location', P, [
         (PLACING, 'x = placedX .position ⊕ container .area .offset .x; y = placedY .position ⊕ container .area .offset .y', 'x = placedX .position; y = placedY .position'),
-        (PLACE, 'x: across.position + offset.x,\n            y: down.position + offset.y,', 'x: across.position,\n            y: down.position,')]),
+        (PLACE, 'x: placed_x.position + offset.x,\n            y: placed_y.position + offset.y,', 'x: placed_x.position,\n            y: placed_y.position,')]),
     ('offset: of the other axis', P, [
         (PLACING, 'x = placedX .position ⊕ container .area .offset .x; y = placedY .position ⊕ container .area .offset .y', 'x = placedX .position ⊕ container .area .offset .y; y = placedY .position ⊕ container .area .offset .x'),
-        (PLACE, 'x: across.position + offset.x,\n            y: down.position + offset.y,', 'x: across.position + offset.y,\n            y: down.position + offset.x,')]),
+        (PLACE, 'x: placed_x.position + offset.x,\n            y: placed_y.position + offset.y,', 'x: placed_x.position + offset.y,\n            y: placed_y.position + offset.x,')]),
     ('placed by the size of the other axis', P, [
         (PLACING, 'placement (box .horizontal) (size .width)', 'placement (box .horizontal) (size .HEIGHT)'),
         (PLACING, 'placement (box .vertical) (size .height)', 'placement (box .vertical) (size .width)'),
@@ -238,5 +238,5 @@ EDITS = [
         (OVERFLOWS, 'return Line {\n            start: sys::f32_min(0.0, own.start),\n            end: sys::f32_max(size, own.end),\n        };', 'return own;')]),
     ('contribution: a height of 0 counts', C, [
         (OVERFLOW, 'cond (le (reachX .end) 0f || le (reachY .end) 0f) zeroRect', 'cond (le (reachX .end) 0f || le (reachX .end) 0f) zeroRect'),
-        (OVERFLOWS, 'if either_at_most_zero(across.end, down.end) {', 'if either_at_most_zero(across.end, across.end) {')]),
+        (OVERFLOWS, 'if either_at_most_zero(reach_x.end, reach_y.end) {', 'if either_at_most_zero(reach_x.end, reach_x.end) {')]),
 ]

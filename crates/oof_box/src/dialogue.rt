@@ -36,12 +36,12 @@ pub enum KeywordQuestion {
 
 // ---- step 4
 
-fn both_asked(node: u32, across: AvailableSpace, down: AvailableSpace) -> KeywordQuestion
-    ensures { λ r. ⌜ r ≡ bothAsked node across down ⌝ }
+fn both_asked(node: u32, spacex: AvailableSpace, spacey: AvailableSpace) -> KeywordQuestion
+    ensures { λ r. ⌜ r ≡ bothAsked node spacex spacey ⌝ }
 {
     let space = AvailableSize {
-        width: across,
-        height: down,
+        width: spacex,
+        height: spacey,
     };
     let input = MeasureInput {
         node: node,
@@ -57,14 +57,14 @@ fn both_asked(node: u32, across: AvailableSpace, down: AvailableSpace) -> Keywor
 // A height that isn't known has its stretch size as space.
 fn width_asked(
     node: u32,
-    across: AvailableSpace,
+    spacex: AvailableSpace,
     known: MaybeSize,
     stretch: Size,
 ) -> KeywordQuestion
-    ensures { λ r. ⌜ r ≡ widthAsked node across known stretch ⌝ }
+    ensures { λ r. ⌜ r ≡ widthAsked node spacex known stretch ⌝ }
 {
     let space = AvailableSize {
-        width: across,
+        width: spacex,
         height: AvailableSpace::Definite(stretch.height),
     };
     let input = MeasureInput {
@@ -82,17 +82,17 @@ fn width_asked(
 fn height_asked(
     node: u32,
     width: MaybeF32,
-    down: AvailableSpace,
+    spacey: AvailableSpace,
     known: MaybeSize,
     stretch: Size,
 ) -> KeywordQuestion
-    ensures { λ r. ⌜ r ≡ heightAsked node width down known stretch ⌝ }
+    ensures { λ r. ⌜ r ≡ heightAsked node width spacey known stretch ⌝ }
 {
     let height = known.height;
-    let across = AvailableSpace::Definite(width.unwrap_or(stretch.width));
+    let spacex = AvailableSpace::Definite(width.unwrap_or(stretch.width));
     let space = AvailableSize {
-        width: across,
-        height: down,
+        width: spacex,
+        height: spacey,
     };
     let sizes = MaybeSize {
         width: width,
@@ -125,21 +125,21 @@ fn keyword_asked(
         SizingKeywordResolution::NoKeyword => match tall {
             SizingKeywordResolution::NoKeyword => KeywordQuestion::None,
             SizingKeywordResolution::Exact(_) => KeywordQuestion::None,
-            SizingKeywordResolution::Measure(down) => {
-                height_asked(node, width, down, known, stretch)
+            SizingKeywordResolution::Measure(spacey) => {
+                height_asked(node, width, spacey, known, stretch)
             }
         },
         SizingKeywordResolution::Exact(w) => match tall {
             SizingKeywordResolution::NoKeyword => KeywordQuestion::None,
             SizingKeywordResolution::Exact(_) => KeywordQuestion::None,
-            SizingKeywordResolution::Measure(down) => {
-                height_asked(node, MaybeF32::Some(w), down, known, stretch)
+            SizingKeywordResolution::Measure(spacey) => {
+                height_asked(node, MaybeF32::Some(w), spacey, known, stretch)
             }
         },
-        SizingKeywordResolution::Measure(across) => match tall {
-            SizingKeywordResolution::NoKeyword => width_asked(node, across, known, stretch),
-            SizingKeywordResolution::Exact(_) => width_asked(node, across, known, stretch),
-            SizingKeywordResolution::Measure(down) => both_asked(node, across, down),
+        SizingKeywordResolution::Measure(spacex) => match tall {
+            SizingKeywordResolution::NoKeyword => width_asked(node, spacex, known, stretch),
+            SizingKeywordResolution::Exact(_) => width_asked(node, spacex, known, stretch),
+            SizingKeywordResolution::Measure(spacey) => both_asked(node, spacex, spacey),
         },
     }
 }

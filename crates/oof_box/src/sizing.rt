@@ -161,31 +161,31 @@ fn both_stretch(resolved: ResolvedBox) -> bool
     horizontal.is_stretch() && vertical.is_stretch()
 }
 
-fn ignores_ratio(resolved: ResolvedBox, across: bool, down: bool) -> bool
-    ensures { λ r. ⌜ r ≡ ignoresRatio resolved across down ⌝ }
+fn ignores_ratio(resolved: ResolvedBox, stretchx: bool, stretchy: bool) -> bool
+    ensures { λ r. ⌜ r ≡ ignoresRatio resolved stretchx stretchy ⌝ }
 {
-    if across {
-        return down && both_stretch(resolved);
+    if stretchx {
+        return stretchy && both_stretch(resolved);
     }
     false
 }
 
 // The ratio of step 5.
-fn stretch_ratio(style: Style, resolved: ResolvedBox, across: bool, down: bool) -> MaybeF32
-    ensures { λ r. ⌜ r ≡ stretchRatio style resolved across down ⌝ }
+fn stretch_ratio(style: Style, resolved: ResolvedBox, stretchx: bool, stretchy: bool) -> MaybeF32
+    ensures { λ r. ⌜ r ≡ stretchRatio style resolved stretchx stretchy ⌝ }
 {
     let ratio = style.ratio;
-    if ignores_ratio(resolved, across, down) {
+    if ignores_ratio(resolved, stretchx, stretchy) {
         return MaybeF32::None;
     }
     ratio
 }
 
-fn widen(known: MaybeSize, ratio: MaybeF32, resolved: ResolvedBox, across: bool) -> MaybeSize
-    ensures { λ r. ⌜ r ≡ widened ratio resolved across known ⌝ }
+fn widen(known: MaybeSize, ratio: MaybeF32, resolved: ResolvedBox, stretchx: bool) -> MaybeSize
+    ensures { λ r. ⌜ r ≡ widened ratio resolved stretchx known ⌝ }
 {
     let height = known.height;
-    if across {
+    if stretchx {
         let size = MaybeSize {
             width: MaybeF32::Some(resolved.fit.width),
             height: height,
@@ -195,19 +195,19 @@ fn widen(known: MaybeSize, ratio: MaybeF32, resolved: ResolvedBox, across: bool)
     known
 }
 
-fn is_still_absent(down: bool, height: MaybeF32) -> bool
-    ensures { λ r. ⌜ r ≡ (down && not (present height)) ⌝ }
+fn is_still_absent(stretchy: bool, height: MaybeF32) -> bool
+    ensures { λ r. ⌜ r ≡ (stretchy && not (present height)) ⌝ }
 {
-    down && height.is_none()
+    stretchy && height.is_none()
 }
 
 // Only a height that is still absent: a stretched width may have given it by the ratio.
-fn heighten(known: MaybeSize, ratio: MaybeF32, resolved: ResolvedBox, down: bool) -> MaybeSize
-    ensures { λ r. ⌜ r ≡ heightened ratio resolved down known ⌝ }
+fn heighten(known: MaybeSize, ratio: MaybeF32, resolved: ResolvedBox, stretchy: bool) -> MaybeSize
+    ensures { λ r. ⌜ r ≡ heightened ratio resolved stretchy known ⌝ }
 {
     let width = known.width;
     let height = known.height;
-    if is_still_absent(down, height) {
+    if is_still_absent(stretchy, height) {
         let size = MaybeSize {
             width: width,
             height: MaybeF32::Some(resolved.fit.height),
@@ -236,24 +236,24 @@ fn stretch(style: Style, resolved: ResolvedBox, known: MaybeSize) -> Stretched
     let min = resolved.min;
     let width = known.width;
     let height = known.height;
-    let across = is_stretched(width, horizontal, style);
-    let down = is_stretched(height, vertical, style);
+    let stretchx = is_stretched(width, horizontal, style);
+    let stretchy = is_stretched(height, vertical, style);
     if style.table {
         let min_width = min.width;
         let min_height = min.height;
         let raised = MaybeSize {
-            width: raised_min(across, min_width, resolved.fit.width),
-            height: raised_min(down, min_height, resolved.fit.height),
+            width: raised_min(stretchx, min_width, resolved.fit.width),
+            height: raised_min(stretchy, min_height, resolved.fit.height),
         };
         return Stretched {
             known: known,
             min: raised,
         };
     }
-    let ratio = stretch_ratio(style, resolved, across, down);
-    let wide = widen(known, ratio, resolved, across);
+    let ratio = stretch_ratio(style, resolved, stretchx, stretchy);
+    let wide = widen(known, ratio, resolved, stretchx);
     Stretched {
-        known: heighten(wide, ratio, resolved, down),
+        known: heighten(wide, ratio, resolved, stretchy),
         min: min,
     }
 }

@@ -80,21 +80,21 @@ pub fn compute_scrollable_overflow_contribution(
 {
     let along_x = overflow.x;
     let along_y = overflow.y;
-    let across = reach(
+    let reach_x = reach(
         propagates(along_x, overflow, contain),
         size.width,
         own.horizontal_components(),
     );
-    let down = reach(
+    let reach_y = reach(
         propagates(along_y, overflow, contain),
         size.height,
         own.vertical_components(),
     );
-    if either_at_most_zero(across.end, down.end) {
+    if either_at_most_zero(reach_x.end, reach_y.end) {
         return Rect::ZERO;
     }
-    let x = placed_at(location.x, across);
-    let y = placed_at(location.y, down);
+    let x = placed_at(location.x, reach_x);
+    let y = placed_at(location.y, reach_y);
     if is_unreachable(scrolls, x, y) {
         return Rect::ZERO;
     }

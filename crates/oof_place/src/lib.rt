@@ -47,10 +47,10 @@ fn layout_of(
     let clip = style.overflow;
     let clip_x = clip.x;
     let clip_y = clip.y;
-    let across = horizontal.placement(size.width);
-    let down = vertical.placement(size.height);
-    let margin_x = across.margin;
-    let margin_y = down.margin;
+    let placed_x = horizontal.placement(size.width);
+    let placed_y = vertical.placement(size.height);
+    let margin_x = placed_x.margin;
+    let margin_y = placed_y.margin;
     Layout {
         order: candidate.order,
         size: size,
@@ -60,8 +60,8 @@ fn layout_of(
             height: scrollbar_of(clip_x, style.scrollbar),
         },
         location: Point {
-            x: across.position + offset.x,
-            y: down.position + offset.y,
+            x: placed_x.position + offset.x,
+            y: placed_y.position + offset.y,
         },
         padding: padding,
         border: border,

@@ -149,18 +149,18 @@ pub fn maybe_resolve(field: Field, length: CompactLength, basis: f32) -> MaybeF3
 }
 
 // Four sides: left and right against one basis, top and bottom against another.
-pub fn maybe_resolve_rect(field: Field, sides: LengthRect, across: f32, down: f32) -> MaybeRect
-    ensures { λ r. ⌜ r ≡ resolvedRect field sides across down ⌝ }
+pub fn maybe_resolve_rect(field: Field, sides: LengthRect, basisx: f32, basisy: f32) -> MaybeRect
+    ensures { λ r. ⌜ r ≡ resolvedRect field sides basisx basisy ⌝ }
 {
     let left = sides.left;
     let right = sides.right;
     let top = sides.top;
     let bottom = sides.bottom;
     MaybeRect {
-        left: maybe_resolve(field, left, across),
-        right: maybe_resolve(field, right, across),
-        top: maybe_resolve(field, top, down),
-        bottom: maybe_resolve(field, bottom, down),
+        left: maybe_resolve(field, left, basisx),
+        right: maybe_resolve(field, right, basisx),
+        top: maybe_resolve(field, top, basisy),
+        bottom: maybe_resolve(field, bottom, basisy),
     }
 }
 
