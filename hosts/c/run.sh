@@ -1,7 +1,8 @@
 #!/bin/sh
 # Builds the C programs against an installed copy of the proved library, outside the repository, and runs them: the tests, the
-# example, whose output is held to example.stdout, and the measurement of the stack. Before that, the header's numbers are held
-# to the definitions, and the library to what README.md says that it needs.
+# stored runs, whose output is held to replay.stdout, the measurement of the stack, and the example, whose output is held to
+# example.stdout. Before that, the header's numbers are held to the definitions, and the library to what README.md says that it
+# needs.
 #
 #     rt staticlib oof_c && hosts/c/run.sh
 #
@@ -28,10 +29,17 @@ build() { # NAME, then options
     # shellcheck disable=SC2086
     "${CC:-cc}" -std=c11 -Wall -Wextra -Werror -O2 $flags "$@" -o "$work/$name" "$work/$name.c" $libs
 }
-cp "$here/test.c" "$here/example.c" "$here/stack.c" "$work"
+cp "$here/test.c" "$here/replay.c" "$here/example.c" "$here/stack.c" "$work"
 cd "$work"
-build test && ./test
-build stack -D_POSIX_C_SOURCE=200809L -pthread && ./stack
-build example && ./example > stdout
+build test
+./test
+build replay
+./replay < "$here/replay.stdin" > stdout
+diff "$here/replay.stdout" stdout > differences || { head -n 20 differences; exit 1; }
+echo "hosts/c: $(grep -c '^layouts' stdout) stored runs, $(grep -c '^counts' stdout) calls, as the Rust answered or document 01 refuses"
+build stack -D_POSIX_C_SOURCE=200809L -pthread
+./stack
+build example
+./example > stdout
 diff "$here/example.stdout" stdout
 echo "hosts/c: the example's output is as it must be"

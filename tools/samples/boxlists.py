@@ -1,8 +1,9 @@
 #!/usr/bin/env python3
-"""Writes the telling screens (screens/, with their lists) and the stored screens of crates/boxlist and crates/test_boxlist.
+"""Writes the telling screens (screens/) and those at the limits of the format (screens/limits/), each with its list, and what crates/boxlist
+is run on.
 
     tools/samples/boxlists.py ORACLE     writes all; ORACLE is the program of diff/oracle, which runs the published Rust
-    tools/samples/boxlists.py --check    says whether screens/ and the stored screens are what this script makes of them
+    tools/samples/boxlists.py --check    says whether the screens are what this script makes of them, and each has a list
 
 The screens come from here, the lists from the Rust, and none of it from the Rattle code."""
 import os, subprocess, sys
@@ -193,18 +194,17 @@ overflow       0    4000       0     960
 def files(lists):
     """every file that this script writes, by its place; lists by name"""
     out = {}
-    for name, text in telling.items():
-        out['screens/%s.screen' % name] = text
-        out['screens/%s.list' % name] = lists[name]
+    for name, text in {**telling, **limits}.items():
+        out[place(name) + '.screen'] = text
+        out[place(name) + '.list'] = lists[name]
     out['crates/boxlist/stdin'] = telling['incident']
     out['crates/boxlist/stdout'] = lists['incident']
-    stored = {**telling, **limits}
-    for name, text in stored.items():
-        out['crates/test_boxlist/data/' + name] = text
-    out['crates/test_boxlist/args'] = ''.join(n + '\n' for n in stored).encode()
-    out['crates/test_boxlist/stdout'] = b''.join(b'-- %s\n' % n.encode() + lists[n] for n in stored)
     out['screens/README.md'] = readme().encode()
     return out
+
+
+def place(name):
+    return ('screens/' if name in telling else 'screens/limits/') + name
 
 
 def readme():
@@ -214,23 +214,22 @@ Each `NAME.screen` is a [screen file](../docs/SCREEN-FORMAT.md); `NAME.list` is 
 
     target/bin/boxlist < screens/incident.screen
 
-Numbers are eighths of a pixel. `tools/samples/boxlists.py` writes them; the gate runs each (`crates/test_boxlist`, `tools/run-boxlist`), with the limits of the format.
+Numbers are eighths of a pixel. `tools/samples/boxlists.py` writes them; the gate runs each (`tools/run-boxlist`), and those at the limits of the format, which stand in `limits/`.
 
 """ + ''.join('- `%s`: %s.\n' % (n, t) for n, t in ABOUT.items())
 
 
-def kept():
-    """the lists as they are stored"""
-    text = open(os.path.join(root, 'crates/test_boxlist/stdout'), 'rb').read()
-    parts = text.split(b'-- ')[1:]
-    return {p.split(b'\n', 1)[0].decode(): p.split(b'\n', 1)[1] for p in parts}
+def stored(path):
+    """a file's bytes, or None where there is none"""
+    path = os.path.join(root, path)
+    return open(path, 'rb').read() if os.path.exists(path) else None
 
 
 def main():
     assert set(ABOUT) == set(telling) and not set(telling) & set(limits)
     if sys.argv[1:] == ['--check']:
-        lists = kept()
-        wrong = [p for p, text in files(lists).items() if not os.path.exists(os.path.join(root, p)) or open(os.path.join(root, p), 'rb').read() != text]
+        lists = {n: stored(place(n) + '.list') for n in {**telling, **limits}}
+        wrong = [p for p, text in files(lists).items() if text is None or stored(p) != text]
         for p in wrong:
             print(p, 'is not what tools/samples/boxlists.py writes')
         sys.exit(1 if wrong else 0)

@@ -1,6 +1,7 @@
 #!/usr/bin/env python3
-"""Writes the sample that crates/test_placer replays: runs of the Rust with surfaced boxes, and damaged calls between them. A call is
-damaged by its reply, by words that the host rewrote, by a state that the host forged, or by several of these.
+"""Writes the runs that hosts/c/replay.c replays, and what it must print (hosts/c/replay.stdin and replay.stdout): runs of the Rust with
+surfaced boxes, and damaged calls between them. A call is damaged by its reply, by words that the host rewrote, by a state that the host
+forged, or by several of these.
 
     tools/samples/placer.py ORACLE [RUNS]
 
@@ -14,7 +15,7 @@ import subprocess
 import sys
 
 STYLE, CANDIDATE, LAYOUT = 57, 13, 23
-HERE = pathlib.Path(__file__).resolve().parents[2] / "crates" / "test_placer"
+HERE = pathlib.Path(__file__).resolve().parents[2] / "hosts" / "c"
 NOWHERE = 0xFFFFFFFF
 KINDS = {"both": 0, "width": 1, "height": 2, "layout": 3}
 LENGTHS = [{1, 3, 5}] * 8 + [{1, 5}] * 8 + [{1, 3, 5, 11, 15, 27, 35, 43, 59, 75}] * 6
@@ -113,7 +114,7 @@ def lengths(run):
 
 
 def forged(state, what, n):
-    """As `forged` of the program: n for the progress (1), a count (2 to 5) or a length (6 to 9)."""
+    """As `forge` of the program: n for the progress (1), a count (2 to 5) or a length (6 to 9)."""
     asked, counts, of = state["asked"], list(state["counts"]), list(state["lengths"])
     if what == 1:
         asked = (None, 0, 1, 2, 0, 3)[n]
@@ -325,8 +326,8 @@ def main():
             replay(script, draw, case, answer)
             if draw.below(2) == 0:
                 refuse_opening(script, draw, case)
-    (HERE / "stdin").write_text("\n".join([f"{script.runs:x}", *script.input]) + "\n")
-    (HERE / "stdout").write_text("\n".join(script.output) + "\n")
+    (HERE / "replay.stdin").write_text("\n".join([f"{script.runs:x}", *script.input]) + "\n")
+    (HERE / "replay.stdout").write_text("\n".join(script.output) + "\n")
 
 
 main()
