@@ -60,7 +60,7 @@ def style():
     for field, prefix in (("size", ""), ("min", "MIN_"), ("max", "MAX_")):
         first = place(record, field, "sizeAt")
         out |= {prefix + "WIDTH": first, prefix + "HEIGHT": first + known["lengthWords"]}
-    ratio = re.findall(r"\br (\w+)\)|floatAt r (\([^()]*\))", body(DECODE, "ratioAt")[0][1])
+    ratio = re.findall(r"\br (\w+)\)|ofBits binary32 \(r (\([^()]*\))\)", body(DECODE, "ratioAt")[0][1])
     out |= {"RATIO_PRESENT": eval(ratio[0][0], {}, known), "RATIO": eval(ratio[1][1], {}, known)}
     word = lambda of: eval(re.search(rf"{of} \(r (\([^()]*\))\)", record)[1], {}, known)
     out |= {"BOX_SIZING": word("sizingOf"), "FLAGS": word("bit0"), "DIRECTION": word("directionOf"), "CONTAIN": word("containOf")}
@@ -70,7 +70,7 @@ def style():
         out |= {field.upper(): first, field.upper() + "_SAFETY": first + 1}
     for axis, at in re.findall(r"(x|y) = overflowOf \(r (\([^()]*\))\)", body(DECODE, "overflowAt")[0][1]):
         out["OVERFLOW_" + axis.upper()] = eval(at, {}, known)
-    out["SCROLLBAR_WIDTH"] = place(record, "scrollbar", "floatAt")
+    out["SCROLLBAR_WIDTH"] = word("scrollbar = ofBits binary32")
     return {"STYLE_" + name: at for name, at in out.items()}
 
 
