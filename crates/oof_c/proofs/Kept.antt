@@ -34,10 +34,8 @@ use Rattle.run.specs.declared.Extents.{Extents}
 use Rattle.run.specs.declared.Opened.{Opened}
 use Rattle.run.specs.declared.Opening.{Opening}
 use Rattle.run.specs.declared.State.{State}
-use Rattle.run.proofs.Ways.{NextWay, asks, ends, next-way, OpeningWay, begins, opening-way, ReplyWay, measures, laysOut, reply-way, passed, neither}
+use Rattle.run.proofs.Ways.{NextWay, asks, ends, next-way, OpeningWay, begins, opening-way, ReplyWay, measures, laysOut, reply-way, passed, neither, counted, laid-is}
 use Rattle.run.proofs.Refusals.{measured-accepts, laid-accepts}
-use Rattle.placer.proofs.Calls.{counted}
-use Rattle.placer.proofs.Replies.{laid-is}
 use Rattle.oof_c.specs.StateWords.{stateOf}
 use Rattle.oof_c.specs.Entry.{resultOf, stateLeft, lentIn, openedInWords, repliedInWords}
 use Rattle.oof_c.specs.Laws.{Floats, InAWord, Counted, FitsReply, Short, OpeningIsKept, ReplyIsKept, Made, stateAfter, call, RunIsKept}
