@@ -31,12 +31,12 @@ use Rattle.run.proofs.Questions.{Hoisted, opening-hoisted, reply-hoisted}
 use Rattle.run.proofs.Refusals.{begun-accepts, saying, turn-refused}
 use Rattle.run.proofs.Straight.{straight-run}
 use Rattle.run.proofs.Ways.{OpeningWay, begins, opening-way}
-use Rattle.oof_c.specs.StateWords.{at, stateOf, stateWords, countsOf, progressOf, progressCode}
-use Rattle.oof_c.specs.AnswerWords.{questionWords, measureWords, layOutWords, finishWords}
-use Rattle.oof_c.specs.Entry.{Words, words, Returned, lentIn, resultOf, answerLeft, inWords, openedInWords, repliedInWords}
-use Rattle.oof_c.specs.Laws.{FitsReply}
-use Rattle.oof_c.proofs.Laws.{accepted-is-zero, refused-is-not, refused-opening-closes, refused-reply-writes-nothing}
-use Rattle.oof_c.proofs.Kept.{opening-is-kept, reply-is-kept}
+use Rattle.oof_c_words.specs.StateWords.{at, stateOf, stateWords, countsOf, progressOf, progressCode}
+use Rattle.oof_c_words.specs.AnswerWords.{questionWords, measureWords, layOutWords, finishWords}
+use Rattle.oof_c_words.specs.Entry.{Words, words, Returned, lentIn, resultOf, answerLeft, inWords, openedInWords, repliedInWords}
+use Rattle.oof_c_words.specs.Laws.{FitsReply}
+use Rattle.oof_c_words.proofs.Laws.{accepted-is-zero, refused-is-not, refused-opening-closes, refused-reply-writes-nothing}
+use Rattle.oof_c_words.proofs.Kept.{opening-is-kept, reply-is-kept}
 use Rattle.demands_c.specs.Calls.{Opens, RepliesTo, FitsOpening, askedFor, AnyCalls, Takes, Lends, Run}
 use Rattle.demands_c.specs.Demands.{OpeningDemands, ReplyDemands, ThreeQuestionsEach, StandsInWords, EqualsStraightRun}
 

@@ -11,9 +11,9 @@ use Rattle.oof_box.specs.declared.question.Reply.{Reply}
 use Rattle.run.specs.Call.{Lent}
 use Rattle.run.specs.Theorems.{Heard, Loan, own, other, Turn}
 use Rattle.run.specs.declared.Opening.{Opening}
-use Rattle.oof_c.specs.StateWords.{at}
-use Rattle.oof_c.specs.Entry.{Words, words, Returned, openedInWords, repliedInWords}
-use Rattle.oof_c.specs.Laws.{FitsReply}
+use Rattle.oof_c_words.specs.StateWords.{at}
+use Rattle.oof_c_words.specs.Entry.{Words, words, Returned, openedInWords, repliedInWords}
+use Rattle.oof_c_words.specs.Laws.{FitsReply}
 
 -- ---- A call, and what the host has after it: its result, and the words that it may write.
 

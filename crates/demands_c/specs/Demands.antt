@@ -12,8 +12,8 @@ use Rattle.run.specs.Run.{closed}
 use Rattle.run.specs.Straight.{Course}
 use Rattle.run.specs.Theorems.{Turn, Stands, saidAfter, heededIn, courseOf}
 use Rattle.run.specs.declared.Opening.{Opening}
-use Rattle.oof_c.specs.StateWords.{at, stateOf, stateWords}
-use Rattle.oof_c.specs.Entry.{Words, words, Returned, lentIn, answerLeft}
+use Rattle.oof_c_words.specs.StateWords.{at, stateOf, stateWords}
+use Rattle.oof_c_words.specs.Entry.{Words, words, Returned, lentIn, answerLeft}
 use Rattle.demands_c.specs.Calls.{Opens, RepliesTo, AnyCalls, Run}
 
 -- ---- Demand 1. "Whoever calls an entry, with any bits in any number and slices of any length, gets its answer .. or one of document 01's

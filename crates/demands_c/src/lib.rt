@@ -1,7 +1,7 @@
 // Demands 1 and 2 of the C entries. Each function here but the last is a call, and ensures what is demanded of it; those demands that
 // speak of runs are theorems (specs/Demands.antt), from what a caller learns of the entries.
 ghost use mathlib.Core.List.{[]};
-ghost use Rattle.oof_c.specs.Entry.{came, before, returned, openingOf};
+ghost use Rattle.oof_c_words.specs.Entry.{came, before, returned, openingOf};
 ghost use Rattle.demands_c.specs.Demands.{OpeningDemands, ReplyDemands, Demanded};
 use oof_box::question::Reply;
 

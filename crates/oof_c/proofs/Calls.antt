@@ -8,8 +8,8 @@ use Rattle.run.specs.Run.{opened, replied}
 use Rattle.run.specs.declared.Opening.{Opening}
 use Rattle.run.specs.declared.State.{State}
 use Rattle.run.specs.declared.Step.{Step}
-use Rattle.oof_c.specs.StateWords.{stateOf, stateWords}
-use Rattle.oof_c.specs.Entry.{resultOf, answerLeft, stateLeft, told, inWords, words, lentIn, Words, Returned, openedInWords, repliedInWords}
+use Rattle.oof_c_words.specs.StateWords.{stateOf, stateWords}
+use Rattle.oof_c_words.specs.Entry.{resultOf, answerLeft, stateLeft, told, inWords, words, lentIn, Words, Returned, openedInWords, repliedInWords}
 
 -- the state's words and the result's, from those of the step
 in-words :

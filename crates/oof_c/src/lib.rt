@@ -2,59 +2,15 @@
 // and answer pass as a pointer each. hosts/c/oof.h declares them for C.
 ghost use mathlib.Core.Path.{_≡_};
 ghost use mathlib.Core.List.{[]};
-ghost use Rattle.run.specs.Theorems.{isRefused};
-ghost use Rattle.oof_c.specs.Entry.{resultOf, answerLeft, stateLeft, told, came, before, returned, openingOf, openedInWords, repliedInWords};
+ghost use Rattle.oof_c_words.specs.Entry.{came, before, returned, openingOf, openedInWords, repliedInWords};
 use geometry::Point;
 use geometry::Rect;
 use geometry::Size;
 use oof_box::question::Reply;
-use run::Answer;
+use oof_c_words::answer::ANSWER_WORDS;
+use oof_c_words::state::STATE_WORDS;
 use run::Opening;
-use run::Step;
 use tree::layout::OofPositioningArea;
-
-mod answer;
-mod state;
-
-// The result of a call. Unless it was refused, its answer is written.
-fn tell(a: Answer, answer: &mut [u32; answer::ANSWER_WORDS]) -> u32
-    ensures { λ r. ⌜ told r (now (answer .exit)) ≡ told (resultOf a) (answerLeft a (now (answer .entry))) ⌝ }
-{
-    match a {
-        Answer::Refused(refusal) => refusal.number(),
-        Answer::Ask(question) => {
-            *answer = answer::question_words(question);
-            0
-        }
-        Answer::Finish(finish) => {
-            *answer = answer::finish_words(finish);
-            0
-        }
-    }
-}
-
-fn is_refused(a: Answer) -> bool
-    ensures { λ r. ⌜ r ≡ isRefused a ⌝ }
-{
-    match a {
-        Answer::Ask(_) => false,
-        Answer::Finish(_) => false,
-        Answer::Refused(_) => true,
-    }
-}
-
-// The state's words after a reply: those of a refused one stay as they came, whatever they are.
-fn keep(step: Step, state: &mut [u32; state::STATE_WORDS])
-    ensures { λ r. ⌜ now (state .exit) ≡ stateLeft step (now (state .entry)) ⌝ }
-{
-    let s = step.state;
-    let a = step.answer;
-    let words = state::state_words(s);
-    if is_refused(a) {
-        return;
-    }
-    *state = words;
-}
 
 // Opens a run.
 #[no_mangle]
@@ -72,8 +28,8 @@ pub extern "C" fn oof_open(
     layouts: &mut [u32],
     working: &mut [u32],
     unclaimed: &mut [u32],
-    state: &mut [u32; state::STATE_WORDS],
-    answer: &mut [u32; answer::ANSWER_WORDS],
+    state: &mut [u32; STATE_WORDS],
+    answer: &mut [u32; ANSWER_WORDS],
 ) -> u32
     ensures { λ r. ⌜ returned r layouts working unclaimed state answer ≡ openedInWords (openingOf width height x y direction claims «overflow_x» «overflow_y») (came candidates) (came styles) (before layouts working unclaimed state answer) ⌝ }
 {
@@ -91,9 +47,9 @@ pub extern "C" fn oof_open(
     let step = placer::open(opening, styles, candidates, layouts, working, unclaimed);
     let s = step.state;
     let a = step.answer;
-    let opened = state::state_words(s);
+    let opened = oof_c_words::state::state_words(s);
     *state = opened;
-    tell(a, answer)
+    oof_c_words::tell(a, answer)
 }
 
 // A reply to the open question.
@@ -104,16 +60,16 @@ fn respond(
     layouts: &mut [u32],
     working: &mut [u32],
     unclaimed: &mut [u32],
-    state: &mut [u32; state::STATE_WORDS],
-    answer: &mut [u32; answer::ANSWER_WORDS],
+    state: &mut [u32; STATE_WORDS],
+    answer: &mut [u32; ANSWER_WORDS],
 ) -> u32
     ensures { λ r. ⌜ returned r layouts working unclaimed state answer ≡ repliedInWords reply (came surfaced) (came styles) (before layouts working unclaimed state answer) ⌝ }
 {
-    let s = state::state_of(&*state);
+    let s = oof_c_words::state::state_of(&*state);
     let step = placer::reply(s, reply, surfaced, styles, layouts, working, unclaimed);
     let a = step.answer;
-    keep(step, state);
-    tell(a, answer)
+    oof_c_words::keep(step, state);
+    oof_c_words::tell(a, answer)
 }
 
 // Both sizes, measured.
@@ -125,8 +81,8 @@ pub extern "C" fn oof_reply_both(
     layouts: &mut [u32],
     working: &mut [u32],
     unclaimed: &mut [u32],
-    state: &mut [u32; state::STATE_WORDS],
-    answer: &mut [u32; answer::ANSWER_WORDS],
+    state: &mut [u32; STATE_WORDS],
+    answer: &mut [u32; ANSWER_WORDS],
 ) -> u32
     ensures { λ r. ⌜ returned r layouts working unclaimed state answer ≡ repliedInWords (Reply.Both (record { width = width; height = height })) [] (came styles) (before layouts working unclaimed state answer) ⌝ }
 {
@@ -152,8 +108,8 @@ pub extern "C" fn oof_reply_width(
     layouts: &mut [u32],
     working: &mut [u32],
     unclaimed: &mut [u32],
-    state: &mut [u32; state::STATE_WORDS],
-    answer: &mut [u32; answer::ANSWER_WORDS],
+    state: &mut [u32; STATE_WORDS],
+    answer: &mut [u32; ANSWER_WORDS],
 ) -> u32
     ensures { λ r. ⌜ returned r layouts working unclaimed state answer ≡ repliedInWords (Reply.Width width) [] (came styles) (before layouts working unclaimed state answer) ⌝ }
 {
@@ -178,8 +134,8 @@ pub extern "C" fn oof_reply_height(
     layouts: &mut [u32],
     working: &mut [u32],
     unclaimed: &mut [u32],
-    state: &mut [u32; state::STATE_WORDS],
-    answer: &mut [u32; answer::ANSWER_WORDS],
+    state: &mut [u32; STATE_WORDS],
+    answer: &mut [u32; ANSWER_WORDS],
 ) -> u32
     ensures { λ r. ⌜ returned r layouts working unclaimed state answer ≡ repliedInWords (Reply.Height height) [] (came styles) (before layouts working unclaimed state answer) ⌝ }
 {
@@ -208,8 +164,8 @@ pub extern "C" fn oof_reply_laid_out(
     layouts: &mut [u32],
     working: &mut [u32],
     unclaimed: &mut [u32],
-    state: &mut [u32; state::STATE_WORDS],
-    answer: &mut [u32; answer::ANSWER_WORDS],
+    state: &mut [u32; STATE_WORDS],
+    answer: &mut [u32; ANSWER_WORDS],
 ) -> u32
     ensures { λ r. ⌜ returned r layouts working unclaimed state answer ≡ repliedInWords (Reply.LaidOut (record { left = left; right = right; top = top; bottom = bottom })) (came surfaced) (came styles) (before layouts working unclaimed state answer) ⌝ }
 {

@@ -1,13 +1,13 @@
 -- What holds in a call that no test before that of room turned down. Assumes nothing.
-use Prim.Native.Nat.{ℕ, zero, suc, _+_, _*_, _-_, _/_, _≤_}
+use Prim.Native.Nat.{ℕ, _+_, _*_, _-_, _/_, _≤_}
 use native.Mathlib.Omega.{arith}
 use native.Mathlib.Nat.{mul-div-le}
-use mathlib.Core.Bool.{Bool, true, false, not, _||_}
+use mathlib.Core.Bool.{true, false, not, _||_}
 use mathlib.Core.List.{List, []}
 use mathlib.Core.Path.{_≡_, refl}
 use lib.Dec.{eqb, ltb}
 use lib.ListN.{length}
-use borrow.Author.Tests.{ltb-false, eqb-true, eqb-false, not-false, le-leb}
+use borrow.Author.Tests.{ltb-false, eqb-true, not-false, le-leb}
 use Rattle.records.specs.Records.{records, room, goodRecords}
 use Rattle.style_record.specs.Record.{styleWords, items}
 use Rattle.tree_record.specs.Candidate.{candidateWidth, candidateKinds}
@@ -21,6 +21,7 @@ use Rattle.run.specs.declared.Opening.{Opening}
 use Rattle.run.specs.declared.State.{State}
 use Rattle.run.specs.declared.Counts.{Counts}
 use Rattle.style.specs.declared.ContainingBlockClaims.{ContainingBlockClaims}
+use Rattle.run.proofs.Ways.{Counted, counted}
 use Rattle.placer_check.specs.Verdict.{thenRoom}
 use Rattle.placer_check.specs.declared.Verdict.the-variants.{Accepted}
 use Rattle.placer_check.proofs.Verdicts.{passed, room-number, neither}
@@ -85,36 +86,6 @@ reply-passed s reply surfaced l e =
       listed = good-below (items (l .styles)) (l .working) (s .counts .filled .working) (fine (l .styles) (l .working) (s .counts .filled .working) (neither (badCandidate (l .styles) (l .working) (s .counts .filled .working)) (badCandidates (l .styles) (lentBy reply surfaced)) (d .0) .0));
       brought = good-below (items (l .styles)) (lentBy reply surfaced) (length (lentBy reply surfaced) / candidateWidth) (fine (l .styles) (lentBy reply surfaced) (length (lentBy reply surfaced) / candidateWidth) (neither (badCandidate (l .styles) (l .working) (s .counts .filled .working)) (badCandidates (l .styles) (lentBy reply surfaced)) (d .0) .1));
     }
-
--- counts that are not wrong, as numbers
-pub record Counted (l : Lent) (c : Counts) : Type 0 where
-  pub working : c .filled .working ≤ length (l .working) / candidateWidth
-  pub unclaimed : c .filled .unclaimed ≤ length (l .unclaimed) / candidateWidth
-  pub first : 1 ≤ c .begun
-  pub begun : c .begun ≤ c .filled .working
-  pub answered : c .answered ≤ 3 * c .begun
-
-positive : (n : ℕ) → (n ≡ 0 → ⊥) → 1 ≤ n
-positive zero f = absurd (f refl)
-positive (suc n) f = omega arith
-
-pub counted : (l : Lent) (c : Counts) → wrongCounts l c ≡ false → Counted l c
-unfolding wrongCounts
-counted l c e =
-    let most = neither (lists || eqb (c .begun) 0 || ltb (c .filled .working) (c .begun)) (ltb (3 * c .begun) (c .answered)) e in
-    let begun = neither (lists || eqb (c .begun) 0) (ltb (c .filled .working) (c .begun)) (most .0) in
-    let first = neither lists (eqb (c .begun) 0) (begun .0) in
-    let held = neither (ltb (length (l .working) / candidateWidth) (c .filled .working)) (ltb (length (l .unclaimed) / candidateWidth) (c .filled .unclaimed)) (first .0) in
-    record {
-      working = ltb-false _ _ (held .0);
-      unclaimed = ltb-false _ _ (held .1);
-      first = positive (c .begun) (eqb-false (c .begun) 0 (first .1));
-      begun = ltb-false _ _ (begun .1);
-      answered = ltb-false _ _ (most .1);
-    }
-  where
-    lists : Bool
-    lists = ltb (length (l .working) / candidateWidth) (c .filled .working) || ltb (length (l .unclaimed) / candidateWidth) (c .filled .unclaimed)
 
 -- the box at hand has its record and its style
 pub at-hand : (s : State) (reply : Reply) (surfaced : List ℕ) (l : Lent) → Passed s reply surfaced l → AtHand (l .styles) (l .working) (s .counts .begun)

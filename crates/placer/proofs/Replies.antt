@@ -1,13 +1,11 @@
 -- A reply, by the ways that the code goes. Assumes nothing.
 use Prim.Native.Nat.{ℕ, _+_, _*_, _<_}
-use mathlib.Core.Bool.{Bool, true, false}
+use mathlib.Core.Bool.{true, false}
 use mathlib.Core.List.{List, [], map}
 use mathlib.Core.Path.{_≡_, refl, sym, ap, _∙_}
-use lib.Ieee.{Float}
 use Rattle.util.proofs.Floats.{no}
 use Rattle.geometry.specs.Geometry.{unionOf}
 use Rattle.geometry.specs.declared.Rect.{Rect}
-use Rattle.geometry.specs.declared.Size.{Size}
 use Rattle.refusal.specs.declared.Refusal.{Refusal}
 use Rattle.records.specs.Records.{written}
 use Rattle.style_record.specs.Decode.{styleAt}
@@ -19,29 +17,25 @@ use Rattle.sweep.specs.declared.Swept.the-variants.{Refused, Into}
 use Rattle.sweep.specs.Sweep as sweep
 use Rattle.sweep.specs.Sweep.{candidatesIn, moved, swept}
 use Rattle.sweep.proofs.Steps.{kept-moved}
-use Rattle.oof_box.specs.Cut.{layoutAfter, taken, takenBoth, takenWidth, takenHeight, takenLaidOut}
+use Rattle.oof_box.specs.Cut.{layoutAfter}
 use Rattle.oof_place.specs.declared.OofBoxLayout.{OofBoxLayout}
 use Rattle.oof_box.specs.declared.question.Replies.{Replies}
 use Rattle.oof_box.specs.declared.question.Reply.{Reply}
 use Rattle.oof_box.specs.declared.question.Reply.the-variants.{Both, Width, Height, LaidOut}
-use Rattle.oof_box.specs.declared.question.Stage.{Stage}
-use Rattle.oof_box.specs.declared.question.Stage.the-variants.{KeywordBoth, KeywordWidth, KeywordHeight, Fill, LayOut}
-use Rattle.oof_box.specs.declared.question.Taken.{Taken}
 use Rattle.oof_box.specs.declared.question.Taken.the-variants.{Wrong, Kept, Laid}
 use Rattle.run.specs.declared.Answer.the-variants as answer
-use Rattle.run.specs.declared.Progress.{Progress}
-use Rattle.run.specs.declared.Progress.the-variants.{Finished, Asking}
 use Rattle.run.specs.declared.State.{State}
 use Rattle.run.specs.declared.Step.{Step}
 use Rattle.run.specs.Call.{Lent, Outcome, outcome}
 use Rattle.run.proofs.Call.{outcome-is}
+use Rattle.run.proofs.Ways.{counted, laid-is, never-kept}
 use Rattle.run.specs.Refusals.{_when_else_, refused, lentBy, listFull}
-use Rattle.run.specs.Run.{boxAtHand, asking, proceeding, takenIn, takenBy, isWrong, replyVerdict, measuredOn, laidOut, repliedBy, replied}
+use Rattle.run.specs.Run.{boxAtHand, asking, proceeding, takenBy, isWrong, replyVerdict, measuredOn, laidOut, repliedBy, replied}
 use Rattle.placer_check.specs.Verdict.{thenRoom}
 use Rattle.placer_check.specs.declared.Verdict.the-variants.{Accepted}
 use Rattle.placer.specs.Entry.{AtHand, ReplyCleared}
 use Rattle.placer.proofs.Sweeps.{was-full, had-room, next-at-hand}
-use Rattle.placer.proofs.Calls.{Passed, reply-passed, counted, none-full}
+use Rattle.placer.proofs.Calls.{Passed, reply-passed, none-full}
 
 -- ---- the box is laid out
 
@@ -86,86 +80,13 @@ module _ (s : State) (overflow : Rect) (surfaced : List ℕ) (l : Lent) where
       rw (f .0)
       (outcome-is (e ∙ rw (f .2, f .1, sym (kept-moved (s .opened .claims) true shift (candidatesIn surfaced)), sym (kept-moved (s .opened .claims) false shift (candidatesIn surfaced))) refl) p (f .2) (f .3))
 
--- ---- what was taken tells the reply's kind
-
-isKept : Taken → Bool
-isKept Wrong = false
-isKept (Kept replies) = true
-isKept (Laid overflow) = false
-
-isLaid : Taken → Bool
-isLaid Wrong = false
-isLaid (Kept replies) = false
-isLaid (Laid overflow) = true
-
--- a lay out reply is never kept
-laid-not-kept : (p : Progress) (r : Replies) (overflow : Rect) → isKept (takenIn p r (LaidOut overflow)) ≡ false
-unfolding isKept taken
-laid-not-kept Finished r overflow = refl
-laid-not-kept (Asking KeywordBoth) r overflow = refl
-laid-not-kept (Asking KeywordWidth) r overflow = refl
-laid-not-kept (Asking KeywordHeight) r overflow = refl
-laid-not-kept (Asking Fill) r overflow = refl
-laid-not-kept (Asking LayOut) r overflow = refl
+-- ---- a measured size lends no candidates
 
 pub kept-lends-none : (s : State) (reply : Reply) (replies : Replies) (surfaced : List ℕ) → takenBy s reply ≡ Kept replies → lentBy reply surfaced ≡ []
-unfolding takenBy isKept
 kept-lends-none s (Both size) replies surfaced e = refl
 kept-lends-none s (Width width) replies surfaced e = refl
 kept-lends-none s (Height height) replies surfaced e = refl
-kept-lends-none s (LaidOut overflow) replies surfaced e = no (ap isKept e) (laid-not-kept (s .progress) (s .replies) overflow)
-
--- a size is never laid out
-module _ (r : Replies) where
-  both-not-laid : (stage : Stage) (size : Size) → isLaid (takenBoth r stage size) ≡ false
-  unfolding isLaid
-  both-not-laid KeywordBoth size = refl
-  both-not-laid KeywordWidth size = refl
-  both-not-laid KeywordHeight size = refl
-  both-not-laid Fill size = refl
-  both-not-laid LayOut size = refl
-
-  width-not-laid : (stage : Stage) (side : Float) → isLaid (takenWidth r stage side) ≡ false
-  unfolding isLaid
-  width-not-laid KeywordBoth side = refl
-  width-not-laid KeywordWidth side = refl
-  width-not-laid KeywordHeight side = refl
-  width-not-laid Fill side = refl
-  width-not-laid LayOut side = refl
-
-  height-not-laid : (stage : Stage) (side : Float) → isLaid (takenHeight r stage side) ≡ false
-  unfolding isLaid
-  height-not-laid KeywordBoth side = refl
-  height-not-laid KeywordWidth side = refl
-  height-not-laid KeywordHeight side = refl
-  height-not-laid Fill side = refl
-  height-not-laid LayOut side = refl
-
--- the rectangle of a box that is laid out
-rectOf : Rect → Taken → Rect
-rectOf other Wrong = other
-rectOf other (Kept replies) = other
-rectOf other (Laid overflow) = overflow
-
-laid-by : (stage : Stage) (given overflow : Rect) → takenLaidOut stage given ≡ Laid overflow → given ≡ overflow
-unfolding isLaid rectOf
-laid-by KeywordBoth given overflow e = no (ap isLaid e) refl
-laid-by KeywordWidth given overflow e = no (ap isLaid e) refl
-laid-by KeywordHeight given overflow e = no (ap isLaid e) refl
-laid-by Fill given overflow e = no (ap isLaid e) refl
-laid-by LayOut given overflow e = ap (rectOf given) e
-
-laid-in : (p : Progress) (r : Replies) (reply : Reply) (overflow : Rect) → takenIn p r reply ≡ Laid overflow → reply ≡ LaidOut overflow
-unfolding isLaid taken
-laid-in Finished r reply overflow e = no (ap isLaid e) refl
-laid-in (Asking stage) r (Both size) overflow e = no (ap isLaid e) (both-not-laid r stage size)
-laid-in (Asking stage) r (Width width) overflow e = no (ap isLaid e) (width-not-laid r stage width)
-laid-in (Asking stage) r (Height height) overflow e = no (ap isLaid e) (height-not-laid r stage height)
-laid-in (Asking stage) r (LaidOut given) overflow e = ap LaidOut (laid-by stage given overflow e)
-
-pub laid-is : (s : State) (reply : Reply) (overflow : Rect) → takenBy s reply ≡ Laid overflow → reply ≡ LaidOut overflow
-unfolding takenBy
-laid-is s reply overflow e = laid-in (s .progress) (s .replies) reply overflow e
+kept-lends-none s (LaidOut overflow) replies surfaced e = never-kept s overflow e
 
 -- ---- the entry
 

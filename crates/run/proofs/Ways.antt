@@ -1,12 +1,12 @@
 -- What a call comes to, by cases: the one place where the definitions of `specs/Run.antt` are taken apart. Assumes nothing.
-use Prim.Native.Nat.{ℕ, _+_, _/_, _<_, _≤_}
+use Prim.Native.Nat.{ℕ, zero, suc, _+_, _*_, _/_, _<_, _≤_}
 use native.Mathlib.Omega.{arith}
 use mathlib.Core.Path.{_≡_, refl, ap}
 use mathlib.Core.Bool.{Bool, true, false, _||_}
 use mathlib.Core.List.{List}
-use lib.Dec.{ltb}
+use lib.Dec.{eqb, ltb}
 use lib.ListN.{length}
-use borrow.Author.Tests.{ltb-true, ltb-false, leb-true, not-false}
+use borrow.Author.Tests.{ltb-true, ltb-false, eqb-false, leb-true, not-false}
 use Rattle.util.proofs.Floats.{no}
 use Rattle.geometry.specs.declared.Rect.{Rect}
 use Rattle.refusal.specs.declared.Refusal.{Refusal}
@@ -32,7 +32,7 @@ use Rattle.run.specs.declared.Progress.the-variants.{Finished, Asking}
 use Rattle.run.specs.declared.State.{State}
 use Rattle.run.specs.declared.Answer.the-variants.{Refused}
 use Rattle.run.specs.Call.{Lent, unwritten}
-use Rattle.run.specs.Refusals.{Verdict, accepted, refused, _when_else_, ragged, badTable, badSlices, badList, listFull, lentBy}
+use Rattle.run.specs.Refusals.{Verdict, accepted, refused, _when_else_, ragged, badTable, badSlices, badList, listFull, lentBy, wrongCounts}
 use Rattle.run.specs.Run.{asking, finishing, proceeding, closed, begun, opened, claimsOf, noneFilled, openingVerdict, measuredOn, laidOut, refusing, replyVerdict, takenIn, takenBy, replied}
 
 -- ---- the next box, or the finish
@@ -146,34 +146,89 @@ unfolding replyVerdict
 reply-room s reply surfaced lent e =
     enough (s .opened .claims) lent (s .counts .filled) (lentBy reply surfaced) (passed _ _ _ (passed _ _ _ (passed _ _ _ (passed _ _ _ (passed _ _ _ e .1) .1) .1) .1) .0)
 
--- only a lay out reply is taken as one, and its surfaced slice is lent
+-- ---- counts that are not wrong, as numbers
+
+pub record Counted (lent : Lent) (counts : Counts) : Type 0 where
+  pub working : counts .filled .working ≤ length (lent .working) / candidateWidth
+  pub unclaimed : counts .filled .unclaimed ≤ length (lent .unclaimed) / candidateWidth
+  pub first : 1 ≤ counts .begun
+  pub begun : counts .begun ≤ counts .filled .working
+  pub answered : counts .answered ≤ 3 * counts .begun
+
+positive : (n : ℕ) → (n ≡ 0 → ⊥) → 1 ≤ n
+positive zero f = absurd (f refl)
+positive (suc n) f = omega arith
+
+pub counted : (lent : Lent) (counts : Counts) → wrongCounts lent counts ≡ false → Counted lent counts
+unfolding wrongCounts
+counted lent counts e =
+    let most = neither (lists || eqb (counts .begun) 0 || ltb (counts .filled .working) (counts .begun)) (ltb (3 * counts .begun) (counts .answered)) e in
+    let begun = neither (lists || eqb (counts .begun) 0) (ltb (counts .filled .working) (counts .begun)) (most .0) in
+    let first = neither lists (eqb (counts .begun) 0) (begun .0) in
+    let held = neither (ltb (length (lent .working) / candidateWidth) (counts .filled .working)) (ltb (length (lent .unclaimed) / candidateWidth) (counts .filled .unclaimed)) (first .0) in
+    record {
+      working = ltb-false _ _ (held .0);
+      unclaimed = ltb-false _ _ (held .1);
+      first = positive (counts .begun) (eqb-false (counts .begun) 0 (first .1));
+      begun = ltb-false _ _ (begun .1);
+      answered = ltb-false _ _ (most .1);
+    }
+  where
+    lists : Bool
+    lists = ltb (length (lent .working) / candidateWidth) (counts .filled .working) || ltb (length (lent .unclaimed) / candidateWidth) (counts .filled .unclaimed)
+
+-- ---- what was taken tells the reply's kind
+
+isLaid : Taken → Bool
+isLaid Wrong = false
+isLaid (Kept r) = false
+isLaid (Laid overflow) = true
+
+-- the rectangle of a box that is laid out
+laidRect : Rect → Taken → Rect
+laidRect other Wrong = other
+laidRect other (Kept r) = other
+laidRect other (Laid overflow) = overflow
+
+-- only a lay out reply is taken as one
+laid-by : (r : Replies) (stage : Stage) (given : Reply) (overflow : Rect) → taken r stage given ≡ Laid overflow → given ≡ reply.LaidOut overflow
+unfolding taken isLaid laidRect
+laid-by r stage given overflow e = go stage given e (ap isLaid e)
+  where
+    go : (stage : Stage) (given : Reply) → taken r stage given ≡ Laid overflow → isLaid (taken r stage given) ≡ true → given ≡ reply.LaidOut overflow
+    go KeywordBoth (reply.Both s) e f = no f refl
+    go KeywordWidth (reply.Both s) e f = no f refl
+    go KeywordHeight (reply.Both s) e f = no f refl
+    go Fill (reply.Both s) e f = no f refl
+    go LayOut (reply.Both s) e f = no f refl
+    go KeywordBoth (reply.Width w) e f = no f refl
+    go KeywordWidth (reply.Width w) e f = no f refl
+    go KeywordHeight (reply.Width w) e f = no f refl
+    go Fill (reply.Width w) e f = no f refl
+    go LayOut (reply.Width w) e f = no f refl
+    go KeywordBoth (reply.Height h) e f = no f refl
+    go KeywordWidth (reply.Height h) e f = no f refl
+    go KeywordHeight (reply.Height h) e f = no f refl
+    go Fill (reply.Height h) e f = no f refl
+    go LayOut (reply.Height h) e f = no f refl
+    go KeywordBoth (reply.LaidOut rect) e f = no f refl
+    go KeywordWidth (reply.LaidOut rect) e f = no f refl
+    go KeywordHeight (reply.LaidOut rect) e f = no f refl
+    go Fill (reply.LaidOut rect) e f = no f refl
+    go LayOut (reply.LaidOut rect) e f = ap (λ (t : Taken). reply.LaidOut (laidRect rect t)) e
+
+pub laid-is : (s : State) (given : Reply) (overflow : Rect) → takenBy s given ≡ Laid overflow → given ≡ reply.LaidOut overflow
+unfolding takenBy isLaid
+laid-is s given overflow e = go (s .progress) e
+  where
+    go : (p : Progress) → takenIn p (s .replies) given ≡ Laid overflow → given ≡ reply.LaidOut overflow
+    go Finished e = no (ap isLaid e) refl
+    go (Asking stage) e = laid-by (s .replies) stage given overflow e
+
+-- and its surfaced slice is lent
 pub lent-all : (r : Replies) (stage : Stage) (given : Reply) (surfaced : List ℕ) {overflow : Rect} → taken r stage given ≡ Laid overflow
     → lentBy given surfaced ≡ surfaced
-unfolding taken
-lent-all r stage given surfaced e = go stage given (ap isLaid e)
-  where
-    isLaid : Taken → Bool
-    isLaid Wrong = false
-    isLaid (Kept r) = false
-    isLaid (Laid overflow) = true
-
-    go : (stage : Stage) (given : Reply) → isLaid (taken r stage given) ≡ true → lentBy given surfaced ≡ surfaced
-    go KeywordBoth (reply.Both s) e = no e refl
-    go KeywordWidth (reply.Both s) e = no e refl
-    go KeywordHeight (reply.Both s) e = no e refl
-    go Fill (reply.Both s) e = no e refl
-    go LayOut (reply.Both s) e = no e refl
-    go KeywordBoth (reply.Width w) e = no e refl
-    go KeywordWidth (reply.Width w) e = no e refl
-    go KeywordHeight (reply.Width w) e = no e refl
-    go Fill (reply.Width w) e = no e refl
-    go LayOut (reply.Width w) e = no e refl
-    go KeywordBoth (reply.Height h) e = no e refl
-    go KeywordWidth (reply.Height h) e = no e refl
-    go KeywordHeight (reply.Height h) e = no e refl
-    go Fill (reply.Height h) e = no e refl
-    go LayOut (reply.Height h) e = no e refl
-    go stage (reply.LaidOut overflow) e = refl
+lent-all r stage given surfaced {overflow = overflow} e = ap (λ (g : Reply). lentBy g surfaced) (laid-by r stage given overflow e)
 
 -- a lay out reply is never kept as a measure
 pub never-kept : {A : Type 0} (s : State) (overflow : Rect) {replies : Replies} → takenBy s (reply.LaidOut overflow) ≡ Kept replies → A

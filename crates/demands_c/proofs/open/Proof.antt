@@ -1,5 +1,5 @@
 -- Generated skeleton (tools/proof/write-skeletons), answers by hand.
-use Rattle.oof_c.specs.Entry.{words, openingOf}
+use Rattle.oof_c_words.specs.Entry.{words, openingOf}
 use Rattle.demands_c.proofs.Demands.{opening-demands}
 use borrow.Author.Needs.{needs}
 use Rattle.demands_c.proofs.open.Statement.{statement}

@@ -1,13 +1,13 @@
 -- Generated skeleton (tools/proof/write-skeletons), answers by hand.
-use Rattle.oof_c.specs.Entry.{words, openingOf}
+use Rattle.oof_c_words.specs.Entry.{words, openingOf}
 use Rattle.oof_c.proofs.Calls.{opened-in-words}
 use borrow.Author.Needs.{needs}
 use Rattle.oof_c.proofs.oof_open.Statement.{statement}
 use Rattle.oof_c.proofs.oof_open.Tie as tie
 use Rattle.oof_c.proofs.oof_open.Reads as reads
 use Rattle.oof_c.proofs.oof_open.Lts as lts
-use Rattle.oof_c.proofs.state.state_words.Reads as state-words-reads
-use Rattle.oof_c.proofs.tell.Reads as tell-reads
+use Rattle.oof_c_words.proofs.state.state_words.Reads as state-words-reads
+use Rattle.oof_c_words.proofs.tell.Reads as tell-reads
 use Rattle.placer.proofs.open.Reads as open-reads
 
 open-requires : tie.Need-open-requires

@@ -1,14 +1,14 @@
 -- Generated skeleton (tools/proof/write-skeletons), answers by hand.
-use Rattle.oof_c.specs.Entry.{words}
+use Rattle.oof_c_words.specs.Entry.{words}
 use Rattle.oof_c.proofs.Calls.{replied-in-words}
 use borrow.Author.Needs.{needs}
 use Rattle.oof_c.proofs.respond.Statement.{statement}
 use Rattle.oof_c.proofs.respond.Tie as tie
 use Rattle.oof_c.proofs.respond.Reads as reads
 use Rattle.oof_c.proofs.respond.Lts as lts
-use Rattle.oof_c.proofs.keep.Reads as keep-reads
-use Rattle.oof_c.proofs.state.state_of.Reads as state-of-reads
-use Rattle.oof_c.proofs.tell.Reads as tell-reads
+use Rattle.oof_c_words.proofs.keep.Reads as keep-reads
+use Rattle.oof_c_words.proofs.state.state_of.Reads as state-of-reads
+use Rattle.oof_c_words.proofs.tell.Reads as tell-reads
 use Rattle.placer.proofs.reply.Reads as reply-reads
 
 state-of-requires : tie.Need-state-of-requires

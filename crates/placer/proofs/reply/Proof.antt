@@ -1,6 +1,7 @@
 -- Generated skeleton (tools/proof/write-skeletons), answers by hand.
 use Rattle.placer.proofs.Replies.{turned-down, not-wrong, kept, cleared-laid, laid}
-use Rattle.placer.proofs.Calls.{reply-passed, counted, at-hand}
+use Rattle.run.proofs.Ways.{counted}
+use Rattle.placer.proofs.Calls.{reply-passed, at-hand}
 use Rattle.run.specs.Call.{lent}
 use mathlib.Core.Path.{sym, _∙_}
 use borrow.Author.Needs.{needs}
