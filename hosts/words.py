@@ -38,7 +38,7 @@ def codes(path, name, prefix, names=None):
 RESOLVE = "style/specs/Resolve.antt"
 RECORD, DECODE = "style_record/specs/Record.antt", "style_record/specs/Decode.antt"
 CANDIDATE, LAYOUT = "tree_record/specs/Candidate.antt", "tree_record/specs/Layout.antt"
-STATE, ANSWER = "oof_c/specs/StateWords.antt", "oof_c/specs/AnswerWords.antt"
+STATE, ANSWER = "oof_c_words/specs/StateWords.antt", "oof_c_words/specs/AnswerWords.antt"
 SIDES = ["LEFT", "RIGHT", "TOP", "BOTTOM"]
 known = {}
 for name in ("lengthWords", "lengths", "codeWords", "afterLengths", "styleWords"):
@@ -154,7 +154,7 @@ def tags():
 def wanted():
     out = style() | candidate() | layout() | state() | answer() | tags()
     out |= {"STYLE_WORDS": known["styleWords"], "CANDIDATE_WORDS": number(CANDIDATE, "candidateWidth"), "LAYOUT_WORDS": number(LAYOUT, "layoutWidth")}
-    for name, path in (("STATE_WORDS", "oof_c/src/state.rt"), ("ANSWER_WORDS", "oof_c/src/answer.rt")):
+    for name, path in (("STATE_WORDS", "oof_c_words/src/state.rt"), ("ANSWER_WORDS", "oof_c_words/src/answer.rt")):
         out[name] = int(re.search(rf"const {name}: usize = (\d+);", text(path))[1])
     refusals = text("run/specs/Refusals.antt")
     out |= {"MOST_ITEMS": int(re.search(r"ltb (\d+) \(items", refusals)[1]), "MOST_RECORDS": int(re.search(r"ltb (\d+) \(length list", refusals)[1])}
