@@ -4,7 +4,7 @@ ghost use mathlib.Core.Path.{_≡_};
 ghost use lib.ListN.{length};
 use boxlist_print::LIST_BYTES;
 use libc::STDOUT_FILENO;
-use screen::format;
+use screen_fields::format;
 
 // One byte more than the longest screen.
 const ROOM: usize = format::MAX_BYTES + 1;
