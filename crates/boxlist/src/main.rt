@@ -7,7 +7,7 @@ ghost use Rattle.boxlist.specs.Input.{bytesOf};
 use boxlist_print::LIST_BYTES;
 use libc::STDIN_FILENO;
 use libc::STDOUT_FILENO;
-use screen::format;
+use screen_fields::format;
 
 // One byte more than the longest screen: of a longer text no more is read, and it is no screen either.
 const ROOM: usize = format::MAX_BYTES + 1;

@@ -12,7 +12,7 @@ use Rattle.refusal.specs.declared.Refusal.the-variants.{BadScreenLine}
 use Rattle.refusal.specs.Refusal.{numberOf}
 use Rattle.boxlist_lines.specs.Lines.{refusalText}
 use Rattle.boxlist_lines.proofs.Laws.{list-bytes, refusal-bytes}
-use Rattle.screen.specs.Format.{MAX-CANDIDATES}
+use Rattle.screen_fields.specs.Format.{MAX-CANDIDATES}
 use Rattle.screen.specs.Screen.{isScreen, itemCount, headerOf, stylesOf, repliesOf, candidatesOf}
 use Rattle.screen.proofs.Laws.{screen-size}
 use Rattle.run.specs.declared.Opening.{Opening}

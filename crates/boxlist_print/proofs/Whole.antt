@@ -10,7 +10,7 @@ use lib.Seq.{sets, sets-eq, take-at}
 use Rattle.refusal.specs.Refusal.{numberOf}
 use Rattle.refusal.specs.declared.Refusal.the-variants.{BadScreenLine}
 use Rattle.boxlist_lines.specs.Lines.{refusalText}
-use Rattle.screen.specs.Format.{firstFields, MAX-ITEMS, MAX-CANDIDATES}
+use Rattle.screen_fields.specs.Format.{firstFields, MAX-ITEMS, MAX-CANDIDATES}
 use Rattle.screen.specs.Screen.{isScreen, headerOf, stylesOf, repliesOf, candidatesOf, written}
 use Rattle.screen.proofs.Lines.{words-length}
 use Rattle.screen.proofs.Laws.{screen-words}

@@ -11,7 +11,7 @@ use Rattle.refusal.specs.declared.Refusal.the-variants.{BadArea, BadStyle, BadC
 use Rattle.refusal.specs.Refusal.{numberOf}
 use Rattle.boxlist_lines.specs.declared.list.Row.{Row}
 use Rattle.boxlist_lines.specs.Lines.{listText, refusalText}
-use Rattle.screen.specs.Format.{MAX-CANDIDATES}
+use Rattle.screen_fields.specs.Format.{MAX-CANDIDATES}
 use Rattle.screen.specs.Screen.{isScreen, headerOf, stylesOf, candidatesOf}
 use Rattle.screen.specs.Laws.{IsScreen}
 use Rattle.run.specs.Conditions.{AreaIsBad, StyleIsBad, places, CandidateIsBad, FirstIs, NoneHolds}

@@ -6,7 +6,7 @@ use lib.ListN.{getD, replicate}
 use Rattle.refusal.specs.Refusal.{numberOf}
 use Rattle.refusal.specs.declared.Refusal.the-variants.{BadScreenLine}
 use Rattle.boxlist_lines.specs.Lines.{ROW, OVERFLOW, listText, refusalText}
-use Rattle.screen.specs.Format.{MAX-CANDIDATES}
+use Rattle.screen_fields.specs.Format.{MAX-CANDIDATES}
 use Rattle.screen.specs.Screen.{isScreen, itemCount, headerOf, stylesOf, repliesOf, candidatesOf}
 use Rattle.tree_record.specs.Candidate.{candidateWidth, floatAt}
 use Rattle.tree_record.specs.Layout.{layoutWidth}

@@ -2,7 +2,7 @@
 ghost use mathlib.Core.Path.{_≡_};
 ghost use Prim.Native.Nat.{_*_, _≤_};
 ghost use lib.ListN.{length, take};
-ghost use Rattle.screen.specs.Format.{MAX-ITEMS, MAX-CANDIDATES};
+ghost use Rattle.screen_fields.specs.Format.{MAX-ITEMS, MAX-CANDIDATES};
 ghost use Rattle.style_record.specs.Record.{styleWords};
 ghost use Rattle.tree_record.specs.Candidate.{candidateWidth};
 ghost use Rattle.tree_record.specs.Layout.{layoutWidth};
@@ -19,7 +19,7 @@ use rows::word_at;
 use run::Answer;
 use run::Opening;
 use screen::Screen;
-use screen::format;
+use screen_fields::format;
 use style_record::words::STYLE_WORDS;
 use tree::layout::OofPositioningArea;
 use tree_record::candidate::CANDIDATE_WORDS;

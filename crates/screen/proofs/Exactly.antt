@@ -1,106 +1,23 @@
 -- A text passes the test of a screen exactly where it is one. Assumes nothing.
-use Prim.Native.Nat.{ℕ, zero, suc, _+_, _-_, _*_, _<_, _≤_}
+use Prim.Native.Nat.{ℕ, zero, suc, _+_, _*_, _<_}
 use native.Mathlib.Omega.{arith}
 use native.Mathlib.Nat.{zero-mul, suc-mul}
-use mathlib.Core.Logic.{_↔_}
 use mathlib.Core.Path.{_≡_, refl, sym, ap, subst, _∙_}
-use mathlib.Core.Bool.{Bool, true, false, cond, _&&_}
+use mathlib.Core.Bool.{Bool, true, false, _&&_}
 use mathlib.Core.List.{List, [], _∷_, _++_}
-use lib.Dec.{eqb, leb, ltb}
-use lib.ListN.{length, take, drop, getD, replicate, take-append-drop, length-append}
+use lib.Dec.{eqb, leb}
+use lib.ListN.{length, take, drop, getD, take-append-drop, length-append}
 use lib.Seq.{length-take-le, take-at, drop-at, drop-drop, drop-length, getD-drop}
-use borrow.Author.Tests.{eqb-true, eq-eqb, ne-eqb, leb-true, le-leb, ltb-false, le-ltb}
+use borrow.Author.Tests.{eqb-true, eq-eqb, leb-true, le-leb}
 use Rattle.util.proofs.Floats.{no}
-use Rattle.util.specs.Eighths.{floatOfCount}
-use Rattle.screen.specs.declared.format.Kind.{Kind}
-use Rattle.screen.specs.declared.format.Kind.the-variants.{Code, Eighths}
-use Rattle.screen.specs.declared.format.Line.{Line}
-use Rattle.screen.specs.declared.format.Line.the-variants.{First, Item, Candidate}
-use Rattle.screen.specs.declared.field.Numeral.{Numeral}
-use Rattle.screen.specs.declared.field.Numeral.the-variants.{Malformed, Number}
-use Rattle.screen.specs.declared.field.Word.the-variants.{Wrong, Of}
-use Rattle.screen.specs.Format.{fieldsOf, bytesOf}
-use Rattle.screen.specs.Field.{isDigit, unblank, spelled, unsigned, signed, numeralOf, codeOf, present, floatOf, wordOf, isGood}
+use Rattle.screen_fields.specs.declared.format.Kind.{Kind}
+use Rattle.screen_fields.specs.declared.format.Line.{Line}
+use Rattle.screen_fields.specs.declared.format.Line.the-variants.{First, Item, Candidate}
+use Rattle.screen_fields.specs.Format.{fieldsOf, bytesOf}
+use Rattle.screen_fields.specs.Field.{wordOf, isGood}
 use Rattle.screen.specs.Screen.{goodFields, goodLine, goodLines, itemCount, candidateCount, candidatesAt, screenBytes, isScreen}
-use Rattle.screen.specs.Laws.{allDigits, decimal, Sign, minus, plus, none, Spelling, InRange, GoodField, StartsLine, feed, field, StartsLines, nothing, line, IsScreen, ScreenExactly}
-use Rattle.screen.proofs.Text.{digit-low}
-use Rattle.screen.proofs.Laws.{field-shape}
-
--- ---- a field
-
-all-spelled : (bs : List ℕ) (s : Bool) (v : ℕ) → allDigits bs ≡ true → spelled s v bs ≡ Number s (decimal v bs)
-unfolding spelled allDigits decimal
-all-spelled [] s v e = refl
-all-spelled (b ∷ bs) s v e = go (isDigit b) (all-spelled bs s (v * 10 + (b - 48))) e
-  where
-    go : (c : Bool) → (allDigits bs ≡ true → spelled s (v * 10 + (b - 48)) bs ≡ Number s (decimal (v * 10 + (b - 48)) bs)) → (c && allDigits bs) ≡ true
-        → cond c (spelled s (v * 10 + (b - 48)) bs) Malformed ≡ Number s (decimal (v * 10 + (b - 48)) bs)
-    go true f e = f e
-    go false f e = no {b = false} e refl
-
-digits-read : (bs : List ℕ) (s : Bool) → 0 < length bs → allDigits bs ≡ true → unsigned s bs ≡ Number s (decimal 0 bs)
-unfolding unsigned
-digits-read [] s h e = absurd (omega arith)
-digits-read (b ∷ bs) s h e = all-spelled (b ∷ bs) s 0 e
-
-signed-read : {s : Bool} {sign : List ℕ} (digits : List ℕ) → Sign s sign → 0 < length digits → allDigits digits ≡ true
-    → numeralOf (sign ++ digits) ≡ Number s (decimal 0 digits)
-unfolding numeralOf unblank signed allDigits
-signed-read digits minus h e = digits-read digits true h e
-signed-read digits plus h e = digits-read digits false h e
-signed-read [] none h e = absurd (omega arith)
-signed-read (d ∷ ds) none h e = plain (first (isDigit d) refl e)
-  where
-    first : (c : Bool) → isDigit d ≡ c → (c && allDigits ds) ≡ true → 48 ≤ d
-    first true p e = digit-low d p
-    first false p e = no {b = false} e refl
-
-    plain : 48 ≤ d → signed (unblank (d ∷ ds)) ≡ Number false (decimal 0 (d ∷ ds))
-    plain l =
-        rw (ne-eqb d 32 (λ x. absurd (omega arith))) (rw (ne-eqb d 45 (λ x. absurd (omega arith)), ne-eqb d 43 (λ x. absurd (omega arith))) (digits-read (d ∷ ds) false h e))
-
-blanks-read : (n : ℕ) (bs : List ℕ) → numeralOf (replicate n 32 ++ bs) ≡ numeralOf bs
-unfolding numeralOf unblank
-blanks-read zero bs = refl
-blanks-read (suc n) bs = blanks-read n bs
-
-spelling-read : (bs : List ℕ) (s : Bool) (n : ℕ) → Spelling bs s n → numeralOf bs ≡ Number s n
-spelling-read bs s n x =
-    ap numeralOf (x .whole) ∙ blanks-read (x .blanks) (x .sign ++ x .digits) ∙ signed-read (x .digits) (x .signed) (x .some) (x .all) ∙ ap (Number s) (x .value)
-
--- a number in range, and only such a one, is a word
-in-range : (k : Kind) (s : Bool) (n : ℕ) (bs : List ℕ) → numeralOf bs ≡ Number s n → (isGood (wordOf k bs) ≡ true) ↔ InRange k s n
-unfolding wordOf codeOf floatOf floatOfCount present isGood
-in-range Code true n bs e = rw e (λ t. go (eqb n 0) refl t, λ z. rw (eq-eqb n 0 z) refl)
-  where
-    go : (c : Bool) → eqb n 0 ≡ c → isGood (cond c (Of 0) Wrong) ≡ true → n ≡ 0
-    go true p t = eqb-true n 0 p
-    go false p t = no {b = false} t refl
-in-range Code false n bs e = rw e (λ t. go (leb n 4294967295) refl t, λ h. rw (le-leb n 4294967295 h) refl)
-  where
-    go : (c : Bool) → leb n 4294967295 ≡ c → isGood (cond c (Of n) Wrong) ≡ true → n ≤ 4294967295
-    go true p t = leb-true n 4294967295 p
-    go false p t = no {b = false} t refl
-in-range Eighths s n bs e = rw e (λ t. go (ltb 9999999 n) refl t, λ h. rw (le-ltb 9999999 n h) refl)
-  where
-    go : (c : Bool) → ltb 9999999 n ≡ c → isGood (floatOf (Number s n)) ≡ true → n ≤ 9999999
-    go true p t = no {b = false} (rw p at t) refl
-    go false p t = ltb-false 9999999 n p
-
-malformed : (k : Kind) (bs : List ℕ) → numeralOf bs ≡ Malformed → isGood (wordOf k bs) ≡ false
-unfolding wordOf codeOf floatOf isGood
-malformed Code bs e = rw e refl
-malformed Eighths bs e = rw e refl
-
-field-good : (k : Kind) (bs : List ℕ) → length bs ≡ 11 → isGood (wordOf k bs) ≡ true → GoodField k bs
-field-good k bs l t = go (numeralOf bs) refl
-  where
-    go : (x : Numeral) → numeralOf bs ≡ x → GoodField k bs
-    go Malformed e = no t (malformed k bs e)
-    go (Number s n) e = record { width = l; negative = s; number = n; spelling = field-shape bs s n e; range = in-range k s n bs e .0 t }
-
-good-field : (k : Kind) (bs : List ℕ) → GoodField k bs → isGood (wordOf k bs) ≡ true
-good-field k bs g = in-range k (g .negative) (g .number) bs (spelling-read bs (g .negative) (g .number) (g .spelling)) .1 (g .range)
+use Rattle.screen.specs.Laws.{StartsLine, feed, field, StartsLines, nothing, line, IsScreen, ScreenExactly}
+use Rattle.screen_fields.proofs.Good.{field-good, good-field}
 
 -- ---- a line
 

@@ -10,16 +10,16 @@ use lib.ListN.{length, take, drop, getD, set, length-drop, drop-of-length-le}
 use lib.Seq.{sets, drop-cons, drop-drop, getD-drop, length-take-le}
 use lib.Dec.{eqb}
 use Rattle.boxlist_lines.proofs.Stores.{sets-append}
-use Rattle.screen.specs.declared.format.Kind.{Kind}
-use Rattle.screen.specs.declared.format.Kind.the-variants.{Code}
-use Rattle.screen.specs.declared.format.Line.{Line}
-use Rattle.screen.specs.declared.format.Line.the-variants.{First, Item, Candidate}
-use Rattle.screen.specs.Format.{fieldsOf, COLUMNS, bytesOf}
-use Rattle.screen.specs.Field.{wordOf, isGood, valueOf}
-use Rattle.screen.specs.Place.{part}
+use Rattle.screen_fields.specs.declared.format.Kind.{Kind}
+use Rattle.screen_fields.specs.declared.format.Kind.the-variants.{Code}
+use Rattle.screen_fields.specs.declared.format.Line.{Line}
+use Rattle.screen_fields.specs.declared.format.Line.the-variants.{First, Item, Candidate}
+use Rattle.screen_fields.specs.Format.{fieldsOf, COLUMNS, bytesOf}
+use Rattle.screen_fields.specs.Field.{wordOf, isGood, valueOf}
+use Rattle.screen_fields.specs.Place.{part}
 use Rattle.screen.specs.Screen.{goodFields, goodLine, goodLines, wordsOf, rowsOf}
-use Rattle.screen.proofs.Text.{turn, done}
-use Rattle.screen.proofs.Table.{first-width, item-width, candidate-width}
+use Rattle.screen_fields.proofs.Text.{turn, done}
+use Rattle.screen_fields.proofs.Table.{first-width, item-width, candidate-width}
 
 next : (at j : ℕ) → at + COLUMNS * j + COLUMNS ≡ at + COLUMNS * (j + 1)
 next at j = omega arith

@@ -8,15 +8,15 @@ use lib.ListN.{length, take, drop, List·getD-eq-default}
 use lib.Seq.{sets}
 use lib.Dec.{eqb, leb, lit<}
 use borrow.Author.Tests.{le-leb, lt-leb, leb-true, eq-eqb, ne-eqb, eqb-true}
-use Rattle.screen.specs.declared.format.Kind.the-variants.{Code}
-use Rattle.screen.specs.declared.format.Line.the-variants.{First, Item, Candidate}
+use Rattle.screen_fields.specs.declared.format.Kind.the-variants.{Code}
+use Rattle.screen_fields.specs.declared.format.Line.the-variants.{First, Item, Candidate}
 use Rattle.screen.specs.declared.Screen.the-variants.{BadLine, Read}
-use Rattle.screen.specs.Format.{firstFields, styleFields, replyFields, candidateFields, fieldsOf, ITEM-COUNT, CANDIDATE-COUNT, COLUMNS, bytesOf, MAX-ITEMS, MAX-CANDIDATES}
-use Rattle.screen.specs.Field.{wordOf, valueOf}
-use Rattle.screen.specs.Place.{part}
+use Rattle.screen_fields.specs.Format.{firstFields, styleFields, replyFields, candidateFields, fieldsOf, ITEM-COUNT, CANDIDATE-COUNT, COLUMNS, bytesOf, MAX-ITEMS, MAX-CANDIDATES}
+use Rattle.screen_fields.specs.Field.{wordOf, valueOf}
+use Rattle.screen_fields.specs.Place.{part}
 use Rattle.screen.specs.Screen.{goodFields, goodLine, goodLines, wordsOf, rowsOf, headerOf, itemCount, candidateCount, candidatesAt, screenBytes, isScreen, answerOf, stylesOf, repliesOf, candidatesOf, written}
-use Rattle.screen.proofs.Text.{apart}
-use Rattle.screen.proofs.Table.{FIRST, ITEM, CANDIDATE, first-width, first-bytes, item-bytes, candidate-bytes}
+use Rattle.screen_fields.proofs.Text.{apart}
+use Rattle.screen_fields.proofs.Table.{FIRST, ITEM, CANDIDATE, first-width, first-bytes, item-bytes, candidate-bytes}
 use Rattle.screen.proofs.Lines.{words-at}
 
 -- ---- sizes

@@ -1,5 +1,2 @@
-pub mod Format
-pub mod Field
-pub mod Place
 pub mod Screen
 pub mod Laws

@@ -6,13 +6,13 @@ use mathlib.Core.List.{List, [], _∷_, _++_}
 use lib.ListN.{length, take, drop, getD}
 use lib.Seq.{sets}
 use lib.Dec.{eqb, leb}
-use Rattle.screen.specs.declared.format.Kind.{Kind}
-use Rattle.screen.specs.declared.format.Line.{Line}
-use Rattle.screen.specs.declared.format.Line.the-variants.{First, Item, Candidate}
+use Rattle.screen_fields.specs.declared.format.Kind.{Kind}
+use Rattle.screen_fields.specs.declared.format.Line.{Line}
+use Rattle.screen_fields.specs.declared.format.Line.the-variants.{First, Item, Candidate}
 use Rattle.screen.specs.declared.Screen.{Screen}
 use Rattle.screen.specs.declared.Screen.the-variants.{BadLine, Read}
-use Rattle.screen.specs.Format.{firstFields, styleFields, replyFields, candidateFields, fieldsOf, ITEM-COUNT, CANDIDATE-COUNT, COLUMNS, bytesOf, MAX-ITEMS, MAX-CANDIDATES}
-use Rattle.screen.specs.Field.{wordOf, isGood, valueOf}
+use Rattle.screen_fields.specs.Format.{firstFields, styleFields, replyFields, candidateFields, fieldsOf, ITEM-COUNT, CANDIDATE-COUNT, COLUMNS, bytesOf, MAX-ITEMS, MAX-CANDIDATES}
+use Rattle.screen_fields.specs.Field.{wordOf, isGood, valueOf}
 
 -- ---- lines
 

@@ -8,7 +8,7 @@ use geometry::Rect;
 use geometry::Size;
 use libc::STDOUT_FILENO;
 use screen::Screen;
-use screen::format;
+use screen_fields::format;
 use style_record::words::STYLE_WORDS;
 use tree_record::candidate::CANDIDATE_WORDS;
 use util::bits;

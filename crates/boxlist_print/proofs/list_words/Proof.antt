@@ -2,7 +2,7 @@
 use Prim.Native.Nat.{_*_}
 use native.Mathlib.Nat.{mul-le-mul-right}
 use Rattle.tree_record.specs.Layout.{layoutWidth}
-use Rattle.screen.specs.Format.{MAX-ITEMS}
+use Rattle.screen_fields.specs.Format.{MAX-ITEMS}
 use Rattle.boxlist_print.proofs.Whole.{zeros}
 use borrow.Author.Needs.{needs}
 use Rattle.boxlist_print.proofs.list_words.Statement.{statement}

@@ -1,7 +1,7 @@
 -- Generated skeleton (tools/proof/write-skeletons), answers by hand.
 use native.Mathlib.Omega.{arith}
 use mathlib.Core.Path.{sym, _∙_}
-use Rattle.screen.proofs.Table.{first-bytes, item-bytes, candidate-bytes}
+use Rattle.screen_fields.proofs.Table.{first-bytes, item-bytes, candidate-bytes}
 use Rattle.screen.proofs.Whole.{items-told, candidates-told, too-short, first-bad, items-over, candidates-over, bytes-differ, items-bad, candidates-bad, all-good}
 use borrow.Author.Needs.{needs}
 use Rattle.screen.proofs.check_screen.Statement.{statement}

@@ -4,16 +4,16 @@ use Prim.Native.Nat.{_≤_, _-_, _+_, _*_}
 use native.Mathlib.Nat.{add-zero}
 use mathlib.Core.Path.{_≡_, refl, sym, _∙_}
 use lib.ListN.{drop}
-use Rattle.screen.specs.Format.{fieldsOf, COLUMNS}
+use Rattle.screen_fields.specs.Format.{fieldsOf, COLUMNS}
 use Rattle.screen.specs.Screen.{goodFields}
 use Rattle.screen.proofs.Lines.{good-none, good-stops, good-goes-on}
 use Rattle.screen.proofs.good_fields.Statement.{statement}
 use Rattle.screen.proofs.good_fields.Tie as tie
 use Rattle.screen.proofs.good_fields.Reads as reads
 use Rattle.screen.proofs.good_fields.Lts as lts
-use Rattle.screen.proofs.field.is_good.Reads as is-good-reads
-use Rattle.screen.proofs.format.kind_of.Reads as kind-of-reads
-use Rattle.screen.proofs.format.width_of.Reads as width-of-reads
+use Rattle.screen_fields.proofs.field.is_good.Reads as is-good-reads
+use Rattle.screen_fields.proofs.format.kind_of.Reads as kind-of-reads
+use Rattle.screen_fields.proofs.format.width_of.Reads as width-of-reads
 
 abbrev Inv-loop : tie.InvT-loop
 Inv-loop text at line n j₀ j =

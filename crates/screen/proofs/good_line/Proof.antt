@@ -7,7 +7,7 @@ use Rattle.screen.proofs.good_line.Statement.{statement}
 use Rattle.screen.proofs.good_line.Tie as tie
 use Rattle.screen.proofs.good_line.Reads as reads
 use Rattle.screen.proofs.good_line.Lts as lts
-use Rattle.screen.proofs.format.width_of.Reads as width-of-reads
+use Rattle.screen_fields.proofs.format.width_of.Reads as width-of-reads
 use Rattle.screen.proofs.good_fields.Reads as good-fields-reads
 
 good-fields-requires : tie.Need-good-fields-requires

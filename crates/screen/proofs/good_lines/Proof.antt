@@ -5,14 +5,14 @@ use native.Mathlib.Omega.{arith}
 use native.Mathlib.Nat.{sub-zero}
 use mathlib.Core.Path.{_≡_, refl, sym, _∙_}
 use lib.ListN.{length, drop}
-use Rattle.screen.specs.Format.{bytesOf}
+use Rattle.screen_fields.specs.Format.{bytesOf}
 use Rattle.screen.specs.Screen.{goodLines}
 use Rattle.screen.proofs.Lines.{one-less, lines-none, lines-stop, lines-go-on}
 use Rattle.screen.proofs.good_lines.Statement.{statement}
 use Rattle.screen.proofs.good_lines.Tie as tie
 use Rattle.screen.proofs.good_lines.Reads as reads
 use Rattle.screen.proofs.good_lines.Lts as lts
-use Rattle.screen.proofs.format.bytes_of.Reads as bytes-of-reads
+use Rattle.screen_fields.proofs.format.bytes_of.Reads as bytes-of-reads
 use Rattle.screen.proofs.good_line.Reads as good-line-reads
 
 abbrev Inv-loop : tie.InvT-loop

@@ -5,8 +5,8 @@ use native.Mathlib.Nat.{add-zero, sub-zero}
 use mathlib.Core.Path.{_≡_, refl, sym, _∙_}
 use lib.ListN.{length, drop, length-set}
 use lib.Seq.{sets}
-use Rattle.screen.specs.Format.{fieldsOf, COLUMNS}
-use Rattle.screen.specs.Place.{part}
+use Rattle.screen_fields.specs.Format.{fieldsOf, COLUMNS}
+use Rattle.screen_fields.specs.Place.{part}
 use Rattle.screen.specs.Screen.{wordsOf}
 use Rattle.screen.proofs.Lines.{width-small, words-none, words-stored}
 use borrow.Author.Needs.{needs}
@@ -14,8 +14,8 @@ use Rattle.screen.proofs.read_fields.Statement.{statement}
 use Rattle.screen.proofs.read_fields.Tie as tie
 use Rattle.screen.proofs.read_fields.Reads as reads
 use Rattle.screen.proofs.read_fields.Lts as lts
-use Rattle.screen.proofs.field.value_at.Reads as value-at-reads
-use Rattle.screen.proofs.format.kind_of.Reads as kind-of-reads
+use Rattle.screen_fields.proofs.field.value_at.Reads as value-at-reads
+use Rattle.screen_fields.proofs.format.kind_of.Reads as kind-of-reads
 
 abbrev Inv-loop : tie.InvT-loop
 Inv-loop text at line first n out₀ to j₀ out j =

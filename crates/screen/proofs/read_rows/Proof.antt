@@ -6,15 +6,15 @@ use native.Mathlib.Nat.{sub-zero}
 use mathlib.Core.Path.{_≡_, refl, sym, _∙_}
 use lib.ListN.{length, drop}
 use lib.Seq.{sets}
-use Rattle.screen.specs.Format.{fieldsOf, COLUMNS, bytesOf}
-use Rattle.screen.specs.Place.{part}
+use Rattle.screen_fields.specs.Format.{fieldsOf, COLUMNS, bytesOf}
+use Rattle.screen_fields.specs.Place.{part}
 use Rattle.screen.specs.Screen.{rowsOf}
 use Rattle.screen.proofs.Lines.{width-small, bytes-are, one-less, part-length, rows-none, rows-stored}
 use Rattle.screen.proofs.read_rows.Statement.{statement}
 use Rattle.screen.proofs.read_rows.Tie as tie
 use Rattle.screen.proofs.read_rows.Reads as reads
 use Rattle.screen.proofs.read_rows.Lts as lts
-use Rattle.screen.proofs.format.bytes_of.Reads as bytes-of-reads
+use Rattle.screen_fields.proofs.format.bytes_of.Reads as bytes-of-reads
 use Rattle.screen.proofs.read_fields.Reads as read-fields-reads
 
 abbrev Inv-loop : tie.InvT-loop

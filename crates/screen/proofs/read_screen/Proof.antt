@@ -3,7 +3,7 @@ use native.Mathlib.Nat.{add-zero}
 use native.Mathlib.Omega.{arith}
 use mathlib.Core.Path.{refl, sym, _∙_}
 use Rattle.screen.specs.Screen.{written}
-use Rattle.screen.proofs.Table.{first-width, item-width, candidate-width, item-bytes, candidate-bytes}
+use Rattle.screen_fields.proofs.Table.{first-width, item-width, candidate-width, item-bytes, candidate-bytes}
 use Rattle.screen.proofs.Whole.{read-told, bad-told, header-read, styles-read, replies-read, candidates-read}
 use borrow.Author.Needs.{needs}
 use Rattle.screen.proofs.read_screen.Statement.{statement}

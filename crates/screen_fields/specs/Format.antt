@@ -1,0 +1,65 @@
+-- The screen file: lines of fields of equal width, a line feed after each line (document 01, "Program `boxlist`"). Assumes nothing.
+use Prim.Native.Nat.{ℕ, zero, suc, _+_, _*_}
+use mathlib.Core.Bool.{Bool, true, false}
+use mathlib.Core.List.{List, [], _∷_, _++_}
+use lib.ListN.{length, replicate}
+use Rattle.screen_fields.specs.declared.format.Kind.{Kind}
+use Rattle.screen_fields.specs.declared.format.Kind.the-variants.{Code, Eighths}
+use Rattle.screen_fields.specs.declared.format.Line.{Line}
+use Rattle.screen_fields.specs.declared.format.Line.the-variants.{First, Item, Candidate}
+
+-- ---- the fields of each line: codes, and floats in eighths
+
+unfoldable pub isFloat : Kind → Bool
+isFloat Code = false
+isFloat Eighths = true
+
+-- a list n times over
+abbrev pub times : ℕ → List Kind → List Kind
+times zero ks = []
+times (suc n) ks = ks ++ times n ks
+
+-- area width, height, offset x, offset y; direction, claims, overflow x, overflow y, item count, candidate count
+unfoldable pub firstFields : List Kind
+firstFields = replicate 4 Eighths ++ replicate 6 Code
+
+-- a style: 22 lengths of tag and value; ratio present, ratio; box sizing, flags, direction, justify, its safety, align, its safety,
+-- overflow x, overflow y; scrollbar width; contain
+unfoldable pub styleFields : List Kind
+styleFields = times 22 (Code ∷ Eighths ∷ []) ++ (Code ∷ Eighths ∷ []) ++ replicate 9 Code ++ (Eighths ∷ Code ∷ [])
+
+-- the scripted replies: measured width and height; overflow left, right, top, bottom
+unfoldable pub replyFields : List Kind
+replyFields = replicate 6 Eighths
+
+-- node, order, position; for x, then for y: area start, area end, edge, safety, fallback edge
+unfoldable pub candidateFields : List Kind
+candidateFields = replicate 3 Code ++ times 2 (replicate 2 Eighths ++ replicate 3 Code)
+
+unfoldable pub fieldsOf : Line → List Kind
+fieldsOf First = firstFields
+fieldsOf Item = styleFields ++ replyFields
+fieldsOf Candidate = candidateFields
+
+-- where the counts stand in the first line
+abbrev pub ITEM-COUNT : ℕ
+ITEM-COUNT = 8
+
+abbrev pub CANDIDATE-COUNT : ℕ
+CANDIDATE-COUNT = 9
+
+-- ---- sizes
+
+-- the columns of a field
+abbrev pub COLUMNS : ℕ
+COLUMNS = 11
+
+-- the bytes of a line: its fields and the line feed
+unfoldable pub bytesOf : Line → ℕ
+bytesOf l = COLUMNS * length (fieldsOf l) + 1
+
+abbrev pub MAX-ITEMS : ℕ
+MAX-ITEMS = 128
+
+abbrev pub MAX-CANDIDATES : ℕ
+MAX-CANDIDATES = 256

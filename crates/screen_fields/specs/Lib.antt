@@ -1,0 +1,4 @@
+pub mod Format
+pub mod Field
+pub mod Place
+pub mod Laws
