@@ -200,10 +200,6 @@ samples = {
 }
 
 
-def zeros(n, m, more):
-    return lines([0] * 8 + [n, m], *([[0] * 63] * n), *([[0] * 13] * m)) + b'\0' * more
-
-
 # document 01's list, as it stands there
 EXAMPLE = """\
        0    2400     160    1600     800    1600    1600       0       0
@@ -221,8 +217,6 @@ def main():
         open(os.path.join(data, name), 'wb').write(text)
         out += '-- %s\n' % name + shown(text)
     open(os.path.join(root, 'args'), 'w').write(''.join(n + '\n' for n in samples))
-    for n, m, more in ((128, 256, 0), (128, 256, 1), (129, 0, 0), (0, 257, 0)):
-        out += '-- zeros %d %d %d\n' % (n, m, more) + shown(zeros(n, m, more))
     out += '-- rows\n' + ''.join(column(s) for s in 'node x y width height left right top bottom'.split()) + '\n'
     out += EXAMPLE
     out += row(9999999, (bits(9999999 / 8), bits(-9999999 / 8), bits(1250000), bits(-1250000), 0, 0x80000000, bits(0.0625), 1))

@@ -1,6 +1,5 @@
-// Reads the stored screens that the arguments name, then screens of the most items and candidates, and prints what was read; then rows
-// of numbers at the limits of a column. `tools/samples/screen_samples.py` wrote the screens and what is expected.
-use boxlist_lines::Ink;
+// Reads the stored screens that the arguments name and prints what was read; then rows of numbers at the limits of a column.
+// `tools/samples/screen_samples.py` wrote the screens and what is expected.
 use boxlist_lines::list;
 use boxlist_lines::list::Row;
 use geometry::Point;
@@ -12,7 +11,7 @@ use screen_fields::format;
 use style_record::words::STYLE_WORDS;
 use tree_record::candidate::CANDIDATE_WORDS;
 use util::bits;
-ghost use Prim.Native.Nat.{_+_, _*_, _≤_};
+ghost use Prim.Native.Nat.{_≤_};
 ghost use mathlib.Core.Path.{_≡_};
 ghost use lib.ListN.{length};
 
@@ -208,96 +207,6 @@ fn show_file(i: usize) {
     show(&text[..n]);
 }
 
-// A number in the columns of a field at a place, if there is room: the place after it.
-fn put_number(text: &mut [u8], at: usize, n: u64) -> usize
-    requires { ⌜ at ≤ length (now text) ⌝ }
-    ensures { λ r. ⌜ r ≤ length (now (text .entry)) ⌝ }
-{
-    if format::COLUMNS <= text.len() - at {
-        boxlist_lines::put(text, at, format::COLUMNS, Ink::Digits(false, n));
-        return at + format::COLUMNS;
-    }
-    at
-}
-
-fn put_feed(text: &mut [u8], at: usize) -> usize
-    requires { ⌜ at ≤ length (now text) ⌝ }
-    ensures { λ r. ⌜ r ≤ length (now (text .entry)) ⌝ }
-{
-    if at < text.len() {
-        text[at] = b'\n';
-        return at + 1;
-    }
-    at
-}
-
-// A line of zeros, if there is room: the place after it.
-fn put_zeros(text: &mut [u8], at: usize, fields: usize) -> usize
-    requires { ⌜ at ≤ length (now text) ⌝ }
-    ensures { λ r. ⌜ r ≤ length (now (text .entry)) ⌝ }
-{
-    let mut p = at;
-    let mut j: usize = 0;
-    while j < fields {
-        p = put_number(text, p, 0);
-        j += 1;
-    }
-    put_feed(text, p)
-}
-
-fn put_lines(text: &mut [u8], at: usize, fields: usize, n: usize) -> usize
-    requires { ⌜ at ≤ length (now text) ⌝ }
-    ensures { λ r. ⌜ r ≤ length (now (text .entry)) ⌝ }
-{
-    let mut p = at;
-    let mut i: usize = 0;
-    while i < n {
-        p = put_zeros(text, p, fields);
-        i += 1;
-    }
-    p
-}
-
-fn show_part(text: &[u8], end: usize) {
-    if end <= text.len() {
-        show(&text[..end]);
-    }
-}
-
-fn show_front(text: &[u8; ROOM], end: usize) {
-    show_part(text, end);
-}
-
-// A screen of n items and m candidates, all zeros, `more` bytes longer.
-fn show_zeros(n: usize, m: usize, more: usize) {
-    io::write_all(STDOUT_FILENO, b"-- zeros ");
-    io::print_decimal(STDOUT_FILENO, wide_place(n));
-    io::write_all(STDOUT_FILENO, b" ");
-    io::print_decimal(STDOUT_FILENO, wide_place(m));
-    io::write_all(STDOUT_FILENO, b" ");
-    io::print_decimal(STDOUT_FILENO, wide_place(more));
-    io::write_all(STDOUT_FILENO, b"\n");
-    let mut text = room();
-    let items = put_lines(&mut text, 0, format::HEADER_WORDS, 1);
-    put_number(
-        &mut text,
-        format::COLUMNS * format::ITEM_COUNT,
-        wide_place(n),
-    );
-    put_number(
-        &mut text,
-        format::COLUMNS * format::CANDIDATE_COUNT,
-        wide_place(m),
-    );
-    let candidates = put_lines(&mut text, items, STYLE_WORDS + format::REPLY_WORDS, n);
-    let end = put_lines(&mut text, candidates, CANDIDATE_WORDS, m);
-    if end < ROOM {
-        if more <= 1 {
-            show_front(&text, end + more);
-        }
-    }
-}
-
 // A list's lines, with numbers at the limits of a column.
 fn show_rows() {
     io::write_all(STDOUT_FILENO, b"-- rows\n");
@@ -351,9 +260,5 @@ fn main() {
         show_file(i);
         i += 1;
     }
-    show_zeros(128, 256, 0);
-    show_zeros(128, 256, 1);
-    show_zeros(129, 0, 0);
-    show_zeros(0, 257, 0);
     show_rows();
 }

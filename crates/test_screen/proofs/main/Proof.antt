@@ -8,7 +8,6 @@ use Rattle.test_screen.proofs.main.Lts as lts
 use Rattle.os.proofs.arg_count.Reads as arg-count-reads
 use Rattle.test_screen.proofs.show_file.Reads as show-file-reads
 use Rattle.test_screen.proofs.show_rows.Reads as show-rows-reads
-use Rattle.test_screen.proofs.show_zeros.Reads as show-zeros-reads
 
 abbrev Inv-loop : tie.InvT-loop
 Inv-loop n i₀ i = 0 ≤ i
@@ -34,18 +33,6 @@ loop-less c = search needs
 loop-again : tie.Need-loop-again Inv-loop μ-loop
 loop-again c = search needs
 
-show-zeros-requires : tie.Need-show-zeros-requires Inv-loop μ-loop
-show-zeros-requires c κs = search needs
-
-show-zeros-requires-2 : tie.Need-show-zeros-requires-2 Inv-loop μ-loop
-show-zeros-requires-2 c κs = search needs
-
-show-zeros-requires-3 : tie.Need-show-zeros-requires-3 Inv-loop μ-loop
-show-zeros-requires-3 c κs = search needs
-
-show-zeros-requires-4 : tie.Need-show-zeros-requires-4 Inv-loop μ-loop
-show-zeros-requires-4 c κs = search needs
-
 show-rows-requires : tie.Need-show-rows-requires Inv-loop μ-loop
 show-rows-requires c κs = search needs
 
@@ -64,9 +51,5 @@ main-spec =
     add-i
     loop-less
     loop-again
-    show-zeros-requires
-    show-zeros-requires-2
-    show-zeros-requires-3
-    show-zeros-requires-4
     show-rows-requires
     returns)
