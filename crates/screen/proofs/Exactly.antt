@@ -8,7 +8,7 @@ use mathlib.Core.List.{List, [], _∷_, _++_}
 use lib.Dec.{eqb, leb}
 use lib.ListN.{length, take, drop, getD, take-append-drop, length-append}
 use lib.Seq.{length-take-le, take-at, drop-at, drop-drop, drop-length, getD-drop}
-use borrow.Author.Tests.{eqb-true, eq-eqb, leb-true, le-leb}
+use borrow.Author.Tests.{eqb-true, eq-eqb, le-leb}
 use Rattle.util.proofs.Floats.{no}
 use Rattle.screen_fields.specs.declared.format.Kind.{Kind}
 use Rattle.screen_fields.specs.declared.format.Line.{Line}
@@ -18,6 +18,7 @@ use Rattle.screen_fields.specs.Field.{wordOf, isGood}
 use Rattle.screen.specs.Screen.{goodFields, goodLine, goodLines, itemCount, candidateCount, candidatesAt, screenBytes, isScreen}
 use Rattle.screen.specs.Laws.{StartsLine, feed, field, StartsLines, nothing, line, IsScreen, ScreenExactly}
 use Rattle.screen_fields.proofs.Good.{field-good, good-field}
+use Rattle.screen.proofs.Whole.{screen-told}
 
 -- ---- a line
 
@@ -117,6 +118,7 @@ unfolding isScreen goodLine bytesOf candidatesAt screenBytes
 screen-there text e =
     let n = itemCount text in
     let m = candidateCount text in
+    let told = screen-told text e in
     let five = both-true _ (goodLines Candidate m (drop (candidatesAt n) text)) e in
     let four = both-true _ (goodLines Item n (drop (bytesOf First) text)) (five .0) in
     let three = both-true _ (eqb (length text) (screenBytes n m)) (four .0) in
@@ -131,8 +133,8 @@ screen-there text e =
       first-line = line-there (fieldsOf First) text (parts .0) (eqb-true _ 10 (parts .1));
       item-lines = subst (StartsLines Item n (drop (bytesOf First) text)) items (lines-there Item n (drop (bytesOf First) text) (four .1));
       candidate-lines = subst (StartsLines Candidate m (drop (candidatesAt n) text)) candidates (lines-there Candidate m (drop (candidatesAt n) text) (five .1));
-      few-items = leb-true n 128 (one .1);
-      few-candidates = leb-true m 256 (two .1);
+      few-items = told .fewItems;
+      few-candidates = told .fewCandidates;
     }
 
 there-screen : (text : List ℕ) → IsScreen text → isScreen text ≡ true

@@ -67,7 +67,7 @@ NoTrailingBlank = (bs : List ℕ) → numeralOf (bs ++ (32 ∷ [])) ≡ Malforme
 abbrev pub SignedZero : Type 0
 SignedZero = (k : Kind) → (wordOf k (replicate 9 32 ++ (45 ∷ 48 ∷ [])) ≡ Of 0) × (wordOf k (replicate 9 32 ++ (43 ∷ 48 ∷ [])) ≡ Of 0)
 
--- ---- a good field
+-- ---- a good field, in the words of refusal 8
 
 -- "a code below 0 or above 4,294,967,295; a float above 9,999,999 eighths in size" is out of range
 abbrev pub InRange : Kind → Bool → ℕ → Type 0
