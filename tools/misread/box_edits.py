@@ -75,7 +75,7 @@ EDITS = [
         (RESOLVED, 'zeroSize, smallerSize,', 'zeroSize, absentSize, smallerSize,'),
         (RESOLVED, 'size = clampedSize size min max;', 'size = clampedSize (clampedSize size min absentSize) absentSize max;'),
         (RESOLVE, 'size.maybe_clamp(min, max)', 'size.maybe_clamp(min, MaybeSize::NONE).maybe_clamp(MaybeSize::NONE, max)'),
-        (BOX, 'clampedFloats (filledSize (at .known) measured) (at .min) (box .max)', 'clampedFloats (clampedFloats (filledSize (at .known) measured) (at .min) absentSize) absentSize (box .max)'),
+        (BOX, 'clampedFloats (filledSize (at .known) reply) (at .min) (box .max)', 'clampedFloats (clampedFloats (filledSize (at .known) reply) (at .min) absentSize) absentSize (box .max)'),
         (SIZING, 'known.unwrap_or(measured_size(reply)).maybe_clamp(min, max)', 'known.unwrap_or(measured_size(reply)).maybe_clamp(min, MaybeSize::NONE).maybe_clamp(MaybeSize::NONE, max)')]),
     # ---- step 3: available space
     # a table's is still less its margins
@@ -115,10 +115,10 @@ EDITS = [
         };
 """)]),
     ('table: min not raised', B, [
-        (BOX, 'cond stretches (Some (larger (orZero min) fit)) min', 'cond stretches min min'),
+        (BOX, 'cond stretchesSide (Some (larger (orZero min) fit)) min', 'cond stretchesSide min min'),
         (SIZING, 'return MaybeF32::Some(sys::f32_max(min.unwrap_or(0.0), fit));', 'return min;')]),
     ('table: min is the stretch-fit size', B, [
-        (BOX, 'cond stretches (Some (larger (orZero min) fit)) min', 'cond stretches (Some fit) min'),
+        (BOX, 'cond stretchesSide (Some (larger (orZero min) fit)) min', 'cond stretchesSide (Some fit) min'),
         (SIZING, 'return MaybeF32::Some(sys::f32_max(min.unwrap_or(0.0), fit));', 'return MaybeF32::Some(fit);')]),
     # a width; a height only where it is absent
     ('stretched: a given size too', B, [
@@ -128,7 +128,7 @@ EDITS = [
         (SIZING, 'known.is_none() && axis.is_stretch_sized(style.replaced, style.table)', 'axis.is_stretch_sized(style.replaced, style.table)')]),
     # ---- step 6: measured
     ('never measured: padding plus border', B, [
-        (BOX, 'cond (bothPresent (at .known)) (done zeroSize) (measureBoth (record { node = node; known = at .known; space = box .space }))', 'done zeroSize'),
+        (BOX, 'cond (bothPresent (at .known)) (done zeroSize) (measureBoth (fillInput node (at .known) (box .space)))', 'done zeroSize'),
         (CUT, """    cond (fillGiven (replies .fill) || bothPresent (at .known))
     (layOutAsked node (finalSize box at (measuredSize (replies .fill))) (box .space))
     (fillAsked node (at .known) (box .space))""", '    layOutAsked node (finalSize box at (measuredSize (replies .fill))) (box .space)'),
@@ -138,14 +138,14 @@ EDITS = [
     }
     fill_asked(node, known, space)""", '    lay_out_asked(node, sizing::fill(resolved, at, reply), space)')]),
     ('measured: not clamped', B, [
-        (BOX, 'clampedFloats (filledSize (at .known) measured) (at .min) (box .max)', 'filledSize (at .known) measured'),
+        (BOX, 'clampedFloats (filledSize (at .known) reply) (at .min) (box .max)', 'filledSize (at .known) reply'),
         (SIZING, 'known.unwrap_or(measured_size(reply)).maybe_clamp(min, max)', 'known.unwrap_or(measured_size(reply))')]),
     ('measured: sides exchanged', B, [
-        (BOX, 'filledSize (at .known) measured)', 'filledSize (at .known) (record { width = measured .height; height = measured .width }))'),
+        (BOX, 'filledSize (at .known) reply)', 'filledSize (at .known) (record { width = reply .height; height = reply .width }))'),
         (SIZING, 'known.unwrap_or(measured_size(reply)).maybe_clamp(min, max)',
             'let size = measured_size(reply);\n    known\n        .unwrap_or(Size {\n            width: size.height,\n            height: size.width,\n        })\n        .maybe_clamp(min, max)')]),
     ('measured: the other side not told', B, [
-        (BOX, 'known = at .known; space = box .space', 'known = absentSize; space = box .space'),
+        (BOX, 'fillInput node (at .known) (box .space)', 'fillInput node absentSize (box .space)'),
         (CUT, 'zeroSize, bothPresent', 'zeroSize, absentSize, bothPresent'),
         (CUT, '(fillAsked node (at .known) (box .space))', '(fillAsked node absentSize (box .space))'),
         (DIALOGUE, 'fill_asked(node, known, space)\n', 'fill_asked(node, MaybeSize::NONE, space)\n')]),

@@ -10,14 +10,13 @@ use lib.Seq.{sets, sets-eq, take-at}
 use Rattle.refusal.specs.Refusal.{numberOf}
 use Rattle.refusal.specs.declared.Refusal.the-variants.{BadScreenLine}
 use Rattle.boxlist_lines.specs.Lines.{refusalText}
-use Rattle.screen_fields.specs.Format.{firstFields, MAX-ITEMS, MAX-CANDIDATES}
+use Rattle.screen_fields.specs.Format.{firstFields, MAX-ITEMS, MAX-CANDIDATES, replyWidth}
 use Rattle.screen.specs.Screen.{isScreen, headerOf, stylesOf, repliesOf, candidatesOf, written}
 use Rattle.screen.proofs.Lines.{words-length}
 use Rattle.screen.proofs.Laws.{screen-words}
 use Rattle.screen.proofs.Whole.{Told}
 use Rattle.style_record.specs.Record.{styleWords}
 use Rattle.tree_record.specs.Candidate.{candidateWidth}
-use Rattle.script.specs.Script.{replyWidth}
 use Rattle.boxlist_print.specs.Rows.{Prints}
 use Rattle.boxlist_print.specs.Printed.{listFrom, printed}
 

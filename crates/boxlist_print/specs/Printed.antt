@@ -8,7 +8,8 @@ use Rattle.refusal.specs.declared.Refusal.the-variants.{BadScreenLine}
 use Rattle.boxlist_lines.specs.Lines.{ROW, OVERFLOW, listText, refusalText}
 use Rattle.screen_fields.specs.Format.{MAX-CANDIDATES}
 use Rattle.screen.specs.Screen.{isScreen, itemCount, headerOf, stylesOf, repliesOf, candidatesOf}
-use Rattle.tree_record.specs.Candidate.{candidateWidth, floatAt}
+use Rattle.tree_record.specs.Candidate.{candidateWidth}
+use Rattle.records.specs.Records.{floatAt}
 use Rattle.tree_record.specs.Layout.{layoutWidth}
 use Rattle.run.specs.declared.Opening.{Opening}
 use Rattle.run.specs.declared.Answer.{Answer}

@@ -2,12 +2,12 @@
 ghost use mathlib.Core.Path.{_≡_};
 ghost use Prim.Native.Nat.{_*_, _≤_};
 ghost use lib.ListN.{length, take};
-ghost use Rattle.screen_fields.specs.Format.{MAX-ITEMS, MAX-CANDIDATES};
+ghost use Rattle.screen_fields.specs.Format.{MAX-ITEMS, MAX-CANDIDATES, replyWidth};
 ghost use Rattle.style_record.specs.Record.{styleWords};
 ghost use Rattle.tree_record.specs.Candidate.{candidateWidth};
 ghost use Rattle.tree_record.specs.Layout.{layoutWidth};
 ghost use Rattle.run.specs.Call.{lent, atEntry};
-ghost use Rattle.script.specs.Script.{replyWidth, playedOut};
+ghost use Rattle.script.specs.Script.{playedOut};
 ghost use Rattle.boxlist_print.specs.Rows.{Prints};
 ghost use Rattle.boxlist_print.specs.Printed.{LIST-BYTES, listOf, openingOf, listWords, listFrom, printed};
 use boxlist_lines::list;

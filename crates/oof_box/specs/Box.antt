@@ -25,6 +25,7 @@ use Rattle.oof_common.specs.declared.sizing_keyword.SizingKeywordResolution.{Si
 use Rattle.oof_common.specs.declared.sizing_keyword.SizingKeywordResolution.the-variants.{NoKeyword, Exact, Measure}
 use Rattle.oof_common.specs.declared.sizing_keyword.SizingKeywords.{SizingKeywords}
 use Rattle.oof_box.specs.declared.question.MeasureInput.{MeasureInput}
+use Rattle.oof_box.specs.declared.question.LayoutInput.{LayoutInput}
 use Rattle.oof_box.specs.Talk.{Talk, done, _>>=_, measureBoth, measureWidth, measureHeight, layOut}
 use Rattle.oof_box.specs.declared.sizing.Stretched.{Stretched}
 use Rattle.oof_place.specs.Placing.{boxLayout}
@@ -98,11 +99,11 @@ inTurn node wide tall known stretch = do
   height ← heightAs node tall (width by known .height) stretch
   done (width by height)
 
--- what the space of a measured side gives, or else `other`
+-- where a side is measured, what is asked in its space; else `otherwise`
 abbrev pub ifMeasured : SizingKeywordResolution → (AvailableSpace → Talk MaybeSize) → Talk MaybeSize → Talk MaybeSize
-ifMeasured NoKeyword given other = other
-ifMeasured (Exact x) given other = other
-ifMeasured (Measure space) given other = given space
+ifMeasured NoKeyword asked otherwise = otherwise
+ifMeasured (Exact x) asked otherwise = otherwise
+ifMeasured (Measure space) asked otherwise = asked space
 
 -- both sides by one question
 abbrev pub atOnce : ℕ → AvailableSpace → AvailableSpace → Talk MaybeSize
@@ -113,8 +114,8 @@ atOnce node spaceX spaceY = do
 -- two measured sides are one question; any others come in turn
 unfoldable pub byKeywords : ℕ → SizingKeywordResolution → SizingKeywordResolution → MaybeSize → Size → Talk MaybeSize
 byKeywords node wide tall known stretch =
-    let others = inTurn node wide tall known stretch in
-    ifMeasured wide (λ spaceX. ifMeasured tall (atOnce node spaceX) others) others
+    let oneByOne = inTurn node wide tall known stretch in
+    ifMeasured wide (λ spaceX. ifMeasured tall (atOnce node spaceX) oneByOne) oneByOne
 
 -- an absent side with a keyword is filled; ratio and clamp follow. (The Rust applies both once more where only a known side has a
 -- keyword: they change nothing there, by the law `SizeIsSettled` of oof_box_laws.)
@@ -146,7 +147,7 @@ heightened ratio box stretchesY known =
 
 -- a table is never stretched directly: its min is raised to the stretch-fit size, and the table is measured
 unfoldable pub raisedMin : Bool → MaybeF32 → Float → MaybeF32
-raisedMin stretches min fit = cond stretches (Some (larger (orZero min) fit)) min
+raisedMin stretchesSide min fit = cond stretchesSide (Some (larger (orZero min) fit)) min
 
 unfoldable pub stretched : Style → ResolvedBox → MaybeSize → Stretched
 stretched style box known =
@@ -164,14 +165,20 @@ stretched style box known =
 -- ---- step 6: if a side is still absent, measure both and fill only that side; clamp
 
 unfoldable pub finalSize : ResolvedBox → Stretched → Size → Size
-finalSize box at measured = clampedFloats (filledSize (at .known) measured) (at .min) (box .max)
+finalSize box at reply = clampedFloats (filledSize (at .known) reply) (at .min) (box .max)
+
+abbrev pub fillInput : ℕ → MaybeSize → AvailableSize → MeasureInput
+fillInput node known space = record { node = node; known = known; space = space }
 
 unfoldable pub measured : ℕ → ResolvedBox → Stretched → Talk Size
 measured node box at = do
-  size ← cond (bothPresent (at .known)) (done zeroSize) (measureBoth (record { node = node; known = at .known; space = box .space }))
+  size ← cond (bothPresent (at .known)) (done zeroSize) (measureBoth (fillInput node (at .known) (box .space)))
   done (finalSize box at size)
 
 -- ---- the whole box
+
+abbrev pub layOutInput : ℕ → Size → AvailableSize → LayoutInput
+layOutInput node size space = record { node = node; size = size; space = space }
 
 -- the layout with what it adds to the overflow, and the candidates that the box surfaces
 pub record Placed : Type 0 where
@@ -189,5 +196,5 @@ placed container style candidate =
       -- 5, 6. stretch; measure what is still absent
       size ← measured node box (stretched style box known)
       -- 7. lay out; margins, location, overflow
-      laid ← layOut (record { node = node; size = size; space = box .space })
+      laid ← layOut (layOutInput node size (box .space))
       done (record { outcome = boxLayout container style candidate box size (laid .overflow); surfaced = laid .surfaced })

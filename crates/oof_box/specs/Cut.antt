@@ -21,7 +21,7 @@ use Rattle.oof_resolve.specs.declared.ResolvedBox.{ResolvedBox}
 use Rattle.oof_common.specs.declared.sizing_keyword.SizingKeywordResolution.{SizingKeywordResolution}
 use Rattle.oof_common.specs.declared.sizing_keyword.SizingKeywordResolution.the-variants.{NoKeyword, Exact, Measure}
 use Rattle.oof_common.specs.declared.sizing_keyword.SizingKeywords.{SizingKeywords}
-use Rattle.oof_box.specs.Box.{_by_, keywordStretch, sizeKeywords, hasKeyword, settled, bothInput, widthInput, heightInput, stretched, finalSize}
+use Rattle.oof_box.specs.Box.{_by_, keywordStretch, sizeKeywords, hasKeyword, settled, bothInput, widthInput, heightInput, fillInput, layOutInput, stretched, finalSize}
 use Rattle.oof_box.specs.declared.question.Question.the-variants as question
 use Rattle.oof_box.specs.declared.question.Reply.{Reply}
 use Rattle.oof_box.specs.declared.question.Reply.the-variants as reply
@@ -103,9 +103,9 @@ measuredHeight (keyword.Height h) = Some h
 
 -- a side by its keyword: as known, exact, or as measured
 abbrev pub sideBy : SizingKeywordResolution → MaybeF32 → MaybeF32 → MaybeF32
-sideBy NoKeyword known measured = known
-sideBy (Exact x) known measured = Some x
-sideBy (Measure space) known measured = measured
+sideBy NoKeyword side reply = side
+sideBy (Exact x) side reply = Some x
+sideBy (Measure space) side reply = reply
 
 -- step 4: known sizes by the reply for size keywords
 unfoldable pub knownBy : Style → ResolvedBox → SizingKeywords → KeywordReply → MaybeSize
@@ -154,10 +154,10 @@ keywordAsked node (Measure spaceX) (Exact h) known stretch = widthAsked node spa
 keywordAsked node (Measure spaceX) (Measure spaceY) known stretch = bothAsked node spaceX spaceY
 
 abbrev pub fillAsked : ℕ → MaybeSize → AvailableSize → Asked
-fillAsked node known space = record { stage = Fill; question = question.MeasureBoth (record { node = node; known = known; space = space }) }
+fillAsked node known space = record { stage = Fill; question = question.MeasureBoth (fillInput node known space) }
 
 abbrev pub layOutAsked : ℕ → Size → AvailableSize → Asked
-layOutAsked node size space = record { stage = LayOut; question = question.LayOut (record { node = node; size = size; space = space }) }
+layOutAsked node size space = record { stage = LayOut; question = question.LayOut (layOutInput node size space) }
 
 abbrev pub fillGiven : FillReply → Bool
 fillGiven fill.None = false

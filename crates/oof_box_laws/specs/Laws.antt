@@ -131,7 +131,7 @@ MeasuredIsTheReply =
 -- a table is never stretched (css-tables-3): an auto size of it is asked for, and is the reply, clamped with its min raised to the stretch-fit size where
 -- the alignment is stretch
 abbrev pub tableMin : Bool → Float → Float → Float
-tableMin stretches low fit = cond stretches (larger low fit) low
+tableMin stretchesSide low fit = cond stretchesSide (larger low fit) low
 
 abbrev pub TableIsMeasured : Type 0
 TableIsMeasured =

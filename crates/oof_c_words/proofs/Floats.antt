@@ -20,7 +20,7 @@ use Rattle.style.specs.declared.Contain.{Contain}
 use Rattle.style.specs.declared.OverflowPoint.{OverflowPoint}
 use Rattle.style.specs.declared.Style.{Style}
 use Rattle.tree.specs.declared.layout.OofCandidate.{OofCandidate}
-use Rattle.tree_record.specs.Candidate.{floatAt}
+use Rattle.records.specs.Records.{floatAt}
 use Rattle.tree_record.specs.Laws.{FitsSize, FitsRect}
 use Rattle.oof_common.specs.ScrollableOverflow.{propagates, reach, placedAt, contribution}
 use Rattle.oof_resolve.specs.declared.ContainingBlock.{ContainingBlock}

@@ -10,7 +10,7 @@ use Rattle.util.specs.Number.{0f}
 use Rattle.geometry.specs.Geometry.{zeroSize}
 use Rattle.geometry.specs.declared.Rect.{Rect}
 use Rattle.geometry.specs.declared.Size.{Size}
-use Rattle.tree_record.specs.Candidate.{floatAt}
+use Rattle.records.specs.Records.{floatAt}
 use Rattle.style.specs.Codes.{directionOf, directionCode, overflowOf, overflowCode, bit0, bit1, bitsCode}
 use Rattle.style.specs.declared.ContainingBlockClaims.{ContainingBlockClaims}
 use Rattle.tree.specs.declared.layout.OofPositioningArea.{OofPositioningArea}

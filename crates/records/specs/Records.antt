@@ -5,13 +5,17 @@ use mathlib.Core.Bool.{Bool, true, false, not, _&&_}
 use mathlib.Core.List.{List, [], _∷_}
 use lib.Dec.{leb}
 use lib.ListN.{length, getD, set, take, drop}
-use lib.Ieee.{ofBits, toBits, binary32}
+use lib.Ieee.{Float, ofBits, toBits, binary32}
 
 -- ---- records of a list
 
 -- record i
 unfoldable pub recordAt : ℕ → List ℕ → ℕ → List ℕ
 recordAt w ws i = take w (drop (w * i) ws)
+
+-- the float of word k; a word beyond the end counts as 0
+abbrev pub floatAt : List ℕ → ℕ → Float
+floatAt ws k = ofBits binary32 (getD ws k 0)
 
 -- the first n records, in order
 unfoldable pub records : ℕ → ℕ → List ℕ → List (List ℕ)

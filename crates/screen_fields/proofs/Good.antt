@@ -14,14 +14,14 @@ use Rattle.screen_fields.specs.declared.format.Kind.the-variants.{Code, 
 use Rattle.screen_fields.specs.declared.field.Numeral.{Numeral}
 use Rattle.screen_fields.specs.declared.field.Numeral.the-variants.{Malformed, Number}
 use Rattle.screen_fields.specs.declared.field.Word.the-variants.{Wrong, Of}
-use Rattle.screen_fields.specs.Field.{numeralOf, codeOf, present, floatOf, wordOf, isGood}
+use Rattle.screen_fields.specs.Field.{numeralOf, codeOf, presentWord, floatOf, wordOf, isGood}
 use Rattle.screen_fields.specs.Laws.{InRange, GoodField}
 use Rattle.screen_fields.proofs.Laws.{field-shape}
 use Rattle.screen_fields.proofs.Spelled.{field-read}
 
 -- a number in range, and only such a one, is a word
 in-range : (k : Kind) (s : Bool) (n : ℕ) (bs : List ℕ) → numeralOf bs ≡ Number s n → (isGood (wordOf k bs) ≡ true) ↔ InRange k s n
-unfolding wordOf codeOf floatOf floatOfCount present isGood
+unfolding wordOf codeOf floatOf floatOfCount presentWord isGood
 in-range Code true n bs e = rw e (λ t. go (eqb n 0) refl t, λ z. rw (eq-eqb n 0 z) refl)
   where
     go : (c : Bool) → eqb n 0 ≡ c → isGood (cond c (Of 0) Wrong) ≡ true → n ≡ 0

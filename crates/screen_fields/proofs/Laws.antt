@@ -18,7 +18,7 @@ use Rattle.screen_fields.specs.declared.format.Kind.the-variants.{Code, 
 use Rattle.screen_fields.specs.declared.field.Numeral.the-variants.{Malformed, Number}
 use Rattle.screen_fields.specs.declared.field.Word.the-variants.{Of}
 use Rattle.screen_fields.specs.Format.{COLUMNS}
-use Rattle.screen_fields.specs.Field.{unblank, isDigit, spelled, unsigned, signed, numeralOf, codeOf, present, floatOf, wordOf}
+use Rattle.screen_fields.specs.Field.{unblank, isDigit, spelled, unsigned, signed, numeralOf, codeOf, presentWord, floatOf, wordOf}
 use Rattle.screen_fields.specs.Laws.{allDigits, decimal, minus, plus, none, Spelling, FieldShape, NoTrailingBlank, SignedZero, CodeBack, CountBack, FloatBack, ZeroBack, ListedCount, ListedCode}
 use Rattle.screen_fields.proofs.Back.{no-number, plain-back, minus-back}
 
@@ -118,7 +118,7 @@ minus-zero-word : toBits binary32 (eighths true 0) ≡ 0
 minus-zero-word = unfold eighths toBits round in refl
 
 pub signed-zero : SignedZero
-unfolding wordOf codeOf floatOf present floatOfCount numeralOf unblank signed unsigned spelled isDigit
+unfolding wordOf codeOf floatOf presentWord floatOfCount numeralOf unblank signed unsigned spelled isDigit
 signed-zero Code = (refl, refl)
 signed-zero Eighths = (ap Of minus-zero-word, ap Of zero-word)
 
@@ -133,7 +133,7 @@ number-back true n h = minus-back 9 n (lt-of-le-of-lt h (lit< tt))
 number-back false n h = plain-back 10 n (lt-of-le-of-lt h (lit< tt))
 
 pub count-back : CountBack
-unfolding wordOf floatOf floatOfCount present
+unfolding wordOf floatOf floatOfCount presentWord
 count-back s n h = rw (number-back s n h) (rw (le-ltb 9999999 n h) refl)
 
 pub float-back : FloatBack

@@ -8,7 +8,7 @@ use lib.ListN.{length, replicate}
 use borrow.Author.Tests.{ne-eqb, le-leb, le-ltb}
 use Rattle.util.specs.Eighths.{floatOfCount}
 use Rattle.screen_fields.specs.declared.field.Numeral.the-variants.{Malformed, Number}
-use Rattle.screen_fields.specs.Field.{unblank, isDigit, spelled, unsigned, signed, numeralOf, codeOf, present, floatOf, wordOf}
+use Rattle.screen_fields.specs.Field.{unblank, isDigit, spelled, unsigned, signed, numeralOf, codeOf, presentWord, floatOf, wordOf}
 use Rattle.screen_fields.specs.Laws.{allDigits, decimal, Sign, minus, plus, none, FieldRead, CodeRead, CountRead}
 use Rattle.screen_fields.proofs.Text.{apart, digit-low}
 
@@ -65,5 +65,5 @@ unfolding wordOf codeOf
 code-read bs n f h = rw (field-read bs false n f) (rw (le-leb n 4294967295 h) refl)
 
 pub count-read : CountRead
-unfolding wordOf floatOf floatOfCount present
+unfolding wordOf floatOf floatOfCount presentWord
 count-read bs s n f h = rw (field-read bs s n f) (rw (le-ltb 9999999 n h) refl)

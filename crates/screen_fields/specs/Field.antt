@@ -52,14 +52,14 @@ codeOf (Number true n) = cond (eqb n 0) (Of 0) Wrong
 codeOf (Number false n) = cond (leb n 4294967295) (Of n) Wrong
 
 -- the word of a float
-unfoldable pub present : MaybeF32 → Word
-present None = Wrong
-present (Some x) = Of (toBits binary32 x)
+unfoldable pub presentWord : MaybeF32 → Word
+presentWord None = Wrong
+presentWord (Some x) = Of (toBits binary32 x)
 
 -- a float: a count of eighths of size 9,999,999 at most; `-0` is +0
 unfoldable pub floatOf : Numeral → Word
 floatOf Malformed = Wrong
-floatOf (Number s n) = present (floatOfCount s n)
+floatOf (Number s n) = presentWord (floatOfCount s n)
 
 unfoldable pub wordOf : Kind → List ℕ → Word
 wordOf Code bs = codeOf (numeralOf bs)

@@ -29,8 +29,11 @@ unfoldable pub styleFields : List Kind
 styleFields = times 22 (Code ∷ Eighths ∷ []) ++ (Code ∷ Eighths ∷ []) ++ replicate 9 Code ++ (Eighths ∷ Code ∷ [])
 
 -- the scripted replies: measured width and height; overflow left, right, top, bottom
+abbrev pub replyWidth : ℕ
+replyWidth = 6
+
 unfoldable pub replyFields : List Kind
-replyFields = replicate 6 Eighths
+replyFields = replicate replyWidth Eighths
 
 -- node, order, position; for x, then for y: area start, area end, edge, safety, fallback edge
 unfoldable pub candidateFields : List Kind

@@ -3,7 +3,7 @@ ghost use mathlib.Core.Path.{_≡_};
 ghost use Prim.Native.Nat.{_+_, _-_, _≤_};
 ghost use lib.ListN.{length, take, drop};
 ghost use Rattle.screen_fields.specs.Format.{COLUMNS};
-ghost use Rattle.screen_fields.specs.Field.{isDigit, unsigned, numeralOf, codeOf, present, floatOf, wordOf, isGood, valueOf};
+ghost use Rattle.screen_fields.specs.Field.{isDigit, unsigned, numeralOf, codeOf, presentWord, floatOf, wordOf, isGood, valueOf};
 ghost use Rattle.screen_fields.specs.Place.{part, Skipped};
 use crate::format::COLUMNS;
 use crate::format::Kind;
@@ -121,7 +121,7 @@ fn code_of(numeral: Numeral) -> Word
 }
 
 fn present_word(x: MaybeF32) -> Word
-    ensures { λ r. ⌜ r ≡ present x ⌝ }
+    ensures { λ r. ⌜ r ≡ presentWord x ⌝ }
 {
     match x {
         MaybeF32::None => Word::Wrong,

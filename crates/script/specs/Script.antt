@@ -2,11 +2,13 @@
 -- right top bottom. .. No box surfaces any"). Read `playedOut`, the last one, first. Assumes nothing.
 use Prim.Native.Nat.{ℕ, zero, suc, _+_, _*_, _/_}
 use mathlib.Core.List.{List, []}
-use lib.ListN.{length, getD}
-use lib.Ieee.{Float, ofBits, binary32}
+use lib.ListN.{length}
+use lib.Ieee.{Float}
 use Rattle.geometry.specs.declared.Rect.{Rect}
 use Rattle.geometry.specs.declared.Size.{Size}
+use Rattle.records.specs.Records.{floatAt}
 use Rattle.tree_record.specs.Candidate.{candidateWidth}
+use Rattle.screen_fields.specs.Format.{replyWidth}
 use Rattle.oof_box.specs.declared.question.Question.{Question}
 use Rattle.oof_box.specs.declared.question.Question.the-variants.{MeasureBoth, MeasureWidth, MeasureHeight, LayOut}
 use Rattle.oof_box.specs.declared.question.Reply.{Reply}
@@ -20,13 +22,9 @@ use Rattle.run.specs.Theorems.{next}
 
 -- ---- replies
 
--- six words an item: measured width and height; overflow left, right, top, bottom
-abbrev pub replyWidth : ℕ
-replyWidth = 6
-
--- the float of word k of a node's replies; a word beyond their end counts as 0
+-- the float of word k of a node's replies: measured width and height; overflow left, right, top, bottom
 unfoldable pub scripted : List ℕ → ℕ → ℕ → Float
-scripted replies node k = ofBits binary32 (getD replies (replyWidth * node + k) 0)
+scripted replies node k = floatAt replies (replyWidth * node + k)
 
 abbrev pub scriptedSize : List ℕ → ℕ → Size
 scriptedSize replies node = record { width = scripted replies node 0; height = scripted replies node 1 }

@@ -10,11 +10,9 @@ use oof_box::question::Reply;
 use run::Answer;
 use run::Opening;
 use run::Step;
+use screen_fields::format::REPLY_WORDS;
 use tree_record::candidate::CANDIDATE_WORDS;
 use util::bits;
-
-// Six words an item.
-pub const REPLY_WORDS: usize = 6;
 
 // At most two questions to measure a box, then one to lay it out.
 const QUESTIONS: usize = 3;

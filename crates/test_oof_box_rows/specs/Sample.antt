@@ -14,7 +14,8 @@ use Rattle.style.specs.declared.available_space.AvailableSpace.{AvailableSpace}
 use Rattle.style.specs.declared.available_space.AvailableSpace.the-variants.{Definite, MinContent, MaxContent}
 use Rattle.style.specs.declared.available_space.AvailableSize.{AvailableSize}
 use Rattle.style_record.specs.Decode.{styleAt}
-use Rattle.tree_record.specs.Candidate.{floatAt, candidateOf}
+use Rattle.tree_record.specs.Candidate.{candidateOf}
+use Rattle.records.specs.Records.{floatAt}
 use Rattle.tree_record.specs.Layout.{rectOf, layoutWords}
 use Rattle.oof_resolve.specs.declared.ContainingBlock.{ContainingBlock}
 use Rattle.oof_box.specs.Talk.{Talk, done, ask, ReplyTo}

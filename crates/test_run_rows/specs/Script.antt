@@ -10,7 +10,7 @@ use Rattle.util.specs.declared.math.MaybeF32.the-variants.{None, Some}
 use Rattle.refusal.specs.Refusal.{numberOf}
 use Rattle.style.specs.declared.available_space.AvailableSpace.{AvailableSpace}
 use Rattle.style.specs.declared.available_space.AvailableSpace.the-variants.{Definite, MinContent, MaxContent}
-use Rattle.tree_record.specs.Candidate.{floatAt}
+use Rattle.records.specs.Records.{floatAt}
 use Rattle.tree_record.specs.Layout.{rectWords}
 use Rattle.oof_box.specs.declared.question.MeasureInput.{MeasureInput}
 use Rattle.oof_box.specs.declared.question.Question.{Question}

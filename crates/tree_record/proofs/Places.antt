@@ -6,12 +6,12 @@ use mathlib.Core.Path.{_≡_, refl, sym, ap, _∙_}
 use mathlib.Core.List.{List}
 use lib.Dec.{lit<, lit≤}
 use lib.ListN.{getD}
-use Rattle.records.specs.Records.{recordAt}
+use Rattle.records.specs.Records.{recordAt, floatAt}
 use Rattle.records.proofs.Laws.{word-of-record}
 use Rattle.tree.specs.declared.layout.OofCandidate.{OofCandidate}
 use Rattle.tree.specs.declared.layout.Layout.{Layout}
 use Rattle.tree_record.specs.Codes.{positionOf}
-use Rattle.tree_record.specs.Candidate.{candidateWidth, floatAt, axisOf, candidateOf}
+use Rattle.tree_record.specs.Candidate.{candidateWidth, axisOf, candidateOf}
 use Rattle.tree_record.specs.Layout.{layoutWidth, rectOf, layoutOf}
 
 module _ (w : ℕ) (ws : List ℕ) (i : ℕ) where

@@ -2,9 +2,9 @@
 use Prim.Native.Nat.{ℕ, _+_}
 use mathlib.Core.List.{List, [], _∷_, _++_}
 use lib.ListN.{getD}
-use lib.Ieee.{Float, ofBits, toBits, binary32}
+use lib.Ieee.{toBits, binary32}
 use Rattle.geometry.specs.Geometry.{_to_}
-use Rattle.records.specs.Records.{Kind, below, whole, float}
+use Rattle.records.specs.Records.{Kind, below, whole, float, floatAt}
 use Rattle.style.specs.Codes.{safetyOf, safetyCode}
 use Rattle.tree.specs.declared.layout.AxisStaticPosition.{AxisStaticPosition}
 use Rattle.tree.specs.declared.layout.OofCandidate.{OofCandidate}
@@ -24,10 +24,6 @@ abbrev pub candidateKinds : ℕ → List Kind
 candidateKinds n = below n ∷ whole ∷ below 5 ∷ (axisKinds ++ axisKinds)
 
 -- ---- reading
-
--- the float of word k
-abbrev pub floatAt : List ℕ → ℕ → Float
-floatAt r k = ofBits binary32 (getD r k 0)
 
 -- one axis, from word k on
 unfoldable pub axisOf : List ℕ → ℕ → AxisStaticPosition

@@ -4,9 +4,8 @@ use mathlib.Core.List.{List, [], _∷_, _++_}
 use lib.ListN.{getD, replicate}
 use lib.Ieee.{toBits, binary32}
 use Rattle.geometry.specs.declared.Rect.{Rect}
-use Rattle.records.specs.Records.{Kind, whole, float}
+use Rattle.records.specs.Records.{Kind, whole, float, floatAt}
 use Rattle.tree.specs.declared.layout.Layout.{Layout}
-use Rattle.tree_record.specs.Candidate.{floatAt}
 
 abbrev pub layoutWidth : ℕ
 layoutWidth = 23

@@ -1,5 +1,5 @@
 -- Generated: tools/proof/write-skeletons, then tools/proof/list-facts --fill.
-use Rattle.screen_fields.specs.Field.{present}
+use Rattle.screen_fields.specs.Field.{presentWord}
 use borrow.Author.Needs.{needs}
 use Rattle.screen_fields.proofs.field.present_word.Statement.{statement}
 use Rattle.screen_fields.proofs.field.present_word.Tie as tie
@@ -17,11 +17,11 @@ to-word-requires : tie.Need-to-word-requires
 to-word-requires c κs = search needs
 
 returns : tie.Need-returns
-unfolding present
+unfolding presentWord
 returns c = simp (c .enum-told .given .1)
 
 returns-2 : tie.Need-returns-2
-unfolding present
+unfolding presentWord
 returns-2 c = simp (c .before .before .x .given .1, ← c .to-word .ensures)
 
 pub present-word-spec : {M : Type 1} → statement M
