@@ -29,6 +29,13 @@ def number(path, name):
     return int(body(path, name)[0][1])
 
 
+def count(name):
+    """How many words the list of a definition of the state or the answer has: one for each ∷, and those of the lists that it joins."""
+    path = STATE if re.search(rf"^{name} ", text(STATE), re.M) else ANSWER
+    right = body(path, name)[0][1]
+    return right.count("∷") + sum(count(part.split()[0]) for part in right.split("++") if "∷" not in part)
+
+
 def codes(path, name, prefix, names=None):
     """`name Variant = N` for each variant, as PREFIX_VARIANT."""
     snake = lambda v: re.sub(r"(?<=[a-z])(?=[A-Z])", "_", v.split(".")[-1]).upper()
@@ -154,8 +161,8 @@ def tags():
 def wanted():
     out = style() | candidate() | layout() | state() | answer() | tags()
     out |= {"STYLE_WORDS": known["styleWords"], "CANDIDATE_WORDS": number(CANDIDATE, "candidateWidth"), "LAYOUT_WORDS": number(LAYOUT, "layoutWidth")}
-    for name, path in (("STATE_WORDS", "oof_c_words/src/state.rt"), ("ANSWER_WORDS", "oof_c_words/src/answer.rt")):
-        out[name] = int(re.search(rf"const {name}: usize = (\d+);", text(path))[1])
+    out |= {"STATE_WORDS": count("stateWords"), "ANSWER_WORDS": count("finishWords")}
+    assert count("measureWords") == count("layOutWords") == count("finishWords")
     refusals = text("run/specs/Refusals.antt")
     out |= {"MOST_ITEMS": int(re.search(r"ltb (\d+) \(items", refusals)[1]), "MOST_RECORDS": int(re.search(r"ltb (\d+) \(length list", refusals)[1])}
     out |= {k: v for k, v in codes("refusal/specs/Refusal.antt", "numberOf", "").items() if v <= 6} | {"ACCEPTED": 0}

@@ -1,8 +1,10 @@
 /* Replays stored runs through the entries. Standard input has openings and replies, damaged ones among them; what is answered
  * and written is printed, and run.sh holds it to replay.stdout: what the published Rust answered, or the refusal that
- * document 01 names. Exits with 1 where a refused call wrote a word that it must keep, or where the input is no such runs.
+ * document 01 names. Exits with 1 where a call, refused or not, wrote a word that it must keep, or where the input is no such
+ * runs.
  *
- * replay.stdin, in hexadecimal words (tools/samples/placer.py writes it, and replay.stdout): the number of runs, and of each
+ * replay.stdin, in hexadecimal words (tools/samples/replays.py writes it, and replay.stdout): the number of openings, each with
+ * its replies, and of each
  *   - the lengths of styles, candidates, layouts, working and unclaimed list;
  *   - the area's width, height, x and y; direction, claims, overflow x and y;
  *   - the words of the styles and of the candidates;
@@ -15,27 +17,31 @@
 #include <stdlib.h>
 #include "oof.h"
 
-enum { ROOM = 20 * OOF_CANDIDATE_WORDS, NOISE = 0x5A };
+enum { ROOM = 20 * OOF_CANDIDATE_WORDS, BEYOND = 4, NOISE = 0x5A };
+
+/* the kinds of reply, as replay.stdin has them */
+enum { REPLY_BOTH, REPLY_WIDTH, REPLY_HEIGHT, REPLY_LAID_OUT };
 
 typedef struct {
     uint32_t length, words[ROOM];
 } slice;
 
-/* What the calls of a run are lent: 32-bit words and no padding, so that two compare as bytes. */
+/* What the calls of a run are lent, and words beyond it that no call may write: 32-bit words and no padding, so that two
+ * compare as bytes. */
 typedef struct {
-    slice styles, candidates, layouts, working, unclaimed;
-    uint32_t state[OOF_STATE_WORDS], answer[OOF_ANSWER_WORDS];
+    slice styles, candidates, surfaced, layouts, working, unclaimed;
+    uint32_t state[OOF_STATE_WORDS], beyond_state[BEYOND], answer[OOF_ANSWER_WORDS], beyond_answer[BEYOND];
 } lent;
 
 #define SLICE(s) (s).words, (s).length
 #define WRITTEN(w) SLICE((w)->layouts), SLICE((w)->working), SLICE((w)->unclaimed), (w)->state, (w)->answer
 
-static uint32_t run_number;
+static uint32_t opening_number;
 
 static void must(int so, const char *else_what)
 {
     if (!so) {
-        fprintf(stderr, "hosts/c: stored run %" PRIu32 ": %s\n", run_number, else_what);
+        fprintf(stderr, "hosts/c: stored opening %" PRIu32 ": %s\n", opening_number, else_what);
         exit(EXIT_FAILURE);
     }
 }
@@ -170,6 +176,21 @@ static void rewrite(slice *s)
 
 /* ---- calls */
 
+static void take_words(slice *to, const slice *from)
+{
+    memcpy(to->words, from->words, to->length * sizeof *to->words);
+}
+
+/* what an accepted call may write; all else must be as before, and so must what lies beyond a slice's length */
+static void take_written(lent *to, const lent *from)
+{
+    take_words(&to->layouts, &from->layouts);
+    take_words(&to->working, &from->working);
+    take_words(&to->unclaimed, &from->unclaimed);
+    memcpy(to->state, from->state, sizeof to->state);
+    memcpy(to->answer, from->answer, sizeof to->answer);
+}
+
 static int same(const lent *a, const lent *b)
 {
     return memcmp(a, b, sizeof *a) == 0;
@@ -188,26 +209,25 @@ static void play_opening(lent *w)
     uint32_t result = oof_open(area[0], area[1], area[2], area[3], codes[0], codes[1], codes[2], codes[3],
                                SLICE(w->styles), SLICE(w->candidates), WRITTEN(w));
     print_call(result, w);
-    memcpy(before.state, w->state, sizeof before.state);
-    must(result == OOF_ACCEPTED || same(&before, w), "a refused opening wrote a word that isn't the state's");
+    if (result == OOF_ACCEPTED) {
+        take_written(&before, w);
+        must(same(&before, w), "an opening wrote beyond what it may write");
+    } else {
+        memcpy(before.state, w->state, sizeof before.state);
+        must(same(&before, w), "a refused opening wrote a word that isn't the state's");
+    }
 }
 
-/* What surfaced is read with every kind of reply, and lent with the last. */
-static uint32_t reply(lent *w)
+/* What surfaced is lent with the last kind only. */
+static uint32_t reply(uint32_t kind, const float values[4], lent *w)
 {
-    float values[4];
-    slice surfaced;
-    uint32_t kind = read_word();
-    read_floats(values);
-    read_length(&surfaced);
-    read_words(&surfaced);
-    must(kind <= 3, "no such kind of reply");
     switch (kind) {
-    case 0: return oof_reply_both(values[0], values[1], SLICE(w->styles), WRITTEN(w));
-    case 1: return oof_reply_width(values[0], SLICE(w->styles), WRITTEN(w));
-    case 2: return oof_reply_height(values[0], SLICE(w->styles), WRITTEN(w));
+    case REPLY_BOTH: return oof_reply_both(values[0], values[1], SLICE(w->styles), WRITTEN(w));
+    case REPLY_WIDTH: return oof_reply_width(values[0], SLICE(w->styles), WRITTEN(w));
+    case REPLY_HEIGHT: return oof_reply_height(values[0], SLICE(w->styles), WRITTEN(w));
     default:
-        return oof_reply_laid_out(values[0], values[1], values[2], values[3], SLICE(surfaced), SLICE(w->styles),
+        must(kind == REPLY_LAID_OUT, "no such kind of reply");
+        return oof_reply_laid_out(values[0], values[1], values[2], values[3], SLICE(w->surfaced), SLICE(w->styles),
                                   WRITTEN(w));
     }
 }
@@ -216,20 +236,29 @@ static uint32_t reply(lent *w)
 static void play_reply(lent *w)
 {
     uint32_t kept[OOF_STATE_WORDS];
+    float values[4];
     memcpy(kept, w->state, sizeof kept);
     forge(w->state);
     rewrite(&w->styles);
     rewrite(&w->working);
+    uint32_t kind = read_word();
+    read_floats(values);
+    memset(&w->surfaced, NOISE, sizeof w->surfaced);
+    read_length(&w->surfaced);
+    read_words(&w->surfaced);
     lent before = *w;
-    uint32_t result = reply(w);
+    uint32_t result = reply(kind, values, w);
     print_call(result, w);
-    if (result != OOF_ACCEPTED) {
+    if (result == OOF_ACCEPTED) {
+        take_written(&before, w);
+        must(same(&before, w), "a reply wrote beyond what it may write");
+    } else {
         must(same(&before, w), "a refused reply wrote a word");
         memcpy(w->state, kept, sizeof kept);
     }
 }
 
-/* Layouts and lists begin as zeros; state, answer and what lies beyond each slice as noise. */
+/* An opening and its replies. Layouts and lists begin as zeros; state, answer and what lies beyond as noise. */
 static void play_run(void)
 {
     lent w;
@@ -252,8 +281,8 @@ static void play_run(void)
 int main(void)
 {
     char more;
-    uint32_t runs = read_word();
-    for (run_number = 1; run_number <= runs; run_number++)
+    uint32_t openings = read_word();
+    for (opening_number = 1; opening_number <= openings; opening_number++)
         play_run();
     must(scanf(" %c", &more) == EOF, "the input goes on after the last run");
     return EXIT_SUCCESS;

@@ -2,11 +2,11 @@
 # Builds the C programs against an installed copy of the proved library, outside the repository, and runs them: the tests, the
 # stored runs, whose output is held to replay.stdout, the measurement of the stack, and the example, whose output is held to
 # example.stdout. Before that, the header's numbers are held to the definitions, and the library to what README.md says that it
-# needs.
+# needs. README.md must have the size of the code as measured, and that of the stack as measured by the compiler that it names.
 #
 #     rt staticlib oof_c && hosts/c/run.sh
 #
-# Needs a C compiler on x86-64 Linux (CC names another than cc), Python 3 and binutils' nm; pkg-config if it is there.
+# Needs a C compiler on x86-64 Linux (CC names another than cc), Python 3, nm and size of binutils; pkg-config if it is there.
 set -eu
 here=$(cd "$(dirname "$0")" && pwd)
 work=$(mktemp -d)
@@ -16,6 +16,17 @@ trap 'rm -rf "$work"' EXIT
 "$here/install.sh" "$work/prefix" > "$work/log" || { cat "$work/log" >&2; exit 2; }
 undefined=$(nm -u "$work/prefix/lib/liboof_c.a" | awk '$1 == "U" { print $2 }' | sort -u | tr '\n' ' ')
 [ "$undefined" = "memcpy " ] || { echo "hosts/c: the library needs: $undefined" >&2; exit 1; }
+
+thousands() { # 27317 as 27,317
+    echo "$1" | sed -e :again -e 's/^\([0-9]\{1,\}\)\([0-9]\{3\}\)/\1,\2/' -e 't again'
+}
+must_say() { # what is measured, in README.md's words
+    grep -qF "$1" "$here/README.md" || { echo "hosts/c: README.md doesn't say what is measured: $1" >&2; exit 1; }
+}
+size "$work/prefix/lib/liboof_c.a" > "$work/sizes"
+text=$(awk 'NR > 1 { sum += $1 } END { print sum }' "$work/sizes")
+data=$(awk 'NR > 1 { sum += $2 + $3 } END { print sum }' "$work/sizes")
+[ "$data" = 0 ] || { echo "hosts/c: the library has $data bytes of data and bss" >&2; exit 1; }
 
 if command -v pkg-config > /dev/null; then
     export PKG_CONFIG_PATH="$work/prefix/lib/pkgconfig"
@@ -36,9 +47,22 @@ build test
 build replay
 ./replay < "$here/replay.stdin" > stdout
 diff "$here/replay.stdout" stdout > differences || { head -n 20 differences; exit 1; }
-echo "hosts/c: $(grep -c '^layouts' stdout) stored runs, $(grep -c '^counts' stdout) calls, as the Rust answered or document 01 refuses"
+# what an opening answered is the first line, or follows the last line of the opening before
+awk '!inside { inside = 1; if ($1 == "refused") refused++; else runs++ }
+    $1 == "counts" { calls++ }
+    $1 == "unclaimed" { inside = 0 }
+    END { printf "hosts/c: %d stored runs, %d refused openings, %d calls", runs, refused, calls
+          print ", as the Rust answered or document 01 refuses" }' stdout
 build stack -D_POSIX_C_SOURCE=200809L -pthread
-./stack
+./stack > stdout || { cat stdout; exit 1; }
+cat stdout
+echo "hosts/c: bytes of text and constants: $text; of data and bss: $data"
+must_say "| $(thousands "$text") bytes of text and constants"
+open=$(sed -n 's/.*: open \([0-9]*\), .*/\1/p' stdout)
+reply=$(sed -n 's/.*, both //p' stdout | grep -o '[0-9]\{1,\}' | sort -n | tail -n 1)
+case $("${CC:-cc}" -dumpversion) in
+12 | 12.*) must_say "| $(thousands "$open") bytes for \`oof_open\`, $(thousands "$reply") for a reply" ;;
+esac
 build example
 ./example > stdout
 diff "$here/example.stdout" stdout

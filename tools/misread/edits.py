@@ -9,8 +9,8 @@ pair as old text is all from the first up to the second (None: to the file's end
 misreading of the models axis.py and box.py, which then say which of the refused laws and rows are false: so a law that is broken is told apart from
 a law whose proof merely no longer fits.
 
-- Of an axis: the crates are those whose laws are asked in turn (or a pair of such a crate and more edits before it is asked). Some 10 s; a minute
-  where the laws on quarters are asked.
+- Of an axis: the crates are those whose laws are asked in turn (or a pair of such a crate and more edits before it is asked). Some 10 s; half a
+  minute to a minute where the laws on quarters are asked.
 - Of a box: laws and rows are asked of the changed definitions without the code (bare.py); then the crates named, whose code is edited, are proved
   anew, not those above. Half a minute or more.
 

@@ -1,6 +1,6 @@
 #!/usr/bin/env python3
 """axis.py ORACLE: writes the samples of the computed tests of one axis: Quarter, Typical, Wild, Directed and Offsets in
-crates/test_oof_axis_rows/specs. Run at the root of the repository, then `rt fmt`.
+crates/test_oof_axis_samples/specs. Run at the root of the repository, then `rt fmt`.
 
 ORACLE is a program that runs taffy 0.15.1 on document 01's word records: `ORACLE gen PROFILE SEED COUNT` prints random cases (quarter:
 quarter pixels; wild: any float bits; typical: plausible CSS), `ORACLE run` lays cases out and answers `offset` lines. directed.py
@@ -46,7 +46,7 @@ def chain(ws): return '(' + ' ∷ '.join(map(str, ws)) + ' ∷ [])'
 HEAD = '''-- %s
 -- Made by tools/samples/axis.py: edit that, not this. Assumes nothing.
 use mathlib.Core.List.{List, [], _∷_}
-use Rattle.test_oof_axis_rows.specs.Sample.{%s}
+use Rattle.test_oof_axis_samples.specs.Sample.{%s}
 
 unfoldable pub %s : List %s
 %s =
@@ -55,7 +55,7 @@ unfoldable pub %s : List %s
 '''
 
 def write(name, said, kind, what, rows):
-    open('crates/test_oof_axis_rows/specs/%s.antt' % name, 'w').write(HEAD % (said, kind, what, kind, what, '\n    ∷ '.join(rows)))
+    open('crates/test_oof_axis_samples/specs/%s.antt' % name, 'w').write(HEAD % (said, kind, what, kind, what, '\n    ∷ '.join(rows)))
     print(name, len(rows))
 
 for profile, seed, wanted in (('quarter', 7, 60), ('typical', 7, 60), ('wild', 7, 60), ('directed', 7, 180)):

@@ -5,7 +5,8 @@ is run on.
     tools/samples/boxlists.py ORACLE     writes all; ORACLE is the program of diff/oracle, which runs the published Rust
     tools/samples/boxlists.py --check    says whether the screens are what this script makes of them, and each has a list
 
-The screens come from here, the lists from the Rust, and none of it from the Rattle code."""
+The screens come from here. A list is what the published Rust makes of its screen or, where that is refused, the refusal by document 01's
+table, which ORACLE has a model of. None of it comes from the Rattle code."""
 import os, subprocess, sys
 
 root = os.path.join(os.path.dirname(os.path.abspath(__file__)), '..', '..')
@@ -114,6 +115,8 @@ ABOUT = {
     'labels': 'labels as large as the font says, one in an area of its own, one at the end edge',
     'keywords': 'min-content, max-content, stretch, fit-content in three forms, content, percentages, a ratio, a table',
     'refused': 'padding `auto`, which padding doesn\'t take: refusal 3',
+    'limits/list-largest': 'one box at the largest numbers that the list prints; the overflow\'s right is larger, and prints `*`',
+    'limits/items-128-candidates-256': 'the longest screen, and the longest list: 256 rows',
 }
 
 # ---- the limits
@@ -210,7 +213,7 @@ def place(name):
 def readme():
     return """# Telling screens
 
-Each `NAME.screen` is a [screen file](../docs/SCREEN-FORMAT.md); `NAME.list` is what the published Rust makes of it, and what `boxlist` prints, byte for byte:
+Each `NAME.screen` is a [screen file](../docs/SCREEN-FORMAT.md); `NAME.list` is what the published Rust makes of it or, where it is refused, the refusal by document 01's table. That is what `boxlist` prints, byte for byte:
 
     target/bin/boxlist < screens/incident.screen
 
@@ -226,7 +229,8 @@ def stored(path):
 
 
 def main():
-    assert set(ABOUT) == set(telling) and not set(telling) & set(limits)
+    assert {place(n) for n in telling} <= {'screens/' + n for n in ABOUT} <= {place(n) for n in {**telling, **limits}}
+    assert not set(telling) & set(limits)
     if sys.argv[1:] == ['--check']:
         lists = {n: stored(place(n) + '.list') for n in {**telling, **limits}}
         wrong = [p for p, text in files(lists).items() if text is None or stored(p) != text]

@@ -55,7 +55,7 @@ pub record OpeningDemands (o : Opening) (candidates : List ℕ) (lent : Lent) (h
   pub accepted : (isRefused (has .step .answer) ≡ false) ↔ NoneHolds (openingTests o candidates lent)
   pub kept : (r : Refusal) → has .step .answer ≡ Refused r → has ≡ unwritten lent (record { state = closed lent; answer = Refused r })
 
--- Of demand 2, the law of the final size: the words that an accepted lay out reply writes, from any state, forged ones too, are those of a
+-- Of demand 2, the law of the final size: the words that an accepted lay-out reply writes, from any state, forged ones too, are those of a
 -- layout whose size is no NaN and at least padding plus border, on each axis where that sum isn't NaN
 pub record SizedLayout (s : State) (lent : Lent) (layouts : List ℕ) : Type 0 where
   pub layout : Layout
@@ -105,7 +105,7 @@ EqualsStraightRun =
     → Run o candidates lent turns has
     → Stands lent (length (heededIn o candidates lent turns)) has (courseOf o candidates lent turns)
 
--- the size told in a lay out question is the size written, at the place of the node that it names, whatever replies were refused in between
+-- the size told in a lay-out question is the size written, at the place of the node that it names, whatever replies were refused in between
 abbrev pub LaidOutAsAsked : Type 0
 LaidOutAsAsked =
     (o : Opening) (candidates : List ℕ) (lent : Lent) (turns : List Turn) (asked before has : Outcome)

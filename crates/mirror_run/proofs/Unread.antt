@@ -39,7 +39,7 @@ pub replied-as : (s : State) (reply : Reply) (surfaced : List ℕ) (lent : Lent)
 unfolding replied
 replied-as s reply surfaced lent d e = rw (d, e) refl
 
--- only a lay out reply's surfaced slice is taken in
+-- only a lay-out reply's surfaced slice is taken in
 pub taken-all : (s : State) (reply : Reply) (surfaced : List ℕ) {overflow : _} → takenBy s reply ≡ Laid overflow → lentBy reply surfaced ≡ surfaced
 unfolding takenBy
 taken-all s reply surfaced {overflow} e =

@@ -44,7 +44,7 @@ imageNext styles o m = turned styles o (m .image)
 
 -- ---- what is asked of them: `Fair`, at the end, of each
 
--- the surfaced words of a lay out reply: those lent with a measure reply are neither checked nor read
+-- the surfaced words of a lay-out reply: those lent with a measure reply are neither checked nor read
 abbrev pub surfacedIn : Turn → List ℕ
 surfacedIn t = lentBy (t .heard .reply) (t .heard .surfaced)
 

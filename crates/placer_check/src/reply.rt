@@ -43,7 +43,7 @@ fn are_lengths_other(
     unclaimed.len() != e.unclaimed
 }
 
-// How many words of the surfaced slice are looked at: those of a lay out reply only.
+// How many words of the surfaced slice are looked at: those of a lay-out reply only.
 fn looked_at(reply: Reply, surfaced: &[u32]) -> usize
     ensures { λ r. ⌜ r ≡ length (lentBy reply (now (surfaced .entry))) ⌝ }
 {

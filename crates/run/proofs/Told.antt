@@ -1,4 +1,4 @@
--- The size told in a lay out question is the size written. Assumes nothing.
+-- The size told in a lay-out question is the size written. Assumes nothing.
 use Prim.Native.Nat.{ℕ, _*_}
 use mathlib.Core.Path.{_≡_, refl, sym, ap, subst, _∙_}
 use mathlib.Core.Bool.{Bool, true, false}

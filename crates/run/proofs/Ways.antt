@@ -190,7 +190,7 @@ laidRect other Wrong = other
 laidRect other (Kept r) = other
 laidRect other (Laid overflow) = overflow
 
--- only a lay out reply is taken as one
+-- only a lay-out reply is taken as one
 laid-by : (r : Replies) (stage : Stage) (given : Reply) (overflow : Rect) → taken r stage given ≡ Laid overflow → given ≡ reply.LaidOut overflow
 unfolding taken isLaid laidRect
 laid-by r stage given overflow e = go stage given e (ap isLaid e)
@@ -230,7 +230,7 @@ pub lent-all : (r : Replies) (stage : Stage) (given : Reply) (surfaced : List �
     → lentBy given surfaced ≡ surfaced
 lent-all r stage given surfaced {overflow = overflow} e = ap (λ (g : Reply). lentBy g surfaced) (laid-by r stage given overflow e)
 
--- a lay out reply is never kept as a measure
+-- a lay-out reply is never kept as a measure
 pub never-kept : {A : Type 0} (s : State) (overflow : Rect) {replies : Replies} → takenBy s (reply.LaidOut overflow) ≡ Kept replies → A
 unfolding takenBy taken
 never-kept s overflow e = no (ap isKept e) (go (s .progress))

@@ -165,7 +165,7 @@ openingTests o candidates lent =
     ∷ (5, Exceeds (claimsOf o) (candidatesIn candidates) (lent .working) (lent .unclaimed) noneFilled)
     ∷ []
 
--- "a reply 2, 6, 3, 4, 5". Its surfaced slice is looked at with a lay out reply only (`lentBy`)
+-- "a reply 2, 6, 3, 4, 5". Its surfaced slice is looked at with a lay-out reply only (`lentBy`)
 abbrev pub replyTests : State → Reply → List ℕ → Lent → List (ℕ × Type 0)
 replyTests s given slice lent =
     let surfaced = lentBy given slice in

@@ -62,7 +62,7 @@ otherLengths e lent =
     || not (eqb (length (lent .working)) (e .working))
     || not (eqb (length (lent .unclaimed)) (e .unclaimed))
 
--- the surfaced slice goes by the reply's kind: only that of a lay out reply is looked at
+-- the surfaced slice goes by the reply's kind: only that of a lay-out reply is looked at
 abbrev pub lentBy : Reply → List ℕ → List ℕ
 lentBy (Both size) surfaced = []
 lentBy (Width width) surfaced = []

@@ -341,7 +341,7 @@ HoistedOrder =
     → courseOf o candidates lent turns ≡ ended w
     → hoisted (called o candidates lent turns) ≡ map (λ (b : Box). b .candidate .node) (w .laid)
 
--- ---- The size told in a lay out question is the size written, with the words as the call left them, whatever replies are refused between.
+-- ---- The size told in a lay-out question is the size written, with the words as the call left them, whatever replies are refused between.
 
 -- what some call left, an opening or a reply to any state, with these styles
 pub data Left (styles : List ℕ) : Outcome → Type 0 where

@@ -1,5 +1,5 @@
-// Document 01's rows 12 and 13 on the code; those before are computed from the definitions (test_oof_box_rows). What is written is
-// held to the column "found".
+// Document 01's rows 12 and 13, run on the code; all 13 rows are computed from the definitions (test_oof_box_rows). What is written
+// is held to the column "found".
 use geometry::Line;
 use geometry::Point;
 use geometry::Rect;

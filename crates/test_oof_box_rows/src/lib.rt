@@ -1,1 +1,1 @@
-// Worked examples of one box, computed from the definitions: document 01's starred rows, and boxes that the Rust laid out.
+// Worked examples of one box, computed from the definitions: document 01's rows, 1 to 13, and boxes that the Rust laid out.

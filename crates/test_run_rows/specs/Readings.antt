@@ -95,7 +95,7 @@ opening candidates lent = openingIn (px 100) 0 1 0 candidates lent
 unfoldable pub reply : State → Lent → Heard → Outcome
 reply s lent h = replied s (h .reply) (h .surfaced) lent
 
--- a lay out reply without overflow, and what is surfaced with it
+-- a lay-out reply without overflow, and what is surfaced with it
 unfoldable pub surfacing : List ℕ → Heard
 surfacing candidates = laid 0 0 0 0 candidates
 
@@ -234,7 +234,7 @@ surfacedByKind =
     -- two openings, one that asks to measure and one that asks to lay out
     measuresBoth (0 ∷ none ∷ none ∷ px 100 ∷ px 100 ∷ []) measuring
     ∷ laysOut boxAsked openedBox
-    -- lay out, 12 words, to a measure question; a measure, 12 words, to a lay out question; lay out, 12 words, after the finish
+    -- lay out, 12 words, to a measure question; a measure, 12 words, to a lay-out question; lay out, 12 words, after the finish
     ∷ refuses 2 (next item measuring (surfacing twelve))
     ∷ refuses 6 (next box openedBox (lending twelve (both 0 0)))
     ∷ refuses 2 (next box finished (surfacing twelve))

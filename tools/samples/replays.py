@@ -3,7 +3,7 @@
 surfaced boxes, and damaged calls between them. A call is damaged by its reply, by words that the host rewrote, by a state that the host
 forged, or by several of these.
 
-    tools/samples/placer.py ORACLE [RUNS]
+    tools/samples/replays.py ORACLE [RUNS]
 
 ORACLE is a program that runs the published Rust on word records (`gen`, `fix`, `run`); RUNS (70 unless said) is the number of runs of each
 of its three profiles. What the runs must answer and write is the Rust's; what a damaged call must answer is worked out here from document
