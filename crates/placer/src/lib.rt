@@ -38,7 +38,7 @@ mod boxes;
 
 // ---- an opening
 
-fn block_of(o: Opening) -> ContainingBlock
+fn container_of(o: Opening) -> ContainingBlock
     ensures { λ r. ⌜ r ≡ containerOf o ⌝ }
 {
     let area = o.area;
@@ -147,7 +147,7 @@ fn begin(
         Swept::Refused(refusal) => boxes::refuse(none, refusal),
         Swept::Into(filled) => {
             let run = Opened {
-                container: block_of(o),
+                container: container_of(o),
                 claims: claims,
                 extents: extents,
             };
