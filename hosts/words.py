@@ -100,12 +100,14 @@ def layout():
     out = {"ORDER": place(record, "order", "getD"), "WIDTH": inner("size", "width"), "HEIGHT": inner("size", "height")}
     out |= {"SCROLLBAR_WIDTH": inner("scrollbar", "width"), "SCROLLBAR_HEIGHT": inner("scrollbar", "height")}
     out |= {"X": inner("location", "x"), "Y": inner("location", "y")}
+    sides = re.findall(r"\b(\w+) = floatAt r (k|\(k \+ \d\))", body(LAYOUT, "rectOf")[0][1])
+    assert [(side.upper(), eval(at, {}, {"k": 0})) for side, at in sides] == [(side, k) for k, side in enumerate(SIDES)], sides
     out |= {field.upper(): place(record, field, "rectOf") for field in ("overflow", "padding", "border", "margin")}
     return {"LAYOUT_" + name: at for name, at in out.items()}
 
 
 def state():
-    replies, block, extents = (body(STATE, name)[0][1] for name in ("repliesOf", "containerOf", "extentsOf"))
+    replies, block, extents = (body(STATE, name)[0][1] for name in ("repliesIn", "containerIn", "extentsIn"))
     first = lambda record, of: int(re.search(rf"\b{of} \(at w (\d+)\)", record)[1])
     def named(record, *fields):
         """The words of these fields, which stand one after another."""
@@ -114,13 +116,13 @@ def state():
         assert numbers == list(range(numbers[0], numbers[0] + len(fields))), record
         return numbers
 
-    counts = named(body(STATE, "countsOf")[0][1], "working", "unclaimed", "begun", "answered")
+    counts = named(body(STATE, "countsIn")[0][1], "working", "unclaimed", "begun", "answered")
     out = {"PROGRESS": first(body(STATE, "stateOf")[0][1], "progressOf")}
-    out |= {"KEYWORD": first(replies, "keywordOf"), "FILL": first(replies, "fillOf")}
+    out |= {"KEYWORD": first(replies, "keywordReplyOf"), "FILL": first(replies, "fillReplyOf")}
     out |= dict(zip(("WORKING", "UNCLAIMED", "BEGUN", "ANSWERED"), counts))
-    out["OVERFLOW"] = named(body(STATE, "overflowIn")[0][1], "left", "right", "top", "bottom")[0]
+    out["OVERFLOW"] = int(re.fullmatch(r"rectOf w (\d+)", body(STATE, "overflowIn")[0][1])[1])
     out |= {"AREA": named(block, "width", "height", "x", "y")[0], "DIRECTION": first(block, "directionOf")}
-    out["CLAIMS"] = first(body(STATE, "openedOf")[0][1], "claimsOf")
+    out["CLAIMS"] = first(body(STATE, "openedIn")[0][1], "claimsIn")
     out |= {f"OVERFLOW_{axis.upper()}": int(re.search(rf"\b{axis} = overflowOf \(at w (\d+)\)", block)[1]) for axis in "xy"}
     out["LENGTHS"] = named(extents, "styles", "layouts", "working", "unclaimed")[0]
     return {"STATE_" + name: at for name, at in out.items()}
@@ -138,7 +140,7 @@ def answer():
                 if re.match(rf"(given|spaceKind) .*\.{side.lower()}\)", w)}
     finish = body(ANSWER, "finishWords")[0][1]
     assert "0 ∷ countWord (f .count) ∷ []) ++ rectWords (f .overflow) ++" in finish
-    sides = re.findall(r"r \.(\w+)", body(STATE, "rectWords")[0][1])
+    sides = re.findall(r"r \.(\w+)", body(LAYOUT, "rectWords")[0][1])
     out |= {"FINISH_COUNT": 1} | {f"FINISH_{side.upper()}": 2 + k for k, side in enumerate(sides)}
     kinds = {"MEASURE_" + re.search(r"Measure(\w+)", v)[1].upper() if "Measure" in v else "LAY_OUT":
              int(r.split()[1]) if "Measure" in v else int(re.search(r"\((\d+) ∷ ask", body(ANSWER, "layOutWords")[0][1])[1])

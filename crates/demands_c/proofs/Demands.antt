@@ -31,7 +31,7 @@ use Rattle.run.proofs.Questions.{Hoisted, opening-hoisted, reply-hoisted}
 use Rattle.run.proofs.Refusals.{begun-accepts, saying, turn-refused}
 use Rattle.run.proofs.Straight.{straight-run}
 use Rattle.run.proofs.Ways.{OpeningWay, begins, opening-way}
-use Rattle.oof_c_words.specs.StateWords.{at, stateOf, stateWords, countsOf, progressOf, progressCode}
+use Rattle.oof_c_words.specs.StateWords.{at, stateOf, stateWords, countsIn, progressOf, progressCode}
 use Rattle.oof_c_words.specs.AnswerWords.{questionWords, measureWords, layOutWords, finishWords}
 use Rattle.oof_c_words.specs.Entry.{Words, words, Returned, lentIn, resultOf, answerLeft, inWords, openedInWords, repliedInWords}
 use Rattle.oof_c_words.specs.Laws.{FitsReply}
@@ -151,14 +151,14 @@ words-for : (i : ℕ) (count : ℕ → ℕ) (step : Step) (has : Returned) (show
     → stateOf (has .words .state) ≡ step .state
     → ForBoxIn i (count (run.askedFor i step)) (step .state)
     → ForBoxIn i (count (askedFor i has)) (stateOf (has .words .state))
-unfolding stateOf countsOf
+unfolding stateOf countsIn
 words-for i count step has shown result answer state b =
     let begun = ap (λ (s : State). s .counts .begun) state in
     let same : askedFor i has ≡ run.askedFor i step = (λ j. cond (eqb (result j) 0 && not (eqb (at (answer j) 0) 0) && eqb (begun j) (i + 1)) 1 0) ∙ asked-same i (step .state .counts .begun) (step .answer) shown in
     subst (λ (x : ℕ × State). ForBoxIn i (count (x .0)) (x .1)) (λ j. (sym same j, sym state j)) b
 
 closed-for : (i : ℕ) (lent : Lent) → ForBoxIn i 0 (stateOf (stateWords (closed lent)))
-unfolding stateOf stateWords countsOf progressOf progressCode closed
+unfolding stateOf stateWords countsIn progressOf progressCode closed
 closed-for i lent = (record { three = omega arith; none = λ h. refl; now = tt }, omega arith)
 
 opening-words-for : (i : ℕ) (o : Opening) (candidates styles : List ℕ) (before : Words) → FitsOpening o
@@ -196,7 +196,7 @@ for-box i (AnyCalls.reply {n = n} reply surfaced styles before f calls w c) =
     (reply-for i n s reply surfaced l (b .0), reply-hoisted s reply surfaced l (b .1)))
 
 pub three-questions-each : ThreeQuestionsEach
-unfolding stateOf countsOf
+unfolding stateOf countsIn
 three-questions-each i n has calls = let b = for-box i calls in (b .0 .three, λ h. b .0 .none (let k = b .1 in omega arith))
 
 -- ---- a run is the straight run

@@ -21,6 +21,7 @@ use Rattle.style.specs.declared.OverflowPoint.{OverflowPoint}
 use Rattle.style.specs.declared.Style.{Style}
 use Rattle.tree.specs.declared.layout.OofCandidate.{OofCandidate}
 use Rattle.records.specs.Records.{floatAt}
+use Rattle.tree_record.specs.Layout as layout
 use Rattle.tree_record.specs.Laws.{FitsSize, FitsRect}
 use Rattle.oof_common.specs.ScrollableOverflow.{propagates, reach, placedAt, contribution}
 use Rattle.oof_resolve.specs.declared.ContainingBlock.{ContainingBlock}
@@ -39,7 +40,7 @@ use Rattle.run.specs.Run.{takenIn, takenBy}
 use Rattle.run.specs.declared.Progress.{Progress}
 use Rattle.run.specs.declared.Progress.the-variants.{Finished, Asking}
 use Rattle.run.specs.declared.State.{State}
-use Rattle.oof_c_words.specs.StateWords.{at, keywordOf, keywordWidth, keywordHeight, fillOf, fillSize, repliesOf, overflowIn, containerOf, openedOf, stateOf}
+use Rattle.oof_c_words.specs.StateWords.{at, keywordReplyOf, keywordWidth, keywordHeight, fillReplyOf, fillSize, repliesIn, overflowIn, containerIn, openedIn, stateOf}
 use Rattle.oof_c_words.specs.Laws.{Floats, FitsReply}
 
 pub zero-fits : T (fits binary32 0f)
@@ -57,8 +58,8 @@ unfolding keywordWidth keywordHeight fillSize
 none-fit = record { width = zero-fits; height = zero-fits; fill = (zero-fits, zero-fits) }
 
 keyword-fits : (kind : ℕ) (x y : Float) → T (fits binary32 x) → T (fits binary32 y)
-    → T (fits binary32 (keywordWidth (keywordOf kind x y))) × T (fits binary32 (keywordHeight (keywordOf kind x y)))
-unfolding keywordOf keywordWidth keywordHeight
+    → T (fits binary32 (keywordWidth (keywordReplyOf kind x y))) × T (fits binary32 (keywordHeight (keywordReplyOf kind x y)))
+unfolding keywordReplyOf keywordWidth keywordHeight
 keyword-fits kind x y f g = go (eqb kind 1) (eqb kind 2) (eqb kind 3)
   where
     go : (a b c : Bool)
@@ -69,8 +70,8 @@ keyword-fits kind x y f g = go (eqb kind 1) (eqb kind 2) (eqb kind 3)
     go false false true = (zero-fits, g)
     go false false false = (zero-fits, zero-fits)
 
-fill-fits : (kind : ℕ) (x y : Float) → T (fits binary32 x) → T (fits binary32 y) → FitsSize (fillSize (fillOf kind x y))
-unfolding fillOf fillSize
+fill-fits : (kind : ℕ) (x y : Float) → T (fits binary32 x) → T (fits binary32 y) → FitsSize (fillSize (fillReplyOf kind x y))
+unfolding fillReplyOf fillSize
 fill-fits kind x y f g = go (eqb kind 1)
   where
     go : (a : Bool) → FitsSize (fillSize (cond a (fill.Both (record { width = x; height = y })) fill.None))
@@ -79,7 +80,7 @@ fill-fits kind x y f g = go (eqb kind 1)
 
 -- what words mean
 pub words-fit : (w : List ℕ) → Floats (stateOf w)
-unfolding stateOf repliesOf overflowIn openedOf containerOf
+unfolding stateOf repliesIn overflowIn layout.rectOf openedIn containerIn
 words-fit w =
     let f : (k : ℕ) → T (fits binary32 (floatAt w k)) = λ k. ofBits-fits binary32 (at w k) in
     let both = keyword-fits (at w 1) (floatAt w 2) (floatAt w 3) (f 2) (f 3) in

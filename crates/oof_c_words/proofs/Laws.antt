@@ -16,6 +16,7 @@ use Rattle.refusal.specs.declared.Refusal.the-variants.{BadArea, BadExtent, Bad
 use Rattle.style.specs.Codes.{directionOf, overflowOf}
 use Rattle.style.proofs.Laws.{direction-codes, overflow-codes, bits-codes}
 use Rattle.style.specs.declared.ContainingBlockClaims.{ContainingBlockClaims}
+use Rattle.tree_record.specs.Layout.{rectOf}
 use Rattle.tree_record.specs.Laws.{FitsSize}
 use Rattle.oof_box.specs.declared.question.Stage.the-variants.{KeywordBoth, KeywordWidth, KeywordHeight, Fill, LayOut}
 use Rattle.oof_box.specs.declared.question.KeywordReply.{KeywordReply}
@@ -32,7 +33,7 @@ use Rattle.run.specs.declared.Answer.{Answer}
 use Rattle.run.specs.declared.Answer.the-variants.{Ask, Finish, Refused}
 use Rattle.run.specs.declared.Progress.{Progress}
 use Rattle.run.specs.declared.Progress.the-variants.{Finished, Asking}
-use Rattle.oof_c_words.specs.StateWords.{countWord, progressOf, stageCode, progressCode, keywordOf, keywordKind, keywordWidth, keywordHeight, fillOf, fillKind, fillSize, claimsOf, claimsCode, repliesOf, countsOf, overflowIn, containerOf, extentsOf, openedOf, stateOf, openingCodes, stateWords}
+use Rattle.oof_c_words.specs.StateWords.{countWord, progressOf, stageCode, progressCode, keywordReplyOf, keywordKind, keywordWidth, keywordHeight, fillReplyOf, fillKind, fillSize, claimsIn, claimsCode, repliesIn, countsIn, overflowIn, containerIn, extentsIn, openedIn, stateOf, openingCodes, stateWords}
 use Rattle.oof_c_words.specs.Entry.{resultOf, stateLeft, answerLeft, Words, words, inWords, lentIn, openedInWords, repliedInWords}
 use Rattle.oof_c_words.specs.Laws.{InAWord, StateBack, ZeroState, RefusedOpeningCloses, NoReplyAfterRefusedOpening, RefusedReplyWritesNothing}
 
@@ -58,26 +59,26 @@ size-back : (s : Size) → FitsSize s → _≡_ {A = Size} (record { width = aga
 size-back s f = λ j. record { width = float-back (s .width) (f .0) j; height = float-back (s .height) (f .1) j }
 
 keyword-back : (k : KeywordReply) → T (fits binary32 (keywordWidth k)) → T (fits binary32 (keywordHeight k))
-    → keywordOf (keywordKind k) (again (keywordWidth k)) (again (keywordHeight k)) ≡ k
-unfolding keywordOf keywordKind keywordWidth keywordHeight
+    → keywordReplyOf (keywordKind k) (again (keywordWidth k)) (again (keywordHeight k)) ≡ k
+unfolding keywordReplyOf keywordKind keywordWidth keywordHeight
 keyword-back keyword.None f g = refl
 keyword-back (keyword.Both size) f g = ap keyword.Both (size-back size (f, g))
 keyword-back (keyword.Width width) f g = ap keyword.Width (float-back width f)
 keyword-back (keyword.Height height) f g = ap keyword.Height (float-back height g)
 
-fill-back : (r : FillReply) → FitsSize (fillSize r) → fillOf (fillKind r) (again (fillSize r .width)) (again (fillSize r .height)) ≡ r
-unfolding fillOf fillKind fillSize
+fill-back : (r : FillReply) → FitsSize (fillSize r) → fillReplyOf (fillKind r) (again (fillSize r .width)) (again (fillSize r .height)) ≡ r
+unfolding fillReplyOf fillKind fillSize
 fill-back fill.None f = refl
 fill-back (fill.Both size) f = ap fill.Both (size-back size f)
 
-claims-back : (c : ContainingBlockClaims) → claimsOf (claimsCode c) ≡ c
-unfolding claimsOf claimsCode
+claims-back : (c : ContainingBlockClaims) → claimsIn (claimsCode c) ≡ c
+unfolding claimsIn claimsCode
 claims-back c =
     let both = bits-codes .0 (c .absolute) (c .fixed) in
     λ j. record { absolute = both .0 j; fixed = both .1 j }
 
 pub state-back : StateBack
-unfolding stateOf stateWords repliesOf countsOf overflowIn openedOf containerOf extentsOf openingCodes
+unfolding stateOf stateWords repliesIn countsIn overflowIn rectOf openedIn containerIn extentsIn openingCodes
 state-back s f n =
     let area = s .opened .container .area in
     λ j. record {
@@ -123,7 +124,7 @@ state-back s f n =
     }
 
 pub zero-state : ZeroState
-unfolding stateOf repliesOf countsOf overflowIn openedOf containerOf extentsOf progressOf keywordOf fillOf claimsOf directionOf overflowOf closed
+unfolding stateOf repliesIn countsIn overflowIn rectOf openedIn containerIn extentsIn progressOf keywordReplyOf fillReplyOf claimsIn directionOf overflowOf closed
 zero-state = refl
 
 -- ---- a refusal

@@ -11,12 +11,13 @@ use Rattle.geometry.specs.declared.MaybeSize.{MaybeSize}
 use Rattle.style.specs.declared.available_space.AvailableSpace.{AvailableSpace}
 use Rattle.style.specs.declared.available_space.AvailableSpace.the-variants.{Definite, MinContent, MaxContent}
 use Rattle.style.specs.declared.available_space.AvailableSize.{AvailableSize}
+use Rattle.tree_record.specs.Layout.{rectWords}
 use Rattle.oof_box.specs.declared.question.MeasureInput.{MeasureInput}
 use Rattle.oof_box.specs.declared.question.LayoutInput.{LayoutInput}
 use Rattle.oof_box.specs.declared.question.Question.{Question}
 use Rattle.oof_box.specs.declared.question.Question.the-variants.{MeasureBoth, MeasureWidth, MeasureHeight, LayOut}
 use Rattle.run.specs.declared.Finish.{Finish}
-use Rattle.oof_c_words.specs.StateWords.{floatWord, countWord, rectWords}
+use Rattle.oof_c_words.specs.StateWords.{floatWord, countWord}
 
 -- ---- words 2 to 5: known sizes, each 0 none or 1 given, then its float; 0 if none
 

@@ -11,6 +11,7 @@ use Rattle.geometry.specs.Geometry.{zeroSize}
 use Rattle.geometry.specs.declared.Rect.{Rect}
 use Rattle.geometry.specs.declared.Size.{Size}
 use Rattle.records.specs.Records.{floatAt}
+use Rattle.tree_record.specs.Layout.{rectOf, rectWords}
 use Rattle.style.specs.Codes.{directionOf, directionCode, overflowOf, overflowCode, bit0, bit1, bitsCode}
 use Rattle.style.specs.declared.ContainingBlockClaims.{ContainingBlockClaims}
 use Rattle.tree.specs.declared.layout.OofPositioningArea.{OofPositioningArea}
@@ -31,7 +32,7 @@ use Rattle.run.specs.declared.State.{State}
 
 -- ---- words
 
--- word k as a number; as a float it is `floatAt` of tree_record/specs/Candidate.antt
+-- word k as a number; as a float it is `floatAt` of records/specs/Records.antt
 abbrev pub at : List ℕ → ℕ → ℕ
 at w k = getD w k 0
 
@@ -66,8 +67,8 @@ progressCode (Asking stage) = stageCode stage
 
 -- ---- the keyword reply: 1 both, 2 a width, 3 a height; any other code is none, and a size that isn't used is 0
 
-unfoldable pub keywordOf : ℕ → Float → Float → KeywordReply
-keywordOf kind width height =
+unfoldable pub keywordReplyOf : ℕ → Float → Float → KeywordReply
+keywordReplyOf kind width height =
     cond (eqb kind 1) (keyword.Both (record { width = width; height = height }))
     (cond (eqb kind 2) (keyword.Width width)
     (cond (eqb kind 3) (keyword.Height height) keyword.None))
@@ -92,8 +93,8 @@ keywordHeight (keyword.Height height) = height
 
 -- ---- the fill reply: 1 both; any other code is none
 
-unfoldable pub fillOf : ℕ → Float → Float → FillReply
-fillOf kind width height = cond (eqb kind 1) (fill.Both (record { width = width; height = height })) fill.None
+unfoldable pub fillReplyOf : ℕ → Float → Float → FillReply
+fillReplyOf kind width height = cond (eqb kind 1) (fill.Both (record { width = width; height = height })) fill.None
 
 unfoldable pub fillKind : FillReply → ℕ
 fillKind fill.None = 0
@@ -103,28 +104,28 @@ unfoldable pub fillSize : FillReply → Size
 fillSize fill.None = zeroSize
 fillSize (fill.Both size) = size
 
--- ---- the claims: bit 0 absolute, bit 1 fixed
+-- ---- the claims in a code: bit 0 absolute, bit 1 fixed
 
-unfoldable pub claimsOf : ℕ → ContainingBlockClaims
-claimsOf code = record { absolute = bit0 code; fixed = bit1 code }
+unfoldable pub claimsIn : ℕ → ContainingBlockClaims
+claimsIn code = record { absolute = bit0 code; fixed = bit1 code }
 
 unfoldable pub claimsCode : ContainingBlockClaims → ℕ
 claimsCode claims = bitsCode (claims .absolute) (claims .fixed)
 
 -- ---- the state that words mean
 
-unfoldable pub repliesOf : List ℕ → Replies
-repliesOf w =
-    record { keyword = keywordOf (at w 1) (floatAt w 2) (floatAt w 3); fill = fillOf (at w 4) (floatAt w 5) (floatAt w 6) }
+unfoldable pub repliesIn : List ℕ → Replies
+repliesIn w =
+    record { keyword = keywordReplyOf (at w 1) (floatAt w 2) (floatAt w 3); fill = fillReplyOf (at w 4) (floatAt w 5) (floatAt w 6) }
 
-unfoldable pub countsOf : List ℕ → Counts
-countsOf w = record { filled = record { working = at w 7; unclaimed = at w 8 }; begun = at w 9; answered = at w 10 }
+unfoldable pub countsIn : List ℕ → Counts
+countsIn w = record { filled = record { working = at w 7; unclaimed = at w 8 }; begun = at w 9; answered = at w 10 }
 
 unfoldable pub overflowIn : List ℕ → Rect
-overflowIn w = record { left = floatAt w 11; right = floatAt w 12; top = floatAt w 13; bottom = floatAt w 14 }
+overflowIn w = rectOf w 11
 
-unfoldable pub containerOf : List ℕ → ContainingBlock
-containerOf w =
+unfoldable pub containerIn : List ℕ → ContainingBlock
+containerIn w =
     record {
       area =
           record { size = record { width = floatAt w 15; height = floatAt w 16 }; offset = record { x = floatAt w 17; y = floatAt w 18 } };
@@ -132,20 +133,20 @@ containerOf w =
       overflow = record { x = overflowOf (at w 21); y = overflowOf (at w 22) };
     }
 
-unfoldable pub extentsOf : List ℕ → Extents
-extentsOf w = record { styles = at w 23; layouts = at w 24; working = at w 25; unclaimed = at w 26 }
+unfoldable pub extentsIn : List ℕ → Extents
+extentsIn w = record { styles = at w 23; layouts = at w 24; working = at w 25; unclaimed = at w 26 }
 
-unfoldable pub openedOf : List ℕ → Opened
-openedOf w = record { container = containerOf w; claims = claimsOf (at w 20); extents = extentsOf w }
+unfoldable pub openedIn : List ℕ → Opened
+openedIn w = record { container = containerIn w; claims = claimsIn (at w 20); extents = extentsIn w }
 
 unfoldable pub stateOf : List ℕ → State
 stateOf w =
     record {
       progress = progressOf (at w 0);
-      replies = repliesOf w;
-      counts = countsOf w;
+      replies = repliesIn w;
+      counts = countsIn w;
       overflow = overflowIn w;
-      opened = openedOf w;
+      opened = openedIn w;
     }
 
 -- ---- the words of a state
@@ -162,11 +163,7 @@ fillWords reply = fillKind reply ∷ floatWord (fillSize reply .width) ∷ float
 abbrev pub countsWords : Counts → List ℕ
 countsWords c = countWord (c .filled .working) ∷ countWord (c .filled .unclaimed) ∷ countWord (c .begun) ∷ countWord (c .answered) ∷ []
 
--- 11 to 14
-abbrev pub rectWords : Rect → List ℕ
-rectWords r = floatWord (r .left) ∷ floatWord (r .right) ∷ floatWord (r .top) ∷ floatWord (r .bottom) ∷ []
-
--- 15 to 18
+-- 11 to 14 are `rectWords` of tree_record/specs/Layout.antt; 15 to 18
 abbrev pub areaWords : OofPositioningArea → List ℕ
 areaWords a = floatWord (a .size .width) ∷ floatWord (a .size .height) ∷ floatWord (a .offset .x) ∷ floatWord (a .offset .y) ∷ []
 

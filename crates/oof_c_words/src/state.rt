@@ -1,6 +1,6 @@
 // The state of a run in 27 lent words, by the table of specs/StateWords.antt.
 ghost use mathlib.Core.Path.{_≡_};
-ghost use Rattle.oof_c_words.specs.StateWords.{countWord, progressOf, stageCode, progressCode, keywordOf, keywordKind, keywordWidth, keywordHeight, fillOf, fillKind, fillSize, repliesOf, countsOf, overflowIn, containerOf, claimsOf, claimsCode, extentsOf, openedOf, openingCodes, stateOf, stateWords};
+ghost use Rattle.oof_c_words.specs.StateWords.{countWord, progressOf, stageCode, progressCode, keywordReplyOf, keywordKind, keywordWidth, keywordHeight, fillReplyOf, fillKind, fillSize, repliesIn, countsIn, overflowIn, containerIn, claimsIn, claimsCode, extentsIn, openedIn, openingCodes, stateOf, stateWords};
 ghost use Rattle.style.specs.Codes.{directionCode, overflowCode};
 use geometry::Point;
 use geometry::Rect;
@@ -113,8 +113,8 @@ fn claims_code(claims: ContainingBlockClaims) -> u32
 
 // ---- replies kept
 
-fn keyword_of(kind: u32, width: f32, height: f32) -> KeywordReply
-    ensures { λ r. ⌜ r ≡ keywordOf kind width height ⌝ }
+fn keyword_reply_of(kind: u32, width: f32, height: f32) -> KeywordReply
+    ensures { λ r. ⌜ r ≡ keywordReplyOf kind width height ⌝ }
 {
     match kind {
         1 => KeywordReply::Both(Size { width, height }),
@@ -157,8 +157,8 @@ fn keyword_height(reply: KeywordReply) -> f32
     }
 }
 
-fn fill_of(kind: u32, width: f32, height: f32) -> FillReply
-    ensures { λ r. ⌜ r ≡ fillOf kind width height ⌝ }
+fn fill_reply_of(kind: u32, width: f32, height: f32) -> FillReply
+    ensures { λ r. ⌜ r ≡ fillReplyOf kind width height ⌝ }
 {
     match kind {
         1 => FillReply::Both(Size { width, height }),
@@ -186,17 +186,17 @@ fn fill_size(reply: FillReply) -> Size
 
 // ---- reading
 
-fn replies_of(w: &[u32; STATE_WORDS]) -> Replies
-    ensures { λ r. ⌜ r ≡ repliesOf (now (w .entry)) ⌝ }
+fn replies_in(w: &[u32; STATE_WORDS]) -> Replies
+    ensures { λ r. ⌜ r ≡ repliesIn (now (w .entry)) ⌝ }
 {
     Replies {
-        keyword: keyword_of(w[1], bits::from_word(w[2]), bits::from_word(w[3])),
-        fill: fill_of(w[4], bits::from_word(w[5]), bits::from_word(w[6])),
+        keyword: keyword_reply_of(w[1], bits::from_word(w[2]), bits::from_word(w[3])),
+        fill: fill_reply_of(w[4], bits::from_word(w[5]), bits::from_word(w[6])),
     }
 }
 
-fn counts_of(w: &[u32; STATE_WORDS]) -> Counts
-    ensures { λ r. ⌜ r ≡ countsOf (now (w .entry)) ⌝ }
+fn counts_in(w: &[u32; STATE_WORDS]) -> Counts
+    ensures { λ r. ⌜ r ≡ countsIn (now (w .entry)) ⌝ }
 {
     let filled = Filled {
         working: count(w[7]),
@@ -220,8 +220,8 @@ fn overflow_in(w: &[u32; STATE_WORDS]) -> Rect
     }
 }
 
-fn block_of(w: &[u32; STATE_WORDS]) -> ContainingBlock
-    ensures { λ r. ⌜ r ≡ containerOf (now (w .entry)) ⌝ }
+fn container_in(w: &[u32; STATE_WORDS]) -> ContainingBlock
+    ensures { λ r. ⌜ r ≡ containerIn (now (w .entry)) ⌝ }
 {
     let size = Size {
         width: bits::from_word(w[15]),
@@ -246,8 +246,8 @@ fn block_of(w: &[u32; STATE_WORDS]) -> ContainingBlock
     }
 }
 
-fn claims_of(code: u32) -> ContainingBlockClaims
-    ensures { λ r. ⌜ r ≡ claimsOf code ⌝ }
+fn claims_in(code: u32) -> ContainingBlockClaims
+    ensures { λ r. ⌜ r ≡ claimsIn code ⌝ }
 {
     ContainingBlockClaims {
         absolute: low::bit0(code),
@@ -255,8 +255,8 @@ fn claims_of(code: u32) -> ContainingBlockClaims
     }
 }
 
-fn extents_of(w: &[u32; STATE_WORDS]) -> Extents
-    ensures { λ r. ⌜ r ≡ extentsOf (now (w .entry)) ⌝ }
+fn extents_in(w: &[u32; STATE_WORDS]) -> Extents
+    ensures { λ r. ⌜ r ≡ extentsIn (now (w .entry)) ⌝ }
 {
     Extents {
         styles: count(w[23]),
@@ -266,13 +266,13 @@ fn extents_of(w: &[u32; STATE_WORDS]) -> Extents
     }
 }
 
-fn opened_of(w: &[u32; STATE_WORDS]) -> Opened
-    ensures { λ r. ⌜ r ≡ openedOf (now (w .entry)) ⌝ }
+fn opened_in(w: &[u32; STATE_WORDS]) -> Opened
+    ensures { λ r. ⌜ r ≡ openedIn (now (w .entry)) ⌝ }
 {
     Opened {
-        container: block_of(w),
-        claims: claims_of(w[20]),
-        extents: extents_of(w),
+        container: container_in(w),
+        claims: claims_in(w[20]),
+        extents: extents_in(w),
     }
 }
 
@@ -282,10 +282,10 @@ pub fn state_of(w: &[u32; STATE_WORDS]) -> State
 {
     State {
         progress: progress_of(w[0]),
-        replies: replies_of(w),
-        counts: counts_of(w),
+        replies: replies_in(w),
+        counts: counts_in(w),
         overflow: overflow_in(w),
-        opened: opened_of(w),
+        opened: opened_in(w),
     }
 }
 

@@ -1,6 +1,6 @@
 // compute/common/scrollable_overflow.rs: what a box adds to its parent's scrollable overflow.
 ghost use mathlib.Core.Path.{_≡_};
-ghost use mathlib.Core.Bool.{not, _&&_, _||_};
+ghost use mathlib.Core.Bool.{_&&_, _||_};
 ghost use lib.Ieee.{le};
 ghost use Rattle.util.specs.Number.{0f};
 ghost use Rattle.oof_common.specs.ScrollableOverflow.{propagates, reach, placedAt, contribution};

@@ -38,7 +38,7 @@ mod boxes;
 
 // ---- an opening
 
-fn block_of(o: Opening) -> ContainingBlock
+fn container_of(o: Opening) -> ContainingBlock
     ensures { λ r. ⌜ r ≡ containerOf o ⌝ }
 {
     let area = o.area;
@@ -147,7 +147,7 @@ fn begin(
         Swept::Refused(refusal) => boxes::refuse(none, refusal),
         Swept::Into(filled) => {
             let run = Opened {
-                container: block_of(o),
+                container: container_of(o),
                 claims: claims,
                 extents: extents,
             };
@@ -190,7 +190,7 @@ pub fn open(
 
 // ---- a reply
 
-// Takes the reply to the open question. The surfaced slice is that of a lay out reply; one lent with another is not looked at.
+// Takes the reply to the open question. The surfaced slice is that of a lay-out reply; one lent with another is not looked at.
 pub fn reply(
     s: State,
     reply: Reply,

@@ -1,7 +1,5 @@
 // One box against its recorded run.
-ghost use mathlib.Core.Path.{_≡_};
 ghost use Prim.Native.Nat.{_+_, _≤_};
-ghost use lib.ListN.{length};
 use geometry::MaybeSize;
 use geometry::Point;
 use geometry::Rect;
@@ -18,19 +16,17 @@ use oof_resolve::ContainingBlock;
 use style::Direction;
 use style::Overflow;
 use style::OverflowPoint;
-use style::Style;
 use style::available_space::AvailableSize;
 use style::available_space::AvailableSpace;
 use style_record::decode;
 use tree::layout::Layout;
-use tree::layout::OofCandidate;
 use tree::layout::OofPositioningArea;
 use tree_record::candidate;
 use tree_record::layout;
 use util::bits;
 use util::math::MaybeF32;
 
-fn block_of(w: &[u32; 127]) -> ContainingBlock {
+fn container_of(w: &[u32; 127]) -> ContainingBlock {
     let size = Size {
         width: bits::from_word(w[57]),
         height: bits::from_word(w[58]),
@@ -73,14 +69,14 @@ fn space_word(space: AvailableSpace) -> u32 {
 fn question_words(kind: u32, known: MaybeSize, space: AvailableSize) -> [u32; 5] {
     let width = known.width;
     let height = known.height;
-    let across = space.width;
-    let down = space.height;
+    let space_width = space.width;
+    let space_height = space.height;
     [
         kind,
         known_word(width),
         known_word(height),
-        space_word(across),
-        space_word(down),
+        space_word(space_width),
+        space_word(space_height),
     ]
 }
 
@@ -235,7 +231,7 @@ fn is_found(found: OofBoxLayout, w: &[u32; 127]) -> bool {
 pub(crate) fn agrees(w: &[u32; 127]) -> bool {
     let style = decode::style_at(w, 0);
     let candidate = candidate::candidate_at(w, 5);
-    let container = block_of(w);
+    let container = container_of(w);
     let mut replies = Replies::NONE;
     let mut path = w[86];
     let mut i: usize = 0;

@@ -41,7 +41,7 @@ item = lengths 4 3 ++ lengths 12 1 ++ lengths 6 3 ++ replicate 13 0
 
 -- tag and value of its width and of its height
 unfoldable pub sized : ℕ → ℕ → ℕ → ℕ → List ℕ
-sized across w down h = written item 32 (across ∷ w ∷ down ∷ h ∷ [])
+sized widthTag w heightTag h = written item 32 (widthTag ∷ w ∷ heightTag ∷ h ∷ [])
 
 -- 30 by 20 pixels: it is laid out without a measure
 unfoldable pub box : List ℕ

@@ -2,7 +2,6 @@
 // list, each time in another item, so that every item has its turn. What the check finds is printed, and held to the file
 // stdout, which a script wrote from a model of its own (tools/samples).
 ghost use mathlib.Core.Path.{_≡_};
-ghost use Prim.Native.Nat.{_≤_};
 ghost use lib.ListN.{length};
 use style_record::check;
 use style_record::check::TableCheck;

@@ -7,11 +7,11 @@ use Rattle.placer.proofs.begin.Statement.{statement}
 use Rattle.placer.proofs.begin.Tie as tie
 use Rattle.placer.proofs.begin.Reads as reads
 use Rattle.placer.proofs.begin.Lts as lts
-use Rattle.placer.proofs.block_of.Reads as block-of-reads
 use Rattle.placer.proofs.boxes.proceed.Reads as proceed-reads
 use Rattle.placer.proofs.boxes.refuse.Reads as refuse-reads
 use Rattle.placer.proofs.claims_of.Reads as claims-of-reads
 use Rattle.placer.proofs.closed.Reads as closed-reads
+use Rattle.placer.proofs.container_of.Reads as container-of-reads
 use Rattle.sweep.proofs.sweep.Reads as sweep-reads
 
 closed-requires : tie.Need-closed-requires
@@ -32,8 +32,8 @@ refuse-requires c κs = search needs
 enum-known-filled : tie.Need-enum-known-filled
 enum-known-filled c = search needs
 
-block-of-requires : tie.Need-block-of-requires
-block-of-requires c κs = search needs
+container-of-requires : tie.Need-container-of-requires
+container-of-requires c κs = search needs
 
 proceed-requires : tie.Need-proceed-requires
 proceed-requires c κs =
@@ -65,7 +65,7 @@ unfolding closed
 returns-2 c =
     let a = c .before .before .before .before .before .before .before .before .before .before .before .before .before .before .before .before .before .before .before .before .before .before .before .args in
     swept-in (a .o) (a .candidates .now) (lent (a .styles .now) (a .layouts .now) (a .working .now) (a .unclaimed .now)) _ _ _ _
-    (rw (c .before .before .before .before .before .before .before .before .before .before .before .before .before .claims-of .ensures, c .before .before .before .before .filled .given .1) at (c .before .before .before .before .before .before .before .before .before .before .sweep .ensures)) (rw (c .before .before .block-of .ensures, c .before .before .before .before .before .before .before .before .before .before .before .before .before .claims-of .ensures, c .before .before .before .before .before .before .before .before .before .before .before .before .before .before .before .closed .ensures) at (c .proceed .ensures))
+    (rw (c .before .before .before .before .before .before .before .before .before .before .before .before .before .claims-of .ensures, c .before .before .before .before .filled .given .1) at (c .before .before .before .before .before .before .before .before .before .before .sweep .ensures)) (rw (c .before .before .container-of .ensures, c .before .before .before .before .before .before .before .before .before .before .before .before .before .claims-of .ensures, c .before .before .before .before .before .before .before .before .before .before .before .before .before .before .before .closed .ensures) at (c .proceed .ensures))
 
 pub begin-spec : {M : Type 1} → statement M
 begin-spec =
@@ -77,7 +77,7 @@ begin-spec =
     enum-known-refusal
     refuse-requires
     enum-known-filled
-    block-of-requires
+    container-of-requires
     proceed-requires
     same-length
     same-length-2

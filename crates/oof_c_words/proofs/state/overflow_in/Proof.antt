@@ -1,4 +1,5 @@
 -- Generated: tools/proof/write-skeletons, then tools/proof/list-facts --fill.
+use Rattle.tree_record.specs.Layout.{rectOf}
 use Rattle.oof_c_words.specs.StateWords.{overflowIn}
 use borrow.Author.Needs.{needs}
 use Rattle.oof_c_words.proofs.state.overflow_in.Statement.{statement}
@@ -32,7 +33,7 @@ from-word-requires-4 : tie.Need-from-word-requires-4
 from-word-requires-4 c κs = search needs
 
 returns : tie.Need-returns
-unfolding overflowIn
+unfolding overflowIn rectOf
 returns c = simp (← c .before .before .before .before .before .before .from-word .ensures, ← c .before .before .before .before .from-word2 .ensures, ← c .before .before .from-word3 .ensures, ← c .from-word4 .ensures)
 
 pub overflow-in-spec : {M : Type 1} → statement M

@@ -8,7 +8,7 @@ use Rattle.test_oof_box.proofs.replay.agrees.Lts as lts
 use Rattle.oof_box.proofs.dialogue.layout_oof_box.Reads as layout-oof-box-reads
 use Rattle.oof_box.proofs.dialogue.next_question.Reads as next-question-reads
 use Rattle.oof_box.proofs.question.Replies.take.Reads as take-reads
-use Rattle.test_oof_box.proofs.replay.block_of.Reads as block-of-reads
+use Rattle.test_oof_box.proofs.replay.container_of.Reads as container-of-reads
 use Rattle.test_oof_box.proofs.replay.is_found.Reads as is-found-reads
 use Rattle.test_oof_box.proofs.replay.is_recorded.Reads as is-recorded-reads
 use Rattle.test_oof_box.proofs.replay.reply_to.Reads as reply-to-reads
@@ -27,8 +27,8 @@ style-at-requires c κs = search needs
 candidate-at-requires : tie.Need-candidate-at-requires Inv-loop μ-loop
 candidate-at-requires c κs = search needs
 
-block-of-requires : tie.Need-block-of-requires Inv-loop μ-loop
-block-of-requires c κs = search needs
+container-of-requires : tie.Need-container-of-requires Inv-loop μ-loop
+container-of-requires c κs = search needs
 
 element-copy-out-path : tie.Need-element-copy-out-path Inv-loop μ-loop
 element-copy-out-path c = search needs
@@ -101,7 +101,7 @@ agrees-spec =
     μ-loop
     style-at-requires
     candidate-at-requires
-    block-of-requires
+    container-of-requires
     element-copy-out-path
     loop-holds
     next-question-requires

@@ -1,10 +1,10 @@
 -- Generated: tools/proof/write-skeletons, then tools/proof/list-facts --fill.
-use Rattle.oof_c_words.specs.StateWords.{extentsOf}
+use Rattle.oof_c_words.specs.StateWords.{extentsIn}
 use borrow.Author.Needs.{needs}
-use Rattle.oof_c_words.proofs.state.extents_of.Statement.{statement}
-use Rattle.oof_c_words.proofs.state.extents_of.Tie as tie
-use Rattle.oof_c_words.proofs.state.extents_of.Reads as reads
-use Rattle.oof_c_words.proofs.state.extents_of.Lts as lts
+use Rattle.oof_c_words.proofs.state.extents_in.Statement.{statement}
+use Rattle.oof_c_words.proofs.state.extents_in.Tie as tie
+use Rattle.oof_c_words.proofs.state.extents_in.Reads as reads
+use Rattle.oof_c_words.proofs.state.extents_in.Lts as lts
 use Rattle.oof_c_words.proofs.state.count.Reads as count-reads
 
 element-copy-out-count : tie.Need-element-copy-out-count
@@ -32,11 +32,11 @@ count-requires-4 : tie.Need-count-requires-4
 count-requires-4 c κs = search needs
 
 returns : tie.Need-returns
-unfolding extentsOf
+unfolding extentsIn
 returns c = simp (← c .before .before .before .before .before .before .count .ensures, ← c .before .before .before .before .count2 .ensures, ← c .before .before .count3 .ensures, ← c .count4 .ensures)
 
-pub extents-of-spec : {M : Type 1} → statement M
-extents-of-spec =
+pub extents-in-spec : {M : Type 1} → statement M
+extents-in-spec =
     tie.close
     (tie.spec
     element-copy-out-count

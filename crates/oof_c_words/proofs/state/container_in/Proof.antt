@@ -1,10 +1,10 @@
 -- Generated: tools/proof/write-skeletons, then tools/proof/list-facts --fill.
-use Rattle.oof_c_words.specs.StateWords.{containerOf}
+use Rattle.oof_c_words.specs.StateWords.{containerIn}
 use borrow.Author.Needs.{needs}
-use Rattle.oof_c_words.proofs.state.block_of.Statement.{statement}
-use Rattle.oof_c_words.proofs.state.block_of.Tie as tie
-use Rattle.oof_c_words.proofs.state.block_of.Reads as reads
-use Rattle.oof_c_words.proofs.state.block_of.Lts as lts
+use Rattle.oof_c_words.proofs.state.container_in.Statement.{statement}
+use Rattle.oof_c_words.proofs.state.container_in.Tie as tie
+use Rattle.oof_c_words.proofs.state.container_in.Reads as reads
+use Rattle.oof_c_words.proofs.state.container_in.Lts as lts
 use Rattle.style.proofs.Direction.from_code.Reads as Direction-from-code-reads
 use Rattle.style.proofs.Overflow.from_code.Reads as Overflow-from-code-reads
 use Rattle.util.proofs.bits.from_word.Reads as from-word-reads
@@ -52,11 +52,11 @@ from-code-requires-3 : tie.Need-from-code-requires-3
 from-code-requires-3 c κs = search needs
 
 returns : tie.Need-returns
-unfolding containerOf
+unfolding containerIn
 returns c = simp (← c .before .before .before .before .before .before .before .before .before .before .before .before .from-word .ensures, ← c .before .before .before .before .before .before .before .before .before .before .from-word2 .ensures, ← c .before .before .before .before .before .before .before .before .from-word3 .ensures, ← c .before .before .before .before .before .before .from-word4 .ensures, ← c .before .before .before .before .from-code .ensures, ← c .before .before .from-code2 .ensures, ← c .from-code3 .ensures)
 
-pub block-of-spec : {M : Type 1} → statement M
-block-of-spec =
+pub container-in-spec : {M : Type 1} → statement M
+container-in-spec =
     tie.close
     (tie.spec
     element-copy-out-from-word

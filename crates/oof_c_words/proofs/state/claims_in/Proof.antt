@@ -1,10 +1,10 @@
 -- Generated skeleton (tools/proof/write-skeletons), answers by hand.
-use Rattle.oof_c_words.specs.StateWords.{claimsOf}
+use Rattle.oof_c_words.specs.StateWords.{claimsIn}
 use borrow.Author.Needs.{needs}
-use Rattle.oof_c_words.proofs.state.claims_of.Statement.{statement}
-use Rattle.oof_c_words.proofs.state.claims_of.Tie as tie
-use Rattle.oof_c_words.proofs.state.claims_of.Reads as reads
-use Rattle.oof_c_words.proofs.state.claims_of.Lts as lts
+use Rattle.oof_c_words.proofs.state.claims_in.Statement.{statement}
+use Rattle.oof_c_words.proofs.state.claims_in.Tie as tie
+use Rattle.oof_c_words.proofs.state.claims_in.Reads as reads
+use Rattle.oof_c_words.proofs.state.claims_in.Lts as lts
 use Rattle.style.proofs.bits.bit0.Reads as bit0-reads
 use Rattle.style.proofs.bits.bit1.Reads as bit1-reads
 
@@ -15,8 +15,8 @@ bit1-requires : tie.Need-bit1-requires
 bit1-requires c κs = search needs
 
 returns : tie.Need-returns
-unfolding claimsOf
+unfolding claimsIn
 returns c = λ j. record { absolute = c .before .bit0 .ensures j; fixed = c .bit1 .ensures j }
 
-pub claims-of-spec : {M : Type 1} → statement M
-claims-of-spec = tie.close (tie.spec bit0-requires bit1-requires returns)
+pub claims-in-spec : {M : Type 1} → statement M
+claims-in-spec = tie.close (tie.spec bit0-requires bit1-requires returns)
