@@ -31,7 +31,7 @@ def number(path, name):
 
 def count(name):
     """How many words the list of a definition of the state or the answer has: one for each ∷, and those of the lists that it joins."""
-    path = STATE if re.search(rf"^{name} ", text(STATE), re.M) else ANSWER
+    path = next(p for p in (STATE, ANSWER, LAYOUT) if re.search(rf"^{name} ", text(p), re.M))
     right = body(path, name)[0][1]
     return right.count("∷") + sum(count(part.split()[0]) for part in right.split("++") if "∷" not in part)
 
