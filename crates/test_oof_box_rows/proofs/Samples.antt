@@ -20,24 +20,24 @@ use Rattle.oof_resolve.specs.Resolved.{ofWidth, ofEachAxis, lessOffset, horizon
 use Rattle.oof_place.specs.Placing.{scrollbarOf, layoutOf as layoutOf-of-place, fromOrigin, boxLayout}
 use Rattle.oof_box.specs.Talk.{_>>=_}
 use Rattle.oof_box.specs.Box.{keywordStretch, sizeKeywords, settled, widthAs, heightAs, inTurn, byKeywords, keywordSizes, ignoresRatio, stretchRatio, widened, heightened, raisedMin, stretched, finalSize, measured, placed}
-use Rattle.test_oof_box_rows.specs.Sample.{containerOf, plain, same, knownWord, spaceWord, asked, questionWords, replyOf, rectWords, follows, agrees, allAgree}
+use Rattle.test_oof_box_rows.specs.Sample.{containerOf, plain, same, knownWord, spaceWord, asked, questionWords, replyOf, follows, agrees, allAgree}
 use Rattle.test_oof_box_rows.specs.Quarter.{boxes as quarter-boxes}
 use Rattle.test_oof_box_rows.specs.Typical.{boxes as typical-boxes}
 use Rattle.test_oof_box_rows.specs.Wild.{boxes as wild-boxes}
 use Rattle.test_oof_box_rows.specs.Directed.{boxes as directed-boxes}
 
 quarter-boxes-agree : allAgree quarter-boxes ≡ true
-unfolding quarter-boxes add sub mul div neg lt le eq isNan sum round units odd size span climb ofBits toBits ofFields nanBits zeroOf before larger smaller magnitude present orElse unwrapOr map mapAdd mapLarger atMost atLeast clamped mapClamped rectOrZero sumX sumY sums rectSum unionOf smallerSize definite bothPresent firstSize filledSize addedSize raisedSize clampedSize clampedFloats completed withRatio byTag resolved takes maybeResolved resolvedRect resolvedSize selfRelative clampedSpace clampedSpaces definiteSpaces sizingOf overflowOf directionOf safetyOf keywordOf alignmentOf containOf lengthField lengthKinds codeKinds kindOf items lengthAt rectAt sizeAt alignAt ratioAt overflowAt styleOf styleAt positionOf edgeOf axisOf candidateOf candidateWords rectOf layoutOf layoutWords fromResolved alignIn centeredBlock staticBlock insetBlock startIsWeaker repaired block bothInsets stretchFit stretching stretches isStretch halves filledMargins margins isNormal alignEdge limit keptWithin selfAligned staticAligned positionIn position placement byKeyword ofResolved keywordOf-of-common absoluteStretch ifAbsent keywordsOf propagates reach placedAt contribution ofWidth ofEachAxis lessOffset horizontal vertical paddingOrBorder styleSize minSize lessMargins spaceFor resolvedBox scrollbarOf layoutOf-of-place fromOrigin boxLayout _>>=_ keywordStretch sizeKeywords settled widthAs heightAs inTurn byKeywords keywordSizes ignoresRatio stretchRatio widened heightened raisedMin stretched finalSize measured placed containerOf plain same knownWord spaceWord asked questionWords replyOf rectWords follows agrees allAgree
+unfolding quarter-boxes add sub mul div neg lt le eq isNan sum round units odd size span climb ofBits toBits ofFields nanBits zeroOf before larger smaller magnitude present orElse unwrapOr map mapAdd mapLarger atMost atLeast clamped mapClamped rectOrZero sumX sumY sums rectSum unionOf smallerSize definite bothPresent firstSize filledSize addedSize raisedSize clampedSize clampedFloats completed withRatio byTag resolved takes maybeResolved resolvedRect resolvedSize selfRelative clampedSpace clampedSpaces definiteSpaces sizingOf overflowOf directionOf safetyOf keywordOf alignmentOf containOf lengthField lengthKinds codeKinds kindOf items lengthAt rectAt sizeAt alignAt ratioAt overflowAt styleOf styleAt positionOf edgeOf axisOf candidateOf candidateWords rectOf layoutOf layoutWords fromResolved alignIn centeredBlock staticBlock insetBlock startIsWeaker repaired block bothInsets stretchFit stretching stretches isStretch halves filledMargins margins isNormal alignEdge limit keptWithin selfAligned staticAligned positionIn position placement byKeyword ofResolved keywordOf-of-common absoluteStretch ifAbsent keywordsOf propagates reach placedAt contribution ofWidth ofEachAxis lessOffset horizontal vertical paddingOrBorder styleSize minSize lessMargins spaceFor resolvedBox scrollbarOf layoutOf-of-place fromOrigin boxLayout _>>=_ keywordStretch sizeKeywords settled widthAs heightAs inTurn byKeywords keywordSizes ignoresRatio stretchRatio widened heightened raisedMin stretched finalSize measured placed containerOf plain same knownWord spaceWord asked questionWords replyOf follows agrees allAgree
 quarter-boxes-agree = refl
 
 typical-boxes-agree : allAgree typical-boxes ≡ true
-unfolding typical-boxes add sub mul div neg lt le eq isNan sum round units odd size span climb ofBits toBits ofFields nanBits zeroOf before larger smaller magnitude present orElse unwrapOr map mapAdd mapLarger atMost atLeast clamped mapClamped rectOrZero sumX sumY sums rectSum unionOf smallerSize definite bothPresent firstSize filledSize addedSize raisedSize clampedSize clampedFloats completed withRatio byTag resolved takes maybeResolved resolvedRect resolvedSize selfRelative clampedSpace clampedSpaces definiteSpaces sizingOf overflowOf directionOf safetyOf keywordOf alignmentOf containOf lengthField lengthKinds codeKinds kindOf items lengthAt rectAt sizeAt alignAt ratioAt overflowAt styleOf styleAt positionOf edgeOf axisOf candidateOf candidateWords rectOf layoutOf layoutWords fromResolved alignIn centeredBlock staticBlock insetBlock startIsWeaker repaired block bothInsets stretchFit stretching stretches isStretch halves filledMargins margins isNormal alignEdge limit keptWithin selfAligned staticAligned positionIn position placement byKeyword ofResolved keywordOf-of-common absoluteStretch ifAbsent keywordsOf propagates reach placedAt contribution ofWidth ofEachAxis lessOffset horizontal vertical paddingOrBorder styleSize minSize lessMargins spaceFor resolvedBox scrollbarOf layoutOf-of-place fromOrigin boxLayout _>>=_ keywordStretch sizeKeywords settled widthAs heightAs inTurn byKeywords keywordSizes ignoresRatio stretchRatio widened heightened raisedMin stretched finalSize measured placed containerOf plain same knownWord spaceWord asked questionWords replyOf rectWords follows agrees allAgree
+unfolding typical-boxes add sub mul div neg lt le eq isNan sum round units odd size span climb ofBits toBits ofFields nanBits zeroOf before larger smaller magnitude present orElse unwrapOr map mapAdd mapLarger atMost atLeast clamped mapClamped rectOrZero sumX sumY sums rectSum unionOf smallerSize definite bothPresent firstSize filledSize addedSize raisedSize clampedSize clampedFloats completed withRatio byTag resolved takes maybeResolved resolvedRect resolvedSize selfRelative clampedSpace clampedSpaces definiteSpaces sizingOf overflowOf directionOf safetyOf keywordOf alignmentOf containOf lengthField lengthKinds codeKinds kindOf items lengthAt rectAt sizeAt alignAt ratioAt overflowAt styleOf styleAt positionOf edgeOf axisOf candidateOf candidateWords rectOf layoutOf layoutWords fromResolved alignIn centeredBlock staticBlock insetBlock startIsWeaker repaired block bothInsets stretchFit stretching stretches isStretch halves filledMargins margins isNormal alignEdge limit keptWithin selfAligned staticAligned positionIn position placement byKeyword ofResolved keywordOf-of-common absoluteStretch ifAbsent keywordsOf propagates reach placedAt contribution ofWidth ofEachAxis lessOffset horizontal vertical paddingOrBorder styleSize minSize lessMargins spaceFor resolvedBox scrollbarOf layoutOf-of-place fromOrigin boxLayout _>>=_ keywordStretch sizeKeywords settled widthAs heightAs inTurn byKeywords keywordSizes ignoresRatio stretchRatio widened heightened raisedMin stretched finalSize measured placed containerOf plain same knownWord spaceWord asked questionWords replyOf follows agrees allAgree
 typical-boxes-agree = refl
 
 wild-boxes-agree : allAgree wild-boxes ≡ true
-unfolding wild-boxes add sub mul div neg lt le eq isNan sum round units odd size span climb ofBits toBits ofFields nanBits zeroOf before larger smaller magnitude present orElse unwrapOr map mapAdd mapLarger atMost atLeast clamped mapClamped rectOrZero sumX sumY sums rectSum unionOf smallerSize definite bothPresent firstSize filledSize addedSize raisedSize clampedSize clampedFloats completed withRatio byTag resolved takes maybeResolved resolvedRect resolvedSize selfRelative clampedSpace clampedSpaces definiteSpaces sizingOf overflowOf directionOf safetyOf keywordOf alignmentOf containOf lengthField lengthKinds codeKinds kindOf items lengthAt rectAt sizeAt alignAt ratioAt overflowAt styleOf styleAt positionOf edgeOf axisOf candidateOf candidateWords rectOf layoutOf layoutWords fromResolved alignIn centeredBlock staticBlock insetBlock startIsWeaker repaired block bothInsets stretchFit stretching stretches isStretch halves filledMargins margins isNormal alignEdge limit keptWithin selfAligned staticAligned positionIn position placement byKeyword ofResolved keywordOf-of-common absoluteStretch ifAbsent keywordsOf propagates reach placedAt contribution ofWidth ofEachAxis lessOffset horizontal vertical paddingOrBorder styleSize minSize lessMargins spaceFor resolvedBox scrollbarOf layoutOf-of-place fromOrigin boxLayout _>>=_ keywordStretch sizeKeywords settled widthAs heightAs inTurn byKeywords keywordSizes ignoresRatio stretchRatio widened heightened raisedMin stretched finalSize measured placed containerOf plain same knownWord spaceWord asked questionWords replyOf rectWords follows agrees allAgree
+unfolding wild-boxes add sub mul div neg lt le eq isNan sum round units odd size span climb ofBits toBits ofFields nanBits zeroOf before larger smaller magnitude present orElse unwrapOr map mapAdd mapLarger atMost atLeast clamped mapClamped rectOrZero sumX sumY sums rectSum unionOf smallerSize definite bothPresent firstSize filledSize addedSize raisedSize clampedSize clampedFloats completed withRatio byTag resolved takes maybeResolved resolvedRect resolvedSize selfRelative clampedSpace clampedSpaces definiteSpaces sizingOf overflowOf directionOf safetyOf keywordOf alignmentOf containOf lengthField lengthKinds codeKinds kindOf items lengthAt rectAt sizeAt alignAt ratioAt overflowAt styleOf styleAt positionOf edgeOf axisOf candidateOf candidateWords rectOf layoutOf layoutWords fromResolved alignIn centeredBlock staticBlock insetBlock startIsWeaker repaired block bothInsets stretchFit stretching stretches isStretch halves filledMargins margins isNormal alignEdge limit keptWithin selfAligned staticAligned positionIn position placement byKeyword ofResolved keywordOf-of-common absoluteStretch ifAbsent keywordsOf propagates reach placedAt contribution ofWidth ofEachAxis lessOffset horizontal vertical paddingOrBorder styleSize minSize lessMargins spaceFor resolvedBox scrollbarOf layoutOf-of-place fromOrigin boxLayout _>>=_ keywordStretch sizeKeywords settled widthAs heightAs inTurn byKeywords keywordSizes ignoresRatio stretchRatio widened heightened raisedMin stretched finalSize measured placed containerOf plain same knownWord spaceWord asked questionWords replyOf follows agrees allAgree
 wild-boxes-agree = refl
 
 directed-boxes-agree : allAgree directed-boxes ≡ true
-unfolding directed-boxes add sub mul div neg lt le eq isNan sum round units odd size span climb ofBits toBits ofFields nanBits zeroOf before larger smaller magnitude present orElse unwrapOr map mapAdd mapLarger atMost atLeast clamped mapClamped rectOrZero sumX sumY sums rectSum unionOf smallerSize definite bothPresent firstSize filledSize addedSize raisedSize clampedSize clampedFloats completed withRatio byTag resolved takes maybeResolved resolvedRect resolvedSize selfRelative clampedSpace clampedSpaces definiteSpaces sizingOf overflowOf directionOf safetyOf keywordOf alignmentOf containOf lengthField lengthKinds codeKinds kindOf items lengthAt rectAt sizeAt alignAt ratioAt overflowAt styleOf styleAt positionOf edgeOf axisOf candidateOf candidateWords rectOf layoutOf layoutWords fromResolved alignIn centeredBlock staticBlock insetBlock startIsWeaker repaired block bothInsets stretchFit stretching stretches isStretch halves filledMargins margins isNormal alignEdge limit keptWithin selfAligned staticAligned positionIn position placement byKeyword ofResolved keywordOf-of-common absoluteStretch ifAbsent keywordsOf propagates reach placedAt contribution ofWidth ofEachAxis lessOffset horizontal vertical paddingOrBorder styleSize minSize lessMargins spaceFor resolvedBox scrollbarOf layoutOf-of-place fromOrigin boxLayout _>>=_ keywordStretch sizeKeywords settled widthAs heightAs inTurn byKeywords keywordSizes ignoresRatio stretchRatio widened heightened raisedMin stretched finalSize measured placed containerOf plain same knownWord spaceWord asked questionWords replyOf rectWords follows agrees allAgree
+unfolding directed-boxes add sub mul div neg lt le eq isNan sum round units odd size span climb ofBits toBits ofFields nanBits zeroOf before larger smaller magnitude present orElse unwrapOr map mapAdd mapLarger atMost atLeast clamped mapClamped rectOrZero sumX sumY sums rectSum unionOf smallerSize definite bothPresent firstSize filledSize addedSize raisedSize clampedSize clampedFloats completed withRatio byTag resolved takes maybeResolved resolvedRect resolvedSize selfRelative clampedSpace clampedSpaces definiteSpaces sizingOf overflowOf directionOf safetyOf keywordOf alignmentOf containOf lengthField lengthKinds codeKinds kindOf items lengthAt rectAt sizeAt alignAt ratioAt overflowAt styleOf styleAt positionOf edgeOf axisOf candidateOf candidateWords rectOf layoutOf layoutWords fromResolved alignIn centeredBlock staticBlock insetBlock startIsWeaker repaired block bothInsets stretchFit stretching stretches isStretch halves filledMargins margins isNormal alignEdge limit keptWithin selfAligned staticAligned positionIn position placement byKeyword ofResolved keywordOf-of-common absoluteStretch ifAbsent keywordsOf propagates reach placedAt contribution ofWidth ofEachAxis lessOffset horizontal vertical paddingOrBorder styleSize minSize lessMargins spaceFor resolvedBox scrollbarOf layoutOf-of-place fromOrigin boxLayout _>>=_ keywordStretch sizeKeywords settled widthAs heightAs inTurn byKeywords keywordSizes ignoresRatio stretchRatio widened heightened raisedMin stretched finalSize measured placed containerOf plain same knownWord spaceWord asked questionWords replyOf follows agrees allAgree
 directed-boxes-agree = refl

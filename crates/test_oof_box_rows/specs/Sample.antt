@@ -8,7 +8,6 @@ use lib.Ieee.{toBits, binary32}
 use Rattle.util.specs.declared.math.MaybeF32.{MaybeF32}
 use Rattle.util.specs.declared.math.MaybeF32.the-variants.{None, Some}
 use Rattle.geometry.specs.Geometry.{zeroRect, unionOf}
-use Rattle.geometry.specs.declared.Rect.{Rect}
 use Rattle.style.specs.Codes.{directionOf, overflowOf}
 use Rattle.style.specs.declared.available_space.AvailableSpace.{AvailableSpace}
 use Rattle.style.specs.declared.available_space.AvailableSpace.the-variants.{Definite, MinContent, MaxContent}
@@ -16,7 +15,7 @@ use Rattle.style.specs.declared.available_space.AvailableSize.{AvailableSize}
 use Rattle.style_record.specs.Decode.{styleAt}
 use Rattle.tree_record.specs.Candidate.{candidateOf}
 use Rattle.records.specs.Records.{floatAt}
-use Rattle.tree_record.specs.Layout.{rectOf, layoutWords}
+use Rattle.tree_record.specs.Layout.{rectOf, rectWords, layoutWords}
 use Rattle.oof_resolve.specs.declared.ContainingBlock.{ContainingBlock}
 use Rattle.oof_box.specs.Talk.{Talk, done, ask, ReplyTo}
 use Rattle.oof_box.specs.Box.{placed, Placed}
@@ -78,9 +77,6 @@ replyOf (MeasureBoth m) w = record { width = floatAt w 0; height = floatAt w 1 }
 replyOf (MeasureWidth m) w = floatAt w 0
 replyOf (MeasureHeight m) w = floatAt w 0
 replyOf (LayOut l) w = record { overflow = rectOf w 0; surfaced = [] }
-
-unfoldable pub rectWords : Rect → List ℕ
-rectWords r = toBits binary32 (r .left) ∷ toBits binary32 (r .right) ∷ toBits binary32 (r .top) ∷ toBits binary32 (r .bottom) ∷ []
 
 -- ---- the definition's dialogue, with the recorded replies: each question as recorded, then the layout and the finish rectangle
 
