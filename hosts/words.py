@@ -106,6 +106,13 @@ def layout():
     return {"LAYOUT_" + name: at for name, at in out.items()}
 
 
+def area(record):
+    """The first word of an area, whose four stand one after another."""
+    said = re.findall(r"\b(\w+) = floatAt r (k|\(k \+ \d\))", body(LAYOUT, "areaOf")[0][1])
+    assert said == [("width", "k"), ("height", "(k + 1)"), ("x", "(k + 2)"), ("y", "(k + 3)")], said
+    return int(re.search(r"\barea = areaOf w (\d+)", record)[1])
+
+
 def state():
     replies, block, extents = (body(STATE, name)[0][1] for name in ("repliesIn", "containerIn", "extentsIn"))
     first = lambda record, of: int(re.search(rf"\b{of} \(at w (\d+)\)", record)[1])
@@ -121,7 +128,7 @@ def state():
     out |= {"KEYWORD": first(replies, "keywordReplyOf"), "FILL": first(replies, "fillReplyOf")}
     out |= dict(zip(("WORKING", "UNCLAIMED", "BEGUN", "ANSWERED"), counts))
     out["OVERFLOW"] = int(re.fullmatch(r"rectOf w (\d+)", body(STATE, "overflowIn")[0][1])[1])
-    out |= {"AREA": named(block, "width", "height", "x", "y")[0], "DIRECTION": first(block, "directionOf")}
+    out |= {"AREA": area(block), "DIRECTION": first(block, "directionOf")}
     out["CLAIMS"] = first(body(STATE, "openedIn")[0][1], "claimsIn")
     out |= {f"OVERFLOW_{axis.upper()}": int(re.search(rf"\b{axis} = overflowOf \(at w (\d+)\)", block)[1]) for axis in "xy"}
     out["LENGTHS"] = named(extents, "styles", "layouts", "working", "unclaimed")[0]

@@ -9,8 +9,7 @@ use Rattle.boxlist_lines.specs.Lines.{ROW, OVERFLOW, listText, refusalText}
 use Rattle.screen_fields.specs.Format.{MAX-CANDIDATES}
 use Rattle.screen.specs.Screen.{isScreen, itemCount, headerOf, stylesOf, repliesOf, candidatesOf}
 use Rattle.tree_record.specs.Candidate.{candidateWidth}
-use Rattle.records.specs.Records.{floatAt}
-use Rattle.tree_record.specs.Layout.{layoutWidth}
+use Rattle.tree_record.specs.Layout.{layoutWidth, areaOf}
 use Rattle.run.specs.declared.Opening.{Opening}
 use Rattle.run.specs.declared.Answer.{Answer}
 use Rattle.run.specs.declared.Answer.the-variants.{Ask, Finish, Refused}
@@ -39,7 +38,7 @@ listOf o = listBy (o .step .answer) o
 unfoldable pub openingOf : List ℕ → Opening
 openingOf header =
     record {
-      area = record { size = record { width = floatAt header 0; height = floatAt header 1 }; offset = record { x = floatAt header 2; y = floatAt header 3 } };
+      area = areaOf header 0;
       direction = getD header 4 0;
       claims = getD header 5 0;
       overflowx = getD header 6 0;

@@ -24,7 +24,7 @@ use Rattle.oof_box.specs.declared.question.KeywordReply.the-variants as keyword
 use Rattle.oof_box.specs.declared.question.FillReply.{FillReply}
 use Rattle.oof_box.specs.declared.question.FillReply.the-variants as fill
 use Rattle.run.specs.Call.{Lent, Outcome}
-use Rattle.run.specs.Run.{closed}
+use Rattle.run.specs.Run.{claimsIn, closed}
 use Rattle.run.specs.Theorems.{isRefused}
 use Rattle.run.proofs.Refusals.{begun-accepts, measured-accepts, laid-accepts, finished-refuses}
 use Rattle.run.proofs.Ways.{OpeningWay, begins, opening-way, ReplyWay, measures, laysOut, reply-way}
@@ -33,7 +33,7 @@ use Rattle.run.specs.declared.Answer.{Answer}
 use Rattle.run.specs.declared.Answer.the-variants.{Ask, Finish, Refused}
 use Rattle.run.specs.declared.Progress.{Progress}
 use Rattle.run.specs.declared.Progress.the-variants.{Finished, Asking}
-use Rattle.oof_c_words.specs.StateWords.{countWord, progressOf, stageCode, progressCode, keywordReplyOf, keywordKind, keywordWidth, keywordHeight, fillReplyOf, fillKind, fillSize, claimsIn, claimsCode, repliesIn, countsIn, overflowIn, containerIn, extentsIn, openedIn, stateOf, openingCodes, stateWords}
+use Rattle.oof_c_words.specs.StateWords.{countWord, progressOf, stageCode, progressCode, keywordReplyOf, keywordKind, keywordWidth, keywordHeight, fillReplyOf, fillKind, fillSize, claimsCode, repliesIn, countsIn, overflowIn, containerIn, extentsIn, openedIn, stateOf, openingCodes, stateWords}
 use Rattle.oof_c_words.specs.Entry.{resultOf, stateLeft, answerLeft, Words, words, inWords, lentIn, openedInWords, repliedInWords}
 use Rattle.oof_c_words.specs.Laws.{InAWord, StateBack, ZeroState, RefusedOpeningCloses, NoReplyAfterRefusedOpening, RefusedReplyWritesNothing}
 
@@ -72,7 +72,7 @@ fill-back fill.None f = refl
 fill-back (fill.Both size) f = ap fill.Both (size-back size f)
 
 claims-back : (c : ContainingBlockClaims) → claimsIn (claimsCode c) ≡ c
-unfolding claimsIn claimsCode
+unfolding claimsCode
 claims-back c =
     let both = bits-codes .0 (c .absolute) (c .fixed) in
     λ j. record { absolute = both .0 j; fixed = both .1 j }
@@ -124,7 +124,7 @@ state-back s f n =
     }
 
 pub zero-state : ZeroState
-unfolding stateOf repliesIn countsIn overflowIn rectOf openedIn containerIn extentsIn progressOf keywordReplyOf fillReplyOf claimsIn directionOf overflowOf closed
+unfolding stateOf repliesIn countsIn overflowIn rectOf openedIn containerIn extentsIn progressOf keywordReplyOf fillReplyOf directionOf overflowOf closed
 zero-state = refl
 
 -- ---- a refusal

@@ -11,8 +11,8 @@ use Rattle.geometry.specs.Geometry.{zeroSize}
 use Rattle.geometry.specs.declared.Rect.{Rect}
 use Rattle.geometry.specs.declared.Size.{Size}
 use Rattle.records.specs.Records.{floatAt}
-use Rattle.tree_record.specs.Layout.{rectOf, rectWords}
-use Rattle.style.specs.Codes.{directionOf, directionCode, overflowOf, overflowCode, bit0, bit1, bitsCode}
+use Rattle.tree_record.specs.Layout.{rectOf, areaOf, rectWords}
+use Rattle.style.specs.Codes.{directionOf, directionCode, overflowOf, overflowCode, bitsCode}
 use Rattle.style.specs.declared.ContainingBlockClaims.{ContainingBlockClaims}
 use Rattle.tree.specs.declared.layout.OofPositioningArea.{OofPositioningArea}
 use Rattle.oof_resolve.specs.declared.ContainingBlock.{ContainingBlock}
@@ -23,6 +23,7 @@ use Rattle.oof_box.specs.declared.question.KeywordReply.the-variants as keyword
 use Rattle.oof_box.specs.declared.question.FillReply.{FillReply}
 use Rattle.oof_box.specs.declared.question.FillReply.the-variants as fill
 use Rattle.oof_box.specs.declared.question.Replies.{Replies}
+use Rattle.run.specs.Run.{claimsIn}
 use Rattle.run.specs.declared.Progress.{Progress}
 use Rattle.run.specs.declared.Progress.the-variants.{Finished, Asking}
 use Rattle.run.specs.declared.Counts.{Counts}
@@ -104,10 +105,7 @@ unfoldable pub fillSize : FillReply → Size
 fillSize fill.None = zeroSize
 fillSize (fill.Both size) = size
 
--- ---- the claims in a code: bit 0 absolute, bit 1 fixed
-
-unfoldable pub claimsIn : ℕ → ContainingBlockClaims
-claimsIn code = record { absolute = bit0 code; fixed = bit1 code }
+-- ---- claims; `claimsIn` of run/specs/Run.antt reads their code
 
 unfoldable pub claimsCode : ContainingBlockClaims → ℕ
 claimsCode claims = bitsCode (claims .absolute) (claims .fixed)
@@ -127,8 +125,7 @@ overflowIn w = rectOf w 11
 unfoldable pub containerIn : List ℕ → ContainingBlock
 containerIn w =
     record {
-      area =
-          record { size = record { width = floatAt w 15; height = floatAt w 16 }; offset = record { x = floatAt w 17; y = floatAt w 18 } };
+      area = areaOf w 15;
       direction = directionOf (at w 19);
       overflow = record { x = overflowOf (at w 21); y = overflowOf (at w 22) };
     }

@@ -1,6 +1,7 @@
 // The state of a run in 27 lent words, by the table of specs/StateWords.antt.
 ghost use mathlib.Core.Path.{_≡_};
-ghost use Rattle.oof_c_words.specs.StateWords.{countWord, progressOf, stageCode, progressCode, keywordReplyOf, keywordKind, keywordWidth, keywordHeight, fillReplyOf, fillKind, fillSize, repliesIn, countsIn, overflowIn, containerIn, claimsIn, claimsCode, extentsIn, openedIn, openingCodes, stateOf, stateWords};
+ghost use Rattle.run.specs.Run.{claimsIn};
+ghost use Rattle.oof_c_words.specs.StateWords.{countWord, progressOf, stageCode, progressCode, keywordReplyOf, keywordKind, keywordWidth, keywordHeight, fillReplyOf, fillKind, fillSize, repliesIn, countsIn, overflowIn, containerIn, claimsCode, extentsIn, openedIn, openingCodes, stateOf, stateWords};
 ghost use Rattle.style.specs.Codes.{directionCode, overflowCode};
 use geometry::Point;
 use geometry::Rect;

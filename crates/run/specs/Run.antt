@@ -71,8 +71,12 @@ proceeding styles working run counts overflow =
 
 -- ---- an opening
 
+-- the claims in a code: bit 0 absolute, bit 1 fixed
+abbrev pub claimsIn : ℕ → ContainingBlockClaims
+claimsIn code = record { absolute = bit0 code; fixed = bit1 code }
+
 abbrev pub claimsOf : Opening → ContainingBlockClaims
-claimsOf o = record { absolute = bit0 (o .claims); fixed = bit1 (o .claims) }
+claimsOf o = claimsIn (o .claims)
 
 abbrev pub containerOf : Opening → ContainingBlock
 containerOf o =

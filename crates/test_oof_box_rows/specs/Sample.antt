@@ -15,7 +15,7 @@ use Rattle.style.specs.declared.available_space.AvailableSize.{AvailableSize}
 use Rattle.style_record.specs.Decode.{styleAt}
 use Rattle.tree_record.specs.Candidate.{candidateOf}
 use Rattle.records.specs.Records.{floatAt}
-use Rattle.tree_record.specs.Layout.{rectOf, rectWords, layoutWords}
+use Rattle.tree_record.specs.Layout.{rectOf, areaOf, rectWords, layoutWords}
 use Rattle.oof_resolve.specs.declared.ContainingBlock.{ContainingBlock}
 use Rattle.oof_box.specs.Talk.{Talk, done, ask, ReplyTo}
 use Rattle.oof_box.specs.Box.{placed, Placed}
@@ -36,7 +36,7 @@ pub record Sample : Type 0 where
 unfoldable pub containerOf : List ℕ → ContainingBlock
 containerOf w =
     record {
-      area = record { size = record { width = floatAt w 0; height = floatAt w 1 }; offset = record { x = floatAt w 2; y = floatAt w 3 } };
+      area = areaOf w 0;
       direction = directionOf (getD w 4 0);
       overflow = record { x = overflowOf (getD w 6 0); y = overflowOf (getD w 7 0) };
     }

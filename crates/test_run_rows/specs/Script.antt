@@ -10,8 +10,7 @@ use Rattle.util.specs.declared.math.MaybeF32.the-variants.{None, Some}
 use Rattle.refusal.specs.Refusal.{numberOf}
 use Rattle.style.specs.declared.available_space.AvailableSpace.{AvailableSpace}
 use Rattle.style.specs.declared.available_space.AvailableSpace.the-variants.{Definite, MinContent, MaxContent}
-use Rattle.records.specs.Records.{floatAt}
-use Rattle.tree_record.specs.Layout.{rectWords}
+use Rattle.tree_record.specs.Layout.{areaOf, rectWords}
 use Rattle.oof_box.specs.declared.question.MeasureInput.{MeasureInput}
 use Rattle.oof_box.specs.declared.question.Question.{Question}
 use Rattle.oof_box.specs.declared.question.Question.the-variants.{MeasureBoth, MeasureWidth, MeasureHeight, LayOut}
@@ -29,8 +28,7 @@ use Rattle.run.specs.Theorems.{Heard, next}
 unfoldable pub openingOf : List ℕ → Opening
 openingOf ws =
     record {
-      area =
-          record { size = record { width = floatAt ws 0; height = floatAt ws 1 }; offset = record { x = floatAt ws 2; y = floatAt ws 3 } };
+      area = areaOf ws 0;
       direction = getD ws 4 0;
       claims = getD ws 5 0;
       overflowx = getD ws 6 0;

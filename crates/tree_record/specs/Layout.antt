@@ -6,6 +6,7 @@ use lib.Ieee.{toBits, binary32}
 use Rattle.geometry.specs.declared.Rect.{Rect}
 use Rattle.records.specs.Records.{Kind, whole, float, floatAt}
 use Rattle.tree.specs.declared.layout.Layout.{Layout}
+use Rattle.tree.specs.declared.layout.OofPositioningArea.{OofPositioningArea}
 
 abbrev pub layoutWidth : ℕ
 layoutWidth = 23
@@ -20,6 +21,14 @@ layoutKinds = whole ∷ replicate 22 float
 unfoldable pub rectOf : List ℕ → ℕ → Rect
 rectOf r k =
     record { left = floatAt r k; right = floatAt r (k + 1); top = floatAt r (k + 2); bottom = floatAt r (k + 3) }
+
+-- an area: width, height, offset x and y, from word k on
+abbrev pub areaOf : List ℕ → ℕ → OofPositioningArea
+areaOf r k =
+    record {
+      size = record { width = floatAt r k; height = floatAt r (k + 1) };
+      offset = record { x = floatAt r (k + 2); y = floatAt r (k + 3) };
+    }
 
 unfoldable pub layoutOf : List ℕ → Layout
 layoutOf r =

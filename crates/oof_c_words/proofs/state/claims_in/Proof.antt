@@ -1,5 +1,4 @@
 -- Generated skeleton (tools/proof/write-skeletons), answers by hand.
-use Rattle.oof_c_words.specs.StateWords.{claimsIn}
 use borrow.Author.Needs.{needs}
 use Rattle.oof_c_words.proofs.state.claims_in.Statement.{statement}
 use Rattle.oof_c_words.proofs.state.claims_in.Tie as tie
@@ -15,7 +14,6 @@ bit1-requires : tie.Need-bit1-requires
 bit1-requires c κs = search needs
 
 returns : tie.Need-returns
-unfolding claimsIn
 returns c = λ j. record { absolute = c .before .bit0 .ensures j; fixed = c .bit1 .ensures j }
 
 pub claims-in-spec : {M : Type 1} → statement M
