@@ -535,7 +535,7 @@ let alignment = self.alignment;
         (CODE, f'return {KEPT_WITHIN};', 'return sys::f32_max(start, limit.start);'),
         (MODEL, '(maxN (minN (alignN l box k) (subN (lim .end) box)) (lim .start))', '(maxN (alignN l box k) (lim .start))'),
         (MODEL, 'limitedN true true w l box k = minN (alignN l box k) (subN (limitN w l .end) box)', 'limitedN true true w l box k = alignN l box k'),
-        (PLACES, '(larger-exact (smaller-exact (align-exact k h b) (widen (omega arith) (any (sub-exact (eighths (hl .end)) b (omega arith))))) (widen', '(larger-exact (align-exact k h b) (widen'),
+        (PLACES, '(larger-exact (smaller-exact (align-exact k h b) (widen (omega arith) (eighths (sub-exact (hl .end) b (omega arith))))) (widen', '(larger-exact (align-exact k h b) (widen'),
         (PLACES, 'rw (inf-less ho, le-inf b, inf-less b, smaller-inf (align-exact k h b))', 'rw (inf-less ho, le-inf b)'),
         (PLACES, '(minN (alignN m v k) (subN η v))', '(alignN m v k)'),
         (PLACES, ('      let s = smaller-exact', '  -- the limit, as'), '      rw (less-inf hh, le-inf b, larger-inf (align-exact k h b)) (align-exact k h b)\n\n')]),

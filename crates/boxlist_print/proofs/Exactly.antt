@@ -8,7 +8,7 @@ use mathlib.Core.List.{List}
 use lib.ListN.{getD}
 use Rattle.util.proofs.Floats.{no}
 use Rattle.refusal.specs.declared.Refusal.{Refusal}
-use Rattle.refusal.specs.declared.Refusal.the-variants.{BadArea, BadExtent, BadStyle, BadCandidate, ListFull, WrongReply, UnresolvedSide, BadScreenLine}
+use Rattle.refusal.specs.declared.Refusal.the-variants.{BadArea, BadExtent, BadStyle, BadCandidate, ListFull, WrongReply, UnresolvedSide, BadScreenLine, NotInEighths}
 use Rattle.refusal.specs.Refusal.{numberOf}
 use Rattle.refusal.proofs.Laws.{numbers-differ}
 use Rattle.geometry.specs.declared.Rect.{Rect}
@@ -68,6 +68,7 @@ number-back ListFull = refl
 number-back WrongReply = refl
 number-back UnresolvedSide = refl
 number-back BadScreenLine = refl
+number-back NotInEighths = refl
 
 same-line : (q r : Refusal) → refusalText (numberOf q) ≡ refusalText (numberOf r) → q ≡ r
 same-line q r e = numbers-differ q r (sym (number-back q) ∙ ap numberIn e ∙ number-back r)

@@ -1,10 +1,10 @@
--- The three demands, of every entry: 1 to 6 of `open` and `reply`, 7 of `from_alignment`, 8 of the program; of the C entries in
--- demands_c/specs. No entry asks anything of its caller, and a proved function ends, without a panic: so each of these holds for any bits in
--- any number and slices of any length. `proofs/Demands.antt` proves each, under its name in small letters.
+-- The three demands, of every entry. Refusals 1 to 6 are those of `open` and `reply`, 7 of `from_alignment`, 8 of the program, 9 of
+-- `pixel_edges`; of the C entries in demands_c/specs. No entry asks anything of its caller, and a proved function ends, without a panic: so
+-- each of these holds for any bits in any number and slices of any length. `proofs/Demands.antt` proves each, under its name in small letters.
 -- What document 01 leaves free is fixed by the definition all the same: what is asked and written where words were rewritten between calls or
 -- a state was forged (oof_box/specs/Cut.antt), and the numbers of a refused opening's state, which are zeros.
 -- Assumes nothing.
-use Prim.Native.Nat.{ℕ, _*_, _≤_}
+use Prim.Native.Nat.{ℕ, _*_, _≤_, _<_}
 use mathlib.Core.Logic.{_↔_}
 use mathlib.Core.Path.{_≡_}
 use mathlib.Core.Bool.{Bool, false}
@@ -13,6 +13,7 @@ use lib.ListN.{length}
 use Rattle.util.specs.Laws.{AtOrAbove}
 use Rattle.geometry.specs.Geometry.{sums, rectSum}
 use Rattle.geometry.specs.declared.Line.{Line}
+use Rattle.geometry.specs.declared.Point.{Point}
 use Rattle.geometry.specs.declared.Rect.{Rect}
 use Rattle.refusal.specs.declared.Refusal.{Refusal}
 use Rattle.refusal.specs.Refusal.{numberOf}
@@ -23,6 +24,12 @@ use Rattle.tree.specs.declared.layout.Aligned.the-variants as aligned
 use Rattle.tree.specs.declared.layout.Layout.{Layout}
 use Rattle.records.specs.Records.{written}
 use Rattle.tree_record.specs.Layout.{layoutWidth, layoutWords}
+use Rattle.pixels.specs.Conditions.{pixelTests}
+use Rattle.pixels.specs.Pixels.{pixelEdges}
+use Rattle.pixels.specs.declared.PixelRect.{PixelRect}
+use Rattle.pixels.specs.declared.Pixels.{Pixels}
+use Rattle.pixels.specs.declared.Pixels.the-variants.{Edges}
+use Rattle.pixels.specs.declared.Pixels.the-variants as pixels
 use Rattle.oof_box.specs.declared.question.LayoutInput.{LayoutInput}
 use Rattle.oof_box.specs.declared.question.Question.the-variants.{LayOut}
 use Rattle.oof_box.specs.declared.question.Reply.{Reply}
@@ -31,12 +38,14 @@ use Rattle.run.specs.declared.Opening.{Opening}
 use Rattle.run.specs.declared.State.{State}
 use Rattle.run.specs.declared.Answer.the-variants.{Ask, Refused}
 use Rattle.run.specs.Call.{Lent, Outcome, unwritten}
-use Rattle.run.specs.Run.{closed, boxAtHand, extentsOf}
+use Rattle.run.specs.Run.{closed, boxAtHand, extentsOf, claimsOf}
 use Rattle.run.specs.Conditions.{FirstIs, NoneHolds, SideIsUnresolved, openingTests, replyTests}
-use Rattle.run.specs.Theorems.{isRefused, own, StageTellsKind, WroteSize, Turn, Stands, heededIn, courseOf}
+use Rattle.run.specs.Theorems.{isRefused, own, StageTellsKind, WroteSize, Turn, Stands, heededIn, courseOf, laidSoFar}
 use Rattle.mirror_run.specs.Image.{imageStyles}
 use Rattle.mirror_run.specs.Quarter.{QuarterArea, QuarterTable, QuarterCandidates}
-use Rattle.mirror_run.specs.Runs.{Message, MirroredRuns, unclaimedAtOpening}
+use Rattle.mirror_run.specs.Runs.{Message, MirroredRuns, unclaimedAtOpening, layoutOfBox}
+use Rattle.pixels_laws.specs.Quarter.{AreaInQuarters}
+use Rattle.pixels_laws.specs.Laws.{HasEdges, All, QuarterHeard}
 use Rattle.boxlist_lines.specs.Lines.{refusalText}
 use Rattle.boxlist_print.specs.Rows.{Prints}
 use Rattle.boxlist_print.specs.Printed.{printed}
@@ -45,7 +54,8 @@ use Rattle.demands.specs.Entries.{Opens, RepliesTo, AnyCalls, Takes, Run
 
 -- ---- Demand 1. "Whoever calls an entry, with any bits in any number and slices of any length, gets its answer (in a run, a question or
 -- finish) or one of document 01's refusals 1 to 8, each exactly under its stated condition. A refusal writes no lent word and returns the
--- state as it came." The conditions, in document 01's words and order, stand in run/specs/Conditions.antt.
+-- state as it came." The conditions, in document 01's words and order, stand in run/specs/Conditions.antt. By request #101
+-- they are 1 to 9; its condition stands in pixels/specs/Conditions.antt.
 
 -- an opening. It has no state that came: refused, it returns that of a finished run with all counts 0
 pub record OpeningDemands (o : Opening) (candidates : List ℕ) (lent : Lent) (has : Outcome) : Type 0 where
@@ -78,6 +88,12 @@ pub record ReplyDemands (s : State) (reply : Reply) (surfaced : List ℕ) (lent 
 pub record AlignmentDemands (a : AlignItems) (area : Line) (rtl : Bool) (r : Aligned) : Type 0 where
   pub call : r ≡ fromAlignment a area rtl
   pub refused : (q : Refusal) → (r ≡ aligned.Refused q) ↔ FirstIs ((7, SideIsUnresolved a) ∷ []) (numberOf q)
+
+-- `pixel_edges`: 9
+pub record PixelsDemands (layout : Layout) (offset : Point) (r : Pixels) : Type 0 where
+  pub call : r ≡ pixelEdges layout offset
+  pub refused : (q : Refusal) → (r ≡ pixels.Refused q) ↔ FirstIs (pixelTests layout offset) (numberOf q)
+  pub answered : ((edges : PixelRect) × (r ≡ Edges edges)) ↔ NoneHolds (pixelTests layout offset)
 
 -- the program: 8, then 1, 3 and 4 of the run that the screen scripts. It prints the refusal's line, or a list
 pub record ScreenDemands (text : List ℕ) (r : ℕ) (before after : List ℕ) : Type 0 where
@@ -130,6 +146,17 @@ MirrorImage =
     → (both : BothRuns o candidates lent lent' messages has has')
     → AfterEach (MirroredRuns (o .area) (unclaimedAtOpening o candidates lent)) both
 
+-- ---- Beyond the demands: under what demand 3 asks of area, styles, candidates and replies, but that the area's width may be 0, no box
+-- meets refusal 9 (pixels_laws/specs)
+
+abbrev pub QuartersHaveEdges : Type 0
+QuartersHaveEdges =
+    (o : Opening) (candidates : List ℕ) (lent : Lent) (turns : List Turn) (has : Outcome)
+    → AreaInQuarters (o .area) → QuarterTable (lent .styles) → QuarterCandidates candidates
+    → Run o candidates lent turns has
+    → All (QuarterHeard (claimsOf o)) (heededIn o candidates lent turns)
+    → (i : ℕ) → i < laidSoFar has → HasEdges (layoutOfBox has i) (o .area .offset)
+
 -- ---- What is demanded of runs: the function `demanded` of src/lib.rt ensures these, so that a crate without a proof of each is not proved.
 
 pub record Demanded : Type 0 where
@@ -139,3 +166,4 @@ pub record Demanded : Type 0 where
   pub equals-straight-run : EqualsStraightRun
   pub laid-out-as-asked : LaidOutAsAsked
   pub mirror-image : MirrorImage
+  pub quarters-have-edges : QuartersHaveEdges

@@ -4,19 +4,21 @@
 ghost use mathlib.Core.Path.{_≡_};
 ghost use Rattle.oof_axis.specs.StaticOffset.{staticOffset};
 ghost use Rattle.run.specs.Call.{atEntry, atExit};
-ghost use Rattle.demands.specs.Demands.{OpeningDemands, ReplyDemands, AlignmentDemands, ScreenDemands, Demanded};
+ghost use Rattle.demands.specs.Demands.{OpeningDemands, ReplyDemands, AlignmentDemands, PixelsDemands, ScreenDemands, Demanded};
 use boxlist_print::LIST_BYTES;
 use geometry::Line;
 use geometry::Point;
 use geometry::Rect;
 use geometry::Size;
 use oof_box::question::Reply;
+use pixels::Pixels;
 use run::Opening;
 use run::State;
 use run::Step;
 use style::alignment::AlignItems;
 use tree::layout::Aligned;
 use tree::layout::AxisStaticPosition;
+use tree::layout::Layout;
 use tree::layout::StaticPosition;
 
 pub fn open(
@@ -50,6 +52,12 @@ pub fn from_alignment(alignment: AlignItems, area: Line, rtl: bool) -> Aligned
     ensures { λ r. ⌜ AlignmentDemands alignment area rtl r ⌝ }
 {
     AxisStaticPosition::from_alignment(alignment, area, rtl)
+}
+
+pub fn pixel_edges(layout: Layout, offset: Point) -> Pixels
+    ensures { λ r. ⌜ PixelsDemands layout offset r ⌝ }
+{
+    pixels::pixel_edges(layout, offset)
 }
 
 // It refuses nothing.

@@ -6,11 +6,23 @@ use mathlib.Core.List.{List, [], _∷_, _++_, foldl, foldl-append}
 use mathlib.Core.Logic.{_↔_, _≢_, inl, inr}
 use mathlib.Core.Path.{_≡_, refl, sym, ap, subst, _∙_}
 use lib.Dec.{eqb}
+use lib.IntN.{ℤ}
 use lib.ListN.{length}
+use borrow.Author.Tests.{ne-eqb}
 use Rattle.util.proofs.Floats.{no}
+use Rattle.geometry.specs.declared.Point.{Point}
 use Rattle.refusal.specs.Refusal.{numberOf}
 use Rattle.refusal.specs.declared.Refusal.{Refusal}
-use Rattle.refusal.specs.declared.Refusal.the-variants.{BadArea, BadExtent, BadStyle, BadCandidate, ListFull, WrongReply, UnresolvedSide, BadScreenLine}
+use Rattle.refusal.specs.declared.Refusal.the-variants.{NotInEighths}
+use Rattle.tree.specs.declared.layout.Layout.{Layout}
+use Rattle.tree_record.specs.Layout.{layoutOf}
+use Rattle.pixels.specs.Conditions.{NotAllInEighths, pixelTests}
+use Rattle.pixels.specs.Pixels.{pixelEdges}
+use Rattle.pixels.specs.declared.PixelRect.{PixelRect}
+use Rattle.pixels.specs.declared.Pixels.{Pixels}
+use Rattle.pixels.specs.declared.Pixels.the-variants.{Edges}
+use Rattle.pixels.specs.declared.Pixels.the-variants as pixels
+use Rattle.pixels.proofs.Edges.{isRefused as isTurnedDown, refused-exactly}
 use Rattle.oof_box.specs.declared.question.Question.{Question}
 use Rattle.oof_box.specs.declared.question.Question.the-variants.{MeasureBoth, MeasureWidth, MeasureHeight, LayOut}
 use Rattle.oof_box.specs.declared.question.Reply.{Reply}
@@ -34,11 +46,13 @@ use Rattle.run.proofs.Ways.{OpeningWay, begins, opening-way}
 use Rattle.oof_c_words.specs.StateWords.{at, stateOf, stateWords, countsIn, progressOf, progressCode}
 use Rattle.oof_c_words.specs.AnswerWords.{questionWords, measureWords, layOutWords, finishWords}
 use Rattle.oof_c_words.specs.Entry.{Words, words, Returned, lentIn, resultOf, answerLeft, inWords, openedInWords, repliedInWords}
+use Rattle.pixels.specs.Told.{PixelsReturned, edgesTold}
+use Rattle.oof_c_words.specs.PixelWords.{pixelsInWords}
 use Rattle.oof_c_words.specs.Laws.{FitsReply}
 use Rattle.oof_c_words.proofs.Laws.{accepted-is-zero, refused-is-not, refused-opening-closes, refused-reply-writes-nothing}
 use Rattle.oof_c_words.proofs.Kept.{opening-is-kept, reply-is-kept}
 use Rattle.demands_c.specs.Calls.{Opens, RepliesTo, FitsOpening, askedFor, AnyCalls, Takes, Lends, Run}
-use Rattle.demands_c.specs.Demands.{OpeningDemands, ReplyDemands, ThreeQuestionsEach, StandsInWords, EqualsStraightRun}
+use Rattle.demands_c.specs.Demands.{OpeningDemands, ReplyDemands, PixelsDemands, ThreeQuestionsEach, StandsInWords, EqualsStraightRun}
 
 -- ---- the result is the number of the first condition that holds
 
@@ -110,17 +124,54 @@ reply-demands reply surfaced styles before c =
     a : Answer
     a = replied s reply surfaced l .step .answer
 
+module _ (layout : Layout) (offset : Point) (before : List ℤ) where
+  abbrev Exactly : Pixels → Type 0
+  Exactly p = (r : Refusal) → (p ≡ pixels.Refused r) ↔ ((r ≡ NotInEighths) × NotAllInEighths layout offset)
+
+  edges-numbered : (p : Pixels) → Exactly p → (n : ℕ) → n ≢ 0 → (edgesTold p before .result ≡ n) ↔ FirstIs (pixelTests layout offset) n
+  unfolding edgesTold
+  edges-numbered (Edges edges) f n h = (
+    λ e. absurd (h (sym e)),
+    elim [ inl k ↦ no {b = false} (ap isTurnedDown (f NotInEighths .1 (refl, k .0))) refl | inr k ↦ absurd (k .1) ],
+  )
+  edges-numbered (pixels.Refused r) f n h = (
+    λ e. inl (f r .0 refl .1, sym e ∙ ap numberOf (f r .0 refl .0)),
+    elim [ inl k ↦ ap numberOf (f r .0 refl .0) ∙ sym (k .1) | inr k ↦ absurd (k .1) ],
+  )
+
+  edges-zeroed : (p : Pixels) → Exactly p → (edgesTold p before .result ≡ 0) ↔ NoneHolds (pixelTests layout offset)
+  unfolding edgesTold
+  edges-zeroed (Edges edges) f = (λ e. (λ n. no {b = false} (ap isTurnedDown (f NotInEighths .1 (refl, n))) refl, tt), λ k. refl)
+  edges-zeroed (pixels.Refused r) f = (λ e. absurd (refused-is-not r e), λ k. absurd (k .0 (f r .0 refl .1)))
+
+  edges-kept : (p : Pixels) → edgesTold p before .result ≢ 0 → edgesTold p before .edges ≡ before
+  unfolding edgesTold
+  edges-kept (Edges edges) h = absurd (h refl)
+  edges-kept (pixels.Refused r) h = refl
+
+  edges-written : (p : Pixels) (q : PixelRect) → p ≡ Edges q → edgesTold p before .edges ≡ q .left ∷ q .right ∷ q .top ∷ q .bottom ∷ []
+  unfolding edgesTold
+  edges-written p q e = rw e refl
+
+pub pixels-demands :
+    (layout : List ℕ) (offset : Point) (before : List ℤ) {has : PixelsReturned} → has ≡ pixelsInWords layout offset before
+    → PixelsDemands layout offset before has
+unfolding pixelsInWords
+pixels-demands layout offset before c =
+    let l = layoutOf layout in
+    subst (PixelsDemands layout offset before) (sym c)
+    (record {
+      call = refl;
+      refused = edges-numbered l offset before (pixelEdges l offset) (refused-exactly l offset);
+      accepted = edges-zeroed l offset before (pixelEdges l offset) (refused-exactly l offset);
+      kept = edges-kept l offset before (pixelEdges l offset);
+      written = edges-written l offset before (pixelEdges l offset);
+    })
+
 -- ---- at most three questions for each box
 
 not-zero : (r : Refusal) → eqb (numberOf r) 0 ≡ false
-not-zero BadArea = refl
-not-zero BadExtent = refl
-not-zero BadStyle = refl
-not-zero BadCandidate = refl
-not-zero ListFull = refl
-not-zero WrongReply = refl
-not-zero UnresolvedSide = refl
-not-zero BadScreenLine = refl
+not-zero r = ne-eqb (numberOf r) 0 (refused-is-not r)
 
 no-finish : (q : Question) → eqb (at (questionWords q) 0) 0 ≡ false
 unfolding questionWords measureWords layOutWords

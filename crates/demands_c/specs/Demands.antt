@@ -1,10 +1,17 @@
 -- Demands 1 and 2, of the C entries. No entry asks anything of its caller, so each contract, and with it each of these, holds for any bits
 -- in any number and slices of any length. `proofs/Demands.antt` proves each, under its name in small letters. Assumes nothing.
 use Prim.Native.Nat.{ℕ, _≤_}
-use mathlib.Core.List.{List, []}
+use mathlib.Core.List.{List, [], _∷_}
 use mathlib.Core.Logic.{_≢_, _↔_}
 use mathlib.Core.Path.{_≡_}
+use lib.IntN.{ℤ}
 use lib.ListN.{length}
+use Rattle.geometry.specs.declared.Point.{Point}
+use Rattle.tree_record.specs.Layout.{layoutOf}
+use Rattle.pixels.specs.Conditions.{pixelTests}
+use Rattle.pixels.specs.Pixels.{pixelEdges}
+use Rattle.pixels.specs.declared.PixelRect.{PixelRect}
+use Rattle.pixels.specs.declared.Pixels.the-variants.{Edges}
 use Rattle.oof_box.specs.declared.question.Reply.{Reply}
 use Rattle.run.specs.Call.{Lent, outcome}
 use Rattle.run.specs.Conditions.{FirstIs, NoneHolds, openingTests, replyTests}
@@ -14,11 +21,13 @@ use Rattle.run.specs.Theorems.{Turn, Stands, saidAfter, heededIn, courseOf}
 use Rattle.run.specs.declared.Opening.{Opening}
 use Rattle.oof_c_words.specs.StateWords.{at, stateOf, stateWords}
 use Rattle.oof_c_words.specs.Entry.{Words, words, Returned, lentIn, answerLeft}
+use Rattle.pixels.specs.Told.{PixelsReturned}
+use Rattle.oof_c_words.specs.PixelWords.{pixelsInWords}
 use Rattle.demands_c.specs.Calls.{Opens, RepliesTo, AnyCalls, Run}
 
 -- ---- Demand 1. "Whoever calls an entry, with any bits in any number and slices of any length, gets its answer .. or one of document 01's
 -- refusals .., each exactly under its stated condition. A refusal writes no lent word and returns the state as it came." The conditions, in
--- document 01's words and order, stand in run/specs/Conditions.antt.
+-- document 01's words and order, stand in run/specs/Conditions.antt, and that of request #101 in pixels/specs/Conditions.antt.
 
 -- an opening. It has no state that came: refused, it returns that of a finished run with all counts 0
 pub record OpeningDemands (o : Opening) (candidates styles : List ℕ) (before : Words) (has : Returned) : Type 0 where
@@ -36,6 +45,14 @@ pub record ReplyDemands (reply : Reply) (surfaced styles : List ℕ) (before : W
   pub refused : (n : ℕ) → n ≢ 0 → (has .result ≡ n) ↔ FirstIs (replyTests (stateOf (before .state)) reply surfaced (lentIn styles before)) n
   pub accepted : (has .result ≡ 0) ↔ NoneHolds (replyTests (stateOf (before .state)) reply surfaced (lentIn styles before))
   pub kept : has .result ≢ 0 → has .words ≡ before
+
+-- `oof_pixels`, whatever words stand for its layout
+pub record PixelsDemands (layout : List ℕ) (offset : Point) (before : List ℤ) (has : PixelsReturned) : Type 0 where
+  pub call : has ≡ pixelsInWords layout offset before
+  pub refused : (n : ℕ) → n ≢ 0 → (has .result ≡ n) ↔ FirstIs (pixelTests (layoutOf layout) offset) n
+  pub accepted : (has .result ≡ 0) ↔ NoneHolds (pixelTests (layoutOf layout) offset)
+  pub kept : has .result ≢ 0 → has .edges ≡ before
+  pub written : (p : PixelRect) → pixelEdges (layoutOf layout) offset ≡ Edges p → has .edges ≡ p .left ∷ p .right ∷ p .top ∷ p .bottom ∷ []
 
 -- "A run asks at most three questions for each box hoisted", whatever words the host rewrites between calls: at most three for each box,
 -- and none for one that isn't hoisted, which the state's word 7 tells

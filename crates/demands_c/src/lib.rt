@@ -2,7 +2,8 @@
 // speak of runs are theorems (specs/Demands.antt), from what a caller learns of the entries.
 ghost use mathlib.Core.List.{[]};
 ghost use Rattle.oof_c_words.specs.Entry.{came, before, returned, openingOf};
-ghost use Rattle.demands_c.specs.Demands.{OpeningDemands, ReplyDemands, Demanded};
+ghost use Rattle.oof_c_words.specs.PixelWords.{pixelsReturned};
+ghost use Rattle.demands_c.specs.Demands.{OpeningDemands, ReplyDemands, PixelsDemands, Demanded};
 use oof_box::question::Reply;
 
 pub fn open(
@@ -123,6 +124,12 @@ pub fn reply_laid_out(
         state,
         answer,
     )
+}
+
+pub fn pixels(layout: &[u32; 23], x: f32, y: f32, edges: &mut [i32; 4]) -> u32
+    ensures { λ r. ⌜ PixelsDemands (came layout) (record { x = x; y = y }) (now (edges .entry)) (pixelsReturned r edges) ⌝ }
+{
+    oof_c::oof_pixels(layout, x, y, edges)
 }
 
 // No code: what is ensured are the theorems over runs.

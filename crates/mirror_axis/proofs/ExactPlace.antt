@@ -1,4 +1,5 @@
--- Where a box stands in an axis of whole quarter pixels is the integer place, in sixteenths, bounded by 10 L + 6 A + S. Assumes nothing.
+-- Where a box stands in an axis of whole quarter pixels is the integer place, in whole eighths, bounded by 10 L + 6 A + S: a margin box is halved
+-- only where its margins don't fill the block, and then it is whole quarters. Assumes nothing.
 use mathlib.Core.Path.{_≡_, refl, ap}
 use mathlib.Core.Bool.{Bool, true, false, _&&_, _||_, cond}
 use Prim.Native.Nat.{ℕ, _+_, _*_, _<_}
@@ -23,7 +24,7 @@ use Rattle.oof_axis.specs.Axis.{alignIn, alignEdge, isNormal, limit, keptWithin
 use Rattle.util_exact.specs.Integer.{N, addN}
 use Rattle.util_exact.proofs.Tests.{pick}
 use Rattle.util_exact.proofs.Integers.{subN, maxN, minN, ltN}
-use Rattle.util_exact.proofs.Exact.{Exact, widen, eighths, any, zero-exact}
+use Rattle.util_exact.proofs.Exact.{Exact, widen, eighths, zero-exact}
 use Rattle.util_exact.proofs.Sum.{add-exact, sub-exact}
 use Rattle.util_exact.proofs.Double.{half-exact}
 use Rattle.util_exact.proofs.Compare.{lt-exact, le-exact}
@@ -31,7 +32,7 @@ use Rattle.util_exact.proofs.Order.{larger-exact, smaller-exact}
 use Rattle.util_exact.proofs.Infinite.{inf-less, less-inf, le-inf, smaller-inf, larger-inf}
 use Rattle.mirror_axis.proofs.Model.{LineN, spanN, AxisN, shape, fills, startOf, alignN, alignOf, limitN, keptN, limitedN, selfN, staticPlaceN, boxN, positionN, placeN}
 use Rattle.mirror_axis.proofs.ExactBlock.{LineExact, widen-line, ExactAxis, block-exact}
-use Rattle.mirror_axis.proofs.ExactMargins.{marginBound, margins-exact}
+use Rattle.mirror_axis.proofs.ExactMargins.{marginBound, marginUnit, margins-exact}
 
 align-is : (al : OofAlignment) (a : OofAxis) → alignEdge al a ≡ alignOf al (a .reversed)
 unfolding alignEdge
@@ -47,19 +48,19 @@ module _ (L A S : ℕ) (room : 10 * L + 6 * A + S < 16777216) where
   InBlock l m = LineExact 4 (3 * L + 2 * A) l m
 
   abbrev pub Box : Float → N → Type 0
-  Box x v = Exact 2 (2 * L + S) x v
+  Box x v = Exact 4 (2 * L + S) x v
 
   abbrev pub Aligned : Float → N → Type 0
-  Aligned x v = Exact 1 (5 * L + 2 * A + S) x v
+  Aligned x v = Exact 2 (5 * L + 2 * A + S) x v
 
   pub span-of : {l : Line} {m : LineN} → InBlock l m → Exact 4 (6 * L + 4 * A) (span l) (spanN m)
   span-of h = widen (omega arith) (sub-exact (h .end) (h .start) (omega arith))
 
   pub align-exact : {l : Line} {m : LineN} {box : Float} {v : N} (k : AxisStaticEdge) → InBlock l m → Box box v → Aligned (alignIn l box k) (alignN m v k)
   unfolding alignIn
-  align-exact Start h b = widen (omega arith) (any (h .start))
-  align-exact Center h b = half-exact 1 (5 * L + 2 * A + S) (sub-exact (eighths (add-exact (h .start) (h .end) (omega arith))) b (omega arith)) (omega arith) (omega arith)
-  align-exact End h b = widen (omega arith) (any (sub-exact (eighths (h .end)) b (omega arith)))
+  align-exact Start h b = widen (omega arith) (eighths (h .start))
+  align-exact Center h b = half-exact 2 (5 * L + 2 * A + S) (sub-exact (add-exact (h .start) (h .end) (omega arith)) b (omega arith)) (omega arith) (omega arith)
+  align-exact End h b = widen (omega arith) (eighths (sub-exact (h .end) b (omega arith)))
 
   start-exact : {l : Line} {m : LineN} {box : Float} {v : N} (a : OofAxis) → InBlock l m → Box box v → Aligned (alignIn l box (startEdge (a .reversed))) (alignN m v (startOf (a .reversed)))
   start-exact a h b = align-exact (startOf (a .reversed)) h b
@@ -77,7 +78,7 @@ module _ (L A S : ℕ) (room : 10 * L + 6 * A + S < 16777216) where
   unfolding keptWithin
   within-exact a k hl h b =
       pick Aligned (le-exact b (span-of hl))
-      (larger-exact (smaller-exact (align-exact k h b) (widen (omega arith) (any (sub-exact (eighths (hl .end)) b (omega arith))))) (widen (omega arith) (any (hl .start))))
+      (larger-exact (smaller-exact (align-exact k h b) (widen (omega arith) (eighths (sub-exact (hl .end) b (omega arith))))) (widen (omega arith) (eighths (hl .start))))
       (start-exact a hl b)
 
   -- a limit without an end, and one without a start
@@ -86,13 +87,13 @@ module _ (L A S : ℕ) (room : 10 * L + 6 * A + S < 16777216) where
   unfolding keptWithin
   open-end a k h b ho =
       rw (inf-less ho, le-inf b, inf-less b, smaller-inf (align-exact k h b))
-      (larger-exact (align-exact k h b) (widen (omega arith) (any ho)))
+      (larger-exact (align-exact k h b) (widen (omega arith) (eighths ho)))
 
   open-start : {l : Line} {m : LineN} {box high : Float} {v η : N} (a : OofAxis) (k : AxisStaticEdge) → InBlock l m → Box box v → Exact 4 (3 * L + 2 * A) high η
       → Aligned (keptWithin (inf true to high) a l box k) (minN (alignN m v k) (subN η v))
   unfolding keptWithin
   open-start a k h b hh =
-      let s = smaller-exact (align-exact k h b) (widen (omega arith) (any (sub-exact (eighths hh) b (omega arith)))) in
+      let s = smaller-exact (align-exact k h b) (widen (omega arith) (eighths (sub-exact hh b (omega arith)))) in
       rw (less-inf hh, le-inf b, larger-inf s) s
 
   -- the limit, as its two flags say
@@ -132,18 +133,18 @@ module _ (L A S : ℕ) (room : 10 * L + 6 * A + S < 16777216) where
 
   -- ---- the place
 
-  pub box-exact : {size : Float} {u : N} {m : Line} {μ : LineN} → Exact 4 S size u → LineExact 2 L m μ → Box (size ⊕ m .start ⊕ m .end) (boxN u μ)
-  box-exact hu hm = widen (omega arith) (add-exact (add-exact (eighths hu) (hm .start) (omega arith)) (hm .end) (omega arith))
+  pub box-exact : {size : Float} {u : N} {m : Line} {μ : LineN} → Exact 4 S size u → LineExact 4 L m μ → Box (size ⊕ m .start ⊕ m .end) (boxN u μ)
+  box-exact hu hm = widen (omega arith) (add-exact (add-exact hu (hm .start) (omega arith)) (hm .end) (omega arith))
 
   abbrev pub Placed : Float → N → Type 0
-  Placed x v = Exact 1 (10 * L + 6 * A + S) x v
+  Placed x v = Exact 2 (10 * L + 6 * A + S) x v
 
-  pub shifted : {x y : Float} {v d : N} → Aligned x v → Exact 2 L y d → Placed (x ⊕ y) (addN v d)
-  shifted h k = widen (omega arith) (add-exact h (any k) (omega arith))
+  pub shifted : {x y : Float} {v d : N} → Aligned x v → Exact 4 L y d → Placed (x ⊕ y) (addN v d)
+  shifted h k = widen (omega arith) (add-exact h (eighths k) (omega arith))
 
   -- both insets: by the margins given or not
   both-exact : (ms me : MaybeF32) {l m : Line} {λl μ : LineN} {size : Float} {u : N} (a : OofAxis) (α : AxisN) → ExactAxis L A a α → InBlock l λl → Exact 4 S size u
-      → LineExact 2 (marginBound L A S (fills true true (present ms) (present me))) m μ
+      → LineExact (marginUnit (fills true true (present ms) (present me))) (marginBound L A S (fills true true (present ms) (present me))) m μ
       → Placed (cond (present ms && present me) (selfAligned (a .safety) a l (size ⊕ m .start ⊕ m .end) (alignEdge (a .alignment) a) ⊕ m .start) (l .start ⊕ m .start))
       (cond (present ms && present me)
       (addN (selfN (a .safety) (shape a) (α .size) λl (boxN u μ) (alignOf (a .alignment) (a .reversed))) (μ .start))
@@ -151,16 +152,17 @@ module _ (L A S : ℕ) (room : 10 * L + 6 * A + S < 16777216) where
   unfolding present
   both-exact (Some x) (Some y) a α h hl hu hm =
       rw (align-is (a .alignment) a) (shifted (self-exact (a .safety) a (alignOf (a .alignment) (a .reversed)) hl (h .size) (box-exact hu hm)) (hm .start))
-  both-exact (Some x) None a α h hl hu hm = widen (omega arith) (any (add-exact (eighths (hl .start)) (hm .start) (omega arith)))
-  both-exact None me a α h hl hu hm = widen (omega arith) (any (add-exact (eighths (hl .start)) (hm .start) (omega arith)))
+  both-exact (Some x) None a α h hl hu hm = widen (omega arith) (add-exact (eighths (hl .start)) (hm .start) (omega arith))
+  both-exact None me a α h hl hu hm = widen (omega arith) (add-exact (eighths (hl .start)) (hm .start) (omega arith))
 
   position-at : (s e : MaybeF32) {l m : Line} {λl μ : LineN} {size : Float} {u : N} (a : OofAxis) (α : AxisN) → ExactAxis L A a α → InBlock l λl → Exact 4 S size u
-      → LineExact 2 (marginBound L A S (fills (present s) (present e) (present (a .margin .start)) (present (a .margin .end)))) m μ
+      → LineExact (marginUnit (fills (present s) (present e) (present (a .margin .start)) (present (a .margin .end))))
+      (marginBound L A S (fills (present s) (present e) (present (a .margin .start)) (present (a .margin .end)))) m μ
       → Placed (positionIn s e a l size m) (positionN (present s) (present e) (shape a) α λl u μ)
   unfolding positionIn present
   position-at None None a α h hl hu hm = shifted (static-place-exact (a .place .align .safety) a hl (h .area) (box-exact hu hm)) (hm .start)
-  position-at (Some x) None a α h hl hu hm = widen (omega arith) (any (add-exact (eighths (hl .start)) (hm .start) (omega arith)))
-  position-at None (Some y) a α h hl hu hm = widen (omega arith) (any (sub-exact (eighths (sub-exact (hl .end) hu (omega arith))) (hm .end) (omega arith)))
+  position-at (Some x) None a α h hl hu hm = widen (omega arith) (eighths (add-exact (hl .start) (hm .start) (omega arith)))
+  position-at None (Some y) a α h hl hu hm = widen (omega arith) (eighths (sub-exact (sub-exact (hl .end) hu (omega arith)) (hm .end) (omega arith)))
   position-at (Some x) (Some y) a α h hl hu hm = both-exact (a .margin .start) (a .margin .end) a α h hl hu hm
 
   pub place-exact : (a : OofAxis) (α : AxisN) {size : Float} {u : N} → ExactAxis L A a α → Exact 4 S size u → Placed (placement a size .position) (placeN (shape a) α u)

@@ -1,8 +1,8 @@
 -- The mirror law between two axes that face each other: each the mirror image of the other as numbers, whatever floats they are
 -- written with. L, A and S bound lengths, static area and box size, in sixteenths. Assumes nothing.
 use mathlib.Core.Path.{_≡_, sym, ap, ap₂, subst, _∙_}
-use mathlib.Core.Bool.{Bool, true, false, _&&_}
-use Prim.Native.Nat.{ℕ, _+_, _*_, _≤_, _<_}
+use mathlib.Core.Bool.{Bool, false, _&&_}
+use Prim.Native.Nat.{ℕ, _+_, _*_, _<_}
 use native.Mathlib.Omega.{arith}
 use lib.Ieee.{Float}
 use Rattle.util.specs.Maybe.{present}
@@ -13,12 +13,12 @@ use Rattle.oof_axis.specs.Axis.{block, bothInsets, stretchFit, stretching, stre
 use Rattle.util_exact.specs.Integer.{N, addN}
 use Rattle.util_exact.proofs.Tests.{and-commute}
 use Rattle.util_exact.proofs.Integers.{Multiple, subN, add-mult, even-of}
-use Rattle.util_exact.proofs.Exact.{Exact}
+use Rattle.util_exact.proofs.Exact.{Exact, any}
 use Rattle.util_exact.proofs.Sum.{sub-exact}
 use Rattle.util_exact.proofs.Same.{Same, same}
 use Rattle.mirror_axis.proofs.Model.{LineN, spanN, AxisN, Shape, shape, fills, blockN, stretchFitN, marginsN, placeN}
-use Rattle.mirror_axis.proofs.ExactBlock.{LineExact, widen-line, ExactAxis, block-exact}
-use Rattle.mirror_axis.proofs.ExactMargins.{marginBound, span-exact, stretch-exact, margins-exact}
+use Rattle.mirror_axis.proofs.ExactBlock.{LineExact, ExactAxis, block-exact}
+use Rattle.mirror_axis.proofs.ExactMargins.{span-exact, stretch-exact, margins-exact, margins-eighths}
 use Rattle.mirror_axis.proofs.ExactPlace.{place-exact}
 use Rattle.mirror_axis.proofs.FlipBlock.{Flip, NotZero, imageN, imageShape, block-flip}
 use Rattle.mirror_axis.proofs.FlipMargins.{Swap, stretch-same, margins-swap, margins-fill}
@@ -44,10 +44,6 @@ evens {m = m} h = (even-of 2 (m .start) (h .start .mult), even-of 2 (m .end) (h 
 
 abbrev filling : Shape → Bool
 filling σ = fills (σ .insetStart) (σ .insetEnd) (σ .marginStart) (σ .marginEnd)
-
-bound-le : (L A S : ℕ) (t : Bool) → marginBound L A S t ≤ 7 * L + 4 * A + S
-bound-le L A S true = omega arith
-bound-le L A S false = omega arith
 
 module _ (L A : ℕ) (room : 10 * L + 6 * A < 16777216) (a a' : OofAxis) (h : Facing L A a a') where
   -- the shape of a' is the image of a's
@@ -98,13 +94,13 @@ module _ (L A S : ℕ) (room : 10 * L + 6 * A + S < 16777216) (a a' : OofAxis) (
 
   margins-left : LineExact 2 (7 * L + 4 * A + S) (placement a size .margin) marginsLeft
   unfolding placement
-  margins-left = widen-line (bound-le L A S (filling (shape a))) (margins-exact L A S room a (h .α) (h .left) (s .l))
+  margins-left = margins-eighths L A S (filling (shape a)) (margins-exact L A S room a (h .α) (h .left) (s .l))
 
   margins-right : LineExact 2 (7 * L + 4 * A + S) (placement a' size' .margin) marginsRight
   unfolding placement
   margins-right =
       by-shape L A (omega arith) a a' h (λ σ. LineExact 2 (7 * L + 4 * A + S) (placement a' size' .margin) (marginsN σ (imageN (h .α)) (s .a)))
-      (widen-line (bound-le L A S (filling (shape a'))) (margins-exact L A S room a' (imageN (h .α)) (h .right) (s .r)))
+      (margins-eighths L A S (filling (shape a')) (margins-exact L A S room a' (imageN (h .α)) (h .right) (s .r)))
 
   -- the free space is a whole number of quarters
   free-even : Multiple 2 (subN (spanN (blockN (shape a) (h .α))) (s .a))
@@ -126,10 +122,10 @@ module _ (L A S : ℕ) (room : 10 * L + 6 * A + S < 16777216) (a a' : OofAxis) (
       record {
         a = placeN (shape a) (h .α) (s .a);
         a' = placeN (imageShape (shape a)) (imageN (h .α)) (s .a);
-        l = place-exact L A S room a (h .α) (h .left) (s .l);
+        l = any (place-exact L A S room a (h .α) (h .left) (s .l));
         r =
             by-shape L A (omega arith) a a' h (λ σ. Exact 1 (10 * L + 6 * A + S) (placement a' size' .position) (placeN σ (imageN (h .α)) (s .a)))
-            (place-exact L A S room a' (imageN (h .α)) (h .right) (s .r));
+            (any (place-exact L A S room a' (imageN (h .α)) (h .right) (s .r)));
         fill =
             position-fill (shape a .insetStart) (shape a .insetEnd) (shape a) (h .α) (blockN (shape a) (h .α)) (blockN (imageShape (shape a)) (imageN (h .α))) marginsLeft marginsRight (s .a)
             (blocks L A (omega arith) a a' h) margins-turn (even-of 2 (h .α .size) (h .left .size .mult)) (evens (block-left L A (omega arith) a a' h)) (evens (h .left .area))

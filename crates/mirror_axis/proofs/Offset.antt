@@ -14,7 +14,7 @@ use Rattle.oof_axis.specs.Axis.{alignIn}
 use Rattle.oof_axis.specs.StaticOffset.{offsetEdge, axisOffset}
 use Rattle.util_exact.specs.Integer.{N, addN, EqN}
 use Rattle.util_exact.proofs.Integers.{Multiple, add-mult, even-of, ltN, lt-cong}
-use Rattle.util_exact.proofs.Exact.{Exact, widen, eighths}
+use Rattle.util_exact.proofs.Exact.{Exact, widen}
 use Rattle.util_exact.proofs.Sum.{sub-exact}
 use Rattle.util_exact.proofs.Compare.{lt-exact}
 use Rattle.util_exact.proofs.Quarters.{units, quarters-exact}
@@ -38,7 +38,7 @@ abbrev offsetN : AlignmentSafety → AxisStaticEdge → AxisStaticEdge → LineN
 offsetN s k fallback area u m = addN (alignN area (boxN u m) (edgeN s k fallback area (boxN u m))) (m .start)
 
 module _ (L A S : ℕ) (room : 10 * L + 6 * A + S < 16777216) where
-  edge-exact : (s : AlignmentSafety) (p : AxisStaticPosition) {μ : LineN} {box : Float} {v : N} → LineExact 4 A (p .area) μ → Exact 2 (2 * L + S) box v
+  edge-exact : (s : AlignmentSafety) (p : AxisStaticPosition) {μ : LineN} {box : Float} {v : N} → LineExact 4 A (p .area) μ → Exact 4 (2 * L + S) box v
       → Aligned L A S room (alignIn (p .area) box (offsetEdge s p box)) (alignN μ v (edgeN s (p .align .keyword) (p .align .fallback) μ v))
   unfolding offsetEdge
   edge-exact Default p h b = align-exact L A S room (p .align .keyword) (widen-line (omega arith) h) b
@@ -49,7 +49,7 @@ module _ (L A S : ℕ) (room : 10 * L + 6 * A + S < 16777216) where
       go true = align-exact L A S room (p .align .fallback) (widen-line (omega arith) h) b
       go false = align-exact L A S room (p .align .keyword) (widen-line (omega arith) h) b
 
-  offset-exact : (p : AxisStaticPosition) {μ m' : LineN} {size : Float} {u : N} {m : Line} → LineExact 4 A (p .area) μ → Exact 4 S size u → LineExact 2 L m m'
+  offset-exact : (p : AxisStaticPosition) {μ m' : LineN} {size : Float} {u : N} {m : Line} → LineExact 4 A (p .area) μ → Exact 4 S size u → LineExact 4 L m m'
       → Placed L A S room (axisOffset p size m) (offsetN (p .align .safety) (p .align .keyword) (p .align .fallback) μ u m')
   unfolding axisOffset
   offset-exact p h hu hm = shifted L A S room (edge-exact (p .align .safety) p h (box-exact L A S room hu hm)) (hm .start)
@@ -81,8 +81,8 @@ offset-mirror L A S t p w size m qw qs qe qu ms me =
     let hs = quarters-exact qs in
     let he = quarters-exact qe in
     let hu = quarters-exact qu in
-    let js = eighths (quarters-exact ms) in
-    let je = eighths (quarters-exact me) in
+    let js = quarters-exact ms in
+    let je = quarters-exact me in
     let α = units qs toN units qe in
     let μ = units ms toN units me in
     three-add-up (offset-exact (4 * L) (4 * L + 4 * A) (4 * S) (omega (arith, ltb→lt)) p {μ = α} {m' = μ} (record { start = widen (omega arith) hs; end = widen (omega arith) he }) hu (record { start = js; end = je }))
@@ -90,4 +90,4 @@ offset-mirror L A S t p w size m qw qs qe qu ms me =
     (record { start = sub-exact hw he (omega (arith, ltb→lt)); end = sub-exact hw hs (omega (arith, ltb→lt)) }) hu (record { start = je; end = js }))
     hu hw
     (offset-fill (units qw) (p .align .safety) (p .align .keyword) (p .align .fallback) α (units qu) μ (even-of 2 (units qs) (hs .mult), even-of 2 (units qe) (he .mult))
-    (add-mult 2 (addN (units qu) (units ms)) (units me) (add-mult 2 (units qu) (units ms) (even-of 2 (units qu) (hu .mult)) (js .mult)) (je .mult)))
+    (add-mult 2 (addN (units qu) (units ms)) (units me) (add-mult 2 (units qu) (units ms) (even-of 2 (units qu) (hu .mult)) (even-of 2 (units ms) (js .mult))) (even-of 2 (units me) (je .mult))))

@@ -84,11 +84,11 @@ of-resolved Absent q h = noKeyword
 of-resolved (Length x) q h = noKeyword
 of-resolved (Keyword k) q h = by-keyword k q h
 
-keyword-of : (l : CompactLength) → QuarterLength l → {x x' : Float} → Same 4 sizeBound x x' → {w w' : Float} → w ≡ w' → KeywordSame (keywordOf l x w) (keywordOf l x' w')
+pub keyword-of : (l : CompactLength) → QuarterLength l → {x x' : Float} → Same 4 sizeBound x x' → {w w' : Float} → w ≡ w' → KeywordSame (keywordOf l x w) (keywordOf l x' w')
 unfolding keywordOf
 keyword-of l q h {w} {w'} e = rw e (of-resolved (resolved field.Size l w') (resolved-quarter field.Size l w' q) h)
 
-if-absent : {b : ℕ} {m m' : MaybeF32} {k k' : SizingKeywordResolution} → MaybeSame 4 b m m' → KeywordSame k k' → KeywordSame (ifAbsent m k) (ifAbsent m' k')
+pub if-absent : {b : ℕ} {m m' : MaybeF32} {k k' : SizingKeywordResolution} → MaybeSame 4 b m m' → KeywordSame k k' → KeywordSame (ifAbsent m k) (ifAbsent m' k')
 unfolding ifAbsent
 if-absent (given h) k = noKeyword
 if-absent absent k = k

@@ -38,7 +38,7 @@ pub record StretchedShared (at at' : Stretched) : Type 0 where
   pub min : Known (at .min) (at' .min)
 
 -- a table's min
-raised : {t t' : Bool} {m m' : MaybeF32} {x x' : Float} → t ≡ t' → MaybeSame 4 fitBound m m' → Same 4 fitBound x x' → MaybeSame 4 fitBound (raisedMin t m x) (raisedMin t' m' x')
+pub raised : {t t' : Bool} {m m' : MaybeF32} {x x' : Float} → t ≡ t' → MaybeSame 4 fitBound m m' → Same 4 fitBound x x' → MaybeSame 4 fitBound (raisedMin t m x) (raisedMin t' m' x')
 unfolding raisedMin
 raised e h k = pick (MaybeSame 4 fitBound) e (given (larger-same (or-zero h) k)) h
 
@@ -46,7 +46,7 @@ raised-word : {t t' : Bool} {m m' : MaybeF32} {x x' : Float} → t ≡ t' → m 
 raised-word e f g = rw (e, f, g)
 
 -- there is no ratio to apply
-no-ratio : (style : Style) (box : ResolvedBox) (across down : Bool) → style .ratio ≡ None → stretchRatio style box across down ≡ None
+pub no-ratio : (style : Style) (box : ResolvedBox) (across down : Bool) → style .ratio ≡ None → stretchRatio style box across down ≡ None
 unfolding stretchRatio
 no-ratio style box across down e = rw e (both (ignoresRatio box across down))
   where

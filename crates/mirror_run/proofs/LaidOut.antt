@@ -73,11 +73,11 @@ module _ (ws : List ℕ) (n node : ℕ) (long : length ws ≡ layoutWidth * n) (
   room-there = omega (arith, mul-le-mul-left layoutWidth there, mul-suc layoutWidth node)
 
   -- read at its node's place, a layout is as it was written
-  written-here : (i : ℕ) → i ≡ node → recordAt layoutWidth (written ws (layoutWidth * node) (layoutWords l)) i ≡ layoutWords l
+  pub written-here : (i : ℕ) → i ≡ node → recordAt layoutWidth (written ws (layoutWidth * node) (layoutWords l)) i ≡ layoutWords l
   written-here i e = ap (recordAt layoutWidth (written ws (layoutWidth * node) (layoutWords l))) e ∙ record-back layoutWidth node ws (layoutWords l) (layout-widths .1 l) room-there
 
   -- any other stays
-  kept-there : (i : ℕ) → (i ≡ node → ⊥) → recordAt layoutWidth (written ws (layoutWidth * node) (layoutWords l)) i ≡ recordAt layoutWidth ws i
+  pub kept-there : (i : ℕ) → (i ≡ node → ⊥) → recordAt layoutWidth (written ws (layoutWidth * node) (layoutWords l)) i ≡ recordAt layoutWidth ws i
   kept-there i d = others-kept layoutWidth node i ws (layoutWords l) (layout-widths .1 l) room-there d
 
 module _ (f : Frame) (c : Counts) (p p' : Own) (lists : Lists f (c .filled) p p') (begun : 0 < c .begun) (waiting : c .begun ≤ c .filled .working)

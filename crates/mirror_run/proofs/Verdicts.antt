@@ -152,6 +152,7 @@ room-passed by lent filled cs e =
 
 pub record OpeningPassed (o : Opening) (candidates : List ℕ) (lent : Lent) : Type 0 where
   pub area : badArea o ≡ false
+  pub layouts : length (lent .layouts) ≡ layoutWidth * items (lent .styles)
   pub style : badStyle (lent .styles) ≡ false
   pub candidate : goodRecords (candidateKinds (items (lent .styles))) candidates (length candidates / candidateWidth) ≡ true
   pub room : Room (claimsOf o) lent noneFilled candidates
@@ -160,10 +161,12 @@ pub opening-passed : (o : Opening) (candidates : List ℕ) (lent : Lent) → ope
 unfolding openingVerdict badCandidate
 opening-passed o candidates lent e =
     let area = passed BadArea _ _ e in
-    let style = passed BadStyle _ _ (passed BadExtent _ _ (area .1) .1) in
+    let extent = passed BadExtent _ _ (area .1) in
+    let style = passed BadStyle _ _ (extent .1) in
     let candidate = passed BadCandidate _ _ (style .1) in
     record {
       area = area .0;
+      layouts = slices-passed lent (neither _ _ (extent .0) .0);
       style = style .0;
       candidate = not-false _ (candidate .0);
       room = room-passed (claimsOf o) lent noneFilled candidates (passed ListFull _ _ (candidate .1) .0);

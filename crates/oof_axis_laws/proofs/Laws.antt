@@ -24,7 +24,7 @@ use Rattle.util_exact.proofs.Integers.{Multiple, subN, ltN, leN, add-mult, sub-
 use mathlib.Core.Logic.{_⊎_, inl, inr}
 use borrow.Author.Tests.{le-leb}
 use Rattle.util_exact.specs.Value.{_≐_, Total}
-use Rattle.util_exact.proofs.Exact.{Exact, sixteenths, widen, eighths, zero-exact}
+use Rattle.util_exact.proofs.Exact.{Exact, sixteenths, widen, any, zero-exact}
 use Rattle.util_exact.proofs.Laws.{one-integer}
 use Rattle.util_exact.proofs.Sum.{sub-exact}
 use Rattle.util_exact.proofs.Compare.{lt-exact, le-exact, same-number, same-integer}
@@ -33,7 +33,7 @@ use Rattle.util_exact.proofs.Quarters.{MaybeExact, units, quarters-exact}
 use Rattle.mirror_axis.specs.Law.{Room}
 use Rattle.mirror_axis.proofs.Model.{LineN, _toN_, spanN, AxisN, shape, blockN, fills, orZeroN, marginsN, endOf, alignN, staticN, repairedN, staticPlaceN, stretchFitN, alignOf, limitN, limitedN, selfN, boxN, placeN}
 use Rattle.mirror_axis.proofs.ExactBlock.{LineExact, ExactAxis, block-exact}
-use Rattle.mirror_axis.proofs.ExactMargins.{marginBound, or-zero-exact, span-exact, stretch-exact, margins-exact}
+use Rattle.mirror_axis.proofs.ExactMargins.{or-zero-exact, span-exact, stretch-exact, margins-exact, margins-eighths}
 use Rattle.mirror_axis.proofs.ExactPlace.{box-exact, span-of, place-exact}
 use Rattle.mirror_axis.proofs.FlipMargins.{margins-fill}
 use Rattle.mirror_axis.proofs.Law.{numbers, axis-exact}
@@ -116,16 +116,16 @@ module _ (L A S : ℕ) (room : 10 * L + 6 * A + S < 16777216) (a : OofAxis) (α 
   given-end = or-zero-exact (a .margin .end) (α .margin .end) (h .marginEnd)
 
   -- the margin box as a float
-  box : Exact 2 (2 * L + S) (marginBox a size) (boxN u μ)
-  box = box-exact L A S room {m = orZero (a .margin .start) to orZero (a .margin .end)} hu (record { start = eighths given-start; end = eighths given-end })
+  box : Exact 4 (2 * L + S) (marginBox a size) (boxN u μ)
+  box = box-exact L A S room {m = orZero (a .margin .start) to orZero (a .margin .end)} hu (record { start = given-start; end = given-end })
 
   -- any axis
-  any-margins : LineExact 2 (marginBound L A S (fills (present (a .inset .start)) (present (a .inset .end)) (present (a .margin .start)) (present (a .margin .end)))) (placement a size .margin) (marginsN (shape a) α u)
-  unfolding placement
-  any-margins = margins-exact L A S room a α h hu
-
   abbrev bound : ℕ
-  bound = marginBound L A S (fills (present (a .inset .start)) (present (a .inset .end)) (present (a .margin .start)) (present (a .margin .end)))
+  bound = 7 * L + 4 * A + S
+
+  any-margins : LineExact 2 bound (placement a size .margin) (marginsN (shape a) α u)
+  unfolding placement
+  any-margins = margins-eighths L A S (fills (present (a .inset .start)) (present (a .inset .end)) (present (a .margin .start)) (present (a .margin .end))) (margins-exact L A S room a α h hu)
 
   abbrev stands : (m : LineN) (at : N) → marginsN (shape a) α u ≡ m → placeN (shape a) α u ≡ addN at (m .start) → Stands a size
   stands m at e f =
@@ -144,7 +144,7 @@ module _ (L A S : ℕ) (room : 10 * L + 6 * A + S < 16777216) (a : OofAxis) (α 
         border = hu;
         marginStart = subst (λ (x : LineN). Exact 2 bound (placement a size .margin .start) (x .start)) e (any-margins .start);
         marginEnd = subst (λ (x : LineN). Exact 2 bound (placement a size .margin .end) (x .end)) e (any-margins .end);
-        position = subst (λ (x : N). Exact 1 (10 * L + 6 * A + S) (placement a size .position) x) f (place-exact L A S room a α h hu);
+        position = subst (λ (x : N). Exact 1 (10 * L + 6 * A + S) (placement a size .position) x) f (any (place-exact L A S room a α h hu));
       }
 
   -- two insets and two margins
@@ -164,7 +164,7 @@ module _ (L A S : ℕ) (room : 10 * L + 6 * A + S < 16777216) (a : OofAxis) (α 
 
   middle : Middle ℓ (boxN u μ)
   middle =
-      sub-mult 2 (addN (ℓ .start) (ℓ .end)) (boxN u μ) (add-mult 2 (ℓ .start) (ℓ .end) (even-of 2 (ℓ .start) (line .start .mult)) (even-of 2 (ℓ .end) (line .end .mult))) (box .mult)
+      sub-mult 2 (addN (ℓ .start) (ℓ .end)) (boxN u μ) (add-mult 2 (ℓ .start) (ℓ .end) (even-of 2 (ℓ .start) (line .start .mult)) (even-of 2 (ℓ .end) (line .end .mult))) (even-of 2 (boxN u μ) (box .mult))
 
   -- ---- what fits
 
@@ -302,7 +302,7 @@ module _ (L A S : ℕ) (room : 10 * L + 6 * A + S < 16777216) (a : OofAxis) (α 
 
   static-middle : Middle area (boxN u μ)
   static-middle =
-      sub-mult 2 (addN (area .start) (area .end)) (boxN u μ) (add-mult 2 (area .start) (area .end) (even-of 2 (area .start) (h .area .start .mult)) (even-of 2 (area .end) (h .area .end .mult))) (box .mult)
+      sub-mult 2 (addN (area .start) (area .end)) (boxN u μ) (add-mult 2 (area .start) (area .end) (even-of 2 (area .start) (h .area .start .mult)) (even-of 2 (area .end) (h .area .end .mult))) (even-of 2 (boxN u μ) (box .mult))
 
   static-even : Multiple 2 (addN (area .start) (area .end))
   static-even = add-mult 2 (area .start) (area .end) (even-of 2 (area .start) (h .area .start .mult)) (even-of 2 (area .end) (h .area .end .mult))

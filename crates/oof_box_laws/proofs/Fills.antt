@@ -202,7 +202,7 @@ fills-with : (a : OofAxis) (offset : Float) → TwoInsets a → lt 0f (stretchFi
 fills-with a offset insets positive q o =
     let h = axis-exact 16384 0 a q in
     let fit : Exact 4 786432 (stretchFit a) (stretchFitN (shape a) (numbers 16384 0 a q)) = stretch-exact 65536 65536 (lit< tt) a _ h in
-    let at = place-exact 65536 65536 786432 (lit< tt) a _ h fit in
+    let at = any (place-exact 65536 65536 786432 (lit< tt) a _ h fit) in
     let sums = go (present (a .margin .start)) (present (a .margin .end)) refl refl (record { lengths = 16384; static = 0; sizes = 196608; room = tt; axis = q; box = quarters-of 196608 fit }) in
     let by = any (quarters-exact o) in
     let margin = placement a (stretchFit a) .margin in (

@@ -1,16 +1,19 @@
-// The C entries: a run whose state and answer stand in lent words. A slice passes as a pointer, then its length in words; state
-// and answer pass as a pointer each. hosts/c/oof.h declares them for C.
+// The C entries: a run whose state and answer stand in lent words, and the pixel edges of a box. A slice passes as a pointer, then its
+// length in words; state, answer, a layout and edges pass as a pointer each. hosts/c/oof.h declares them for C.
 ghost use mathlib.Core.Path.{_≡_};
 ghost use mathlib.Core.List.{[]};
 ghost use Rattle.oof_c_words.specs.Entry.{came, before, returned, openingOf, openedInWords, repliedInWords};
+ghost use Rattle.oof_c_words.specs.PixelWords.{pixelsReturned, pixelsInWords};
 use geometry::Point;
 use geometry::Rect;
 use geometry::Size;
 use oof_box::question::Reply;
 use oof_c_words::answer::ANSWER_WORDS;
 use oof_c_words::state::STATE_WORDS;
+use pixels::lent::EDGES;
 use run::Opening;
 use tree::layout::OofPositioningArea;
+use tree_record::layout::LAYOUT_WORDS;
 
 // Opens a run.
 #[no_mangle]
@@ -185,4 +188,19 @@ pub extern "C" fn oof_reply_laid_out(
         state,
         answer,
     )
+}
+
+// The pixel edges of a box, from its layout's words, relative to an area at x, y.
+#[no_mangle]
+pub extern "C" fn oof_pixels(
+    layout: &[u32; LAYOUT_WORDS],
+    x: f32,
+    y: f32,
+    edges: &mut [i32; EDGES],
+) -> u32
+    ensures { λ r. ⌜ pixelsReturned r edges ≡ pixelsInWords (came layout) (record { x = x; y = y }) (now (edges .entry)) ⌝ }
+{
+    let l = tree_record::layout::layout_at(layout, 0);
+    let p = pixels::pixel_edges(l, Point { x, y });
+    pixels::lent::tell(p, edges)
 }

@@ -12,7 +12,7 @@ use Rattle.util.proofs.Laws.{float-back}
 use Rattle.geometry.specs.declared.Size.{Size}
 use Rattle.refusal.specs.Refusal.{numberOf}
 use Rattle.refusal.specs.declared.Refusal.{Refusal}
-use Rattle.refusal.specs.declared.Refusal.the-variants.{BadArea, BadExtent, BadStyle, BadCandidate, ListFull, WrongReply, UnresolvedSide, BadScreenLine}
+use Rattle.refusal.specs.declared.Refusal.the-variants.{BadArea, BadExtent, BadStyle, BadCandidate, ListFull, WrongReply, UnresolvedSide, BadScreenLine, NotInEighths}
 use Rattle.style.specs.Codes.{directionOf, overflowOf}
 use Rattle.style.proofs.Laws.{direction-codes, overflow-codes, bits-codes}
 use Rattle.style.specs.declared.ContainingBlockClaims.{ContainingBlockClaims}
@@ -145,6 +145,7 @@ refused-is-not ListFull e = absurd (omega (arith, e))
 refused-is-not WrongReply e = absurd (omega (arith, e))
 refused-is-not UnresolvedSide e = absurd (omega (arith, e))
 refused-is-not BadScreenLine e = absurd (omega (arith, e))
+refused-is-not NotInEighths e = absurd (omega (arith, e))
 
 -- an outcome that isn't refused
 zero-of : {o p : Outcome} → o ≡ p → isRefused (p .step .answer) ≡ false → resultOf (o .step .answer) ≡ 0

@@ -1,3 +1,4 @@
 pub mod Laws
 pub mod Floats
 pub mod Kept
+pub mod Pixels

@@ -1,12 +1,13 @@
--- What the words of a C call mean, as statements. `proofs/Laws.antt` and `proofs/Kept.antt` prove each, under its name in small
--- letters.
+-- What the words of a C call mean, as statements. `proofs/` proves each, under its name in small letters.
 -- `fits binary32 x` says that x is a value of an f32, written in its one way: true of every f32 of a program. Assumes nothing.
 use Prim.Native.Nat.{ℕ, _<_}
 use mathlib.Core.List.{List, [], map, foldl}
 use mathlib.Core.Path.{_≡_}
 use lib.Dec.{T}
+use lib.IntN.{ℤ}
 use lib.Ieee.{fits, binary32}
 use lib.ListN.{length, replicate}
+use Rattle.geometry.specs.declared.Point.{Point}
 use Rattle.tree_record.specs.Laws.{FitsSize, FitsPoint, FitsRect}
 use Rattle.oof_box.specs.declared.question.Reply.{Reply}
 use Rattle.oof_box.specs.declared.question.Reply.the-variants.{Both, Width, Height, LaidOut}
@@ -15,8 +16,9 @@ use Rattle.run.specs.Run.{closed, opened, replied}
 use Rattle.run.specs.Theorems.{Call, askedAtOpening, askedWith}
 use Rattle.run.specs.declared.Opening.{Opening}
 use Rattle.run.specs.declared.State.{State}
-use Rattle.oof_c_words.specs.StateWords.{keywordWidth, keywordHeight, fillSize, stateOf, stateWords}
+use Rattle.oof_c_words.specs.StateWords.{at, keywordWidth, keywordHeight, fillSize, stateOf, stateWords}
 use Rattle.oof_c_words.specs.Entry.{Words, words, lentIn, openedInWords, repliedInWords}
+use Rattle.oof_c_words.specs.PixelWords.{pixelsInWords}
 
 -- ---- the words of a state mean that state
 
@@ -135,3 +137,11 @@ RunIsKept =
     (o : Opening) (candidates styles : List ℕ) (before : Words) (calls : List Made) → Keeps o candidates styles before
     → stateOf (foldl stateAfter (openedInWords o candidates styles before .words .state) calls)
     ≡ foldl askedWith (askedAtOpening o candidates (lentIn styles before)) (map call calls) .state
+
+-- ---- pixel edges: of a layout's words only x, y, width and height are read
+
+abbrev pub OnlyFourWordsAreRead : Type 0
+OnlyFourWordsAreRead =
+    (a b : List ℕ) (offset : Point) (before : List ℤ)
+    → at a 9 ≡ at b 9 → at a 10 ≡ at b 10 → at a 1 ≡ at b 1 → at a 2 ≡ at b 2
+    → pixelsInWords a offset before ≡ pixelsInWords b offset before

@@ -1,4 +1,5 @@
 pub mod StateWords
 pub mod AnswerWords
 pub mod Entry
+pub mod PixelWords
 pub mod Laws

@@ -3,10 +3,11 @@ use Prim.Native.Nat.{ℕ}
 use mathlib.Core.Bool.{Bool, true, false, _||_}
 use mathlib.Core.Path.{_≡_, refl, ap, _∙_}
 use lib.Dec.{eqb}
+use borrow.Author.Tests.{eq-eqb}
 use Rattle.util.proofs.Floats.{no}
 use Rattle.refusal.specs.Refusal.{numberOf}
 use Rattle.refusal.specs.declared.Refusal.{Refusal}
-use Rattle.refusal.specs.declared.Refusal.the-variants.{BadArea, BadExtent, BadStyle, BadCandidate, ListFull, WrongReply, UnresolvedSide, BadScreenLine}
+use Rattle.refusal.specs.declared.Refusal.the-variants.{ListFull}
 use Rattle.run.specs.Refusals.{Verdict, accepted, refused, _when_else_}
 
 -- refused with a number
@@ -14,21 +15,11 @@ abbrev pub isNumber : ℕ → Verdict → Bool
 isNumber n accepted = false
 isNumber n (refused r) = eqb (numberOf r) n
 
-own-number : (r : Refusal) → eqb (numberOf r) (numberOf r) ≡ true
-own-number BadArea = refl
-own-number BadExtent = refl
-own-number BadStyle = refl
-own-number BadCandidate = refl
-own-number ListFull = refl
-own-number WrongReply = refl
-own-number UnresolvedSide = refl
-own-number BadScreenLine = refl
-
 -- a verdict of another number: the test is passed, and the rest gives the verdict
 pub passed : (r : Refusal) (test : Bool) (rest v : Verdict) → (r when test else rest) ≡ v → isNumber (numberOf r) v ≡ false
     → (test ≡ false) × (rest ≡ v)
 unfolding _when_else_
-passed r true rest v e n = no (own-number r) (ap (isNumber (numberOf r)) e ∙ n)
+passed r true rest v e n = no (eq-eqb (numberOf r) (numberOf r) refl) (ap (isNumber (numberOf r)) e ∙ n)
 passed r false rest v e n = (refl, e)
 
 -- room is no other test

@@ -4,7 +4,7 @@ use mathlib.Core.List.{[], _∷_}
 use mathlib.Core.Path.{_≡_, refl, sym, ap, _∙_}
 use lib.ListN.{getD}
 use Rattle.refusal.specs.declared.Refusal.{Refusal}
-use Rattle.refusal.specs.declared.Refusal.the-variants.{BadArea, BadExtent, BadStyle, BadCandidate, ListFull, WrongReply, UnresolvedSide, BadScreenLine}
+use Rattle.refusal.specs.declared.Refusal.the-variants.{BadArea, BadExtent, BadStyle, BadCandidate, ListFull, WrongReply, UnresolvedSide, BadScreenLine, NotInEighths}
 use Rattle.refusal.specs.Refusal.{numberOf}
 use Rattle.refusal.specs.Laws.{NumbersDiffer}
 
@@ -12,7 +12,7 @@ use Rattle.refusal.specs.Laws.{NumbersDiffer}
 abbrev byNumber : ℕ → Refusal
 byNumber n =
     getD
-    (BadArea ∷ BadArea ∷ BadExtent ∷ BadStyle ∷ BadCandidate ∷ ListFull ∷ WrongReply ∷ UnresolvedSide ∷ BadScreenLine ∷ [])
+    (BadArea ∷ BadArea ∷ BadExtent ∷ BadStyle ∷ BadCandidate ∷ ListFull ∷ WrongReply ∷ UnresolvedSide ∷ BadScreenLine ∷ NotInEighths ∷ [])
     n
     BadArea
 
@@ -25,6 +25,7 @@ back ListFull = refl
 back WrongReply = refl
 back UnresolvedSide = refl
 back BadScreenLine = refl
+back NotInEighths = refl
 
 pub numbers-differ : NumbersDiffer
 numbers-differ a b e = sym (back a) ∙ ap byNumber e ∙ back b

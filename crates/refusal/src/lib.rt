@@ -1,4 +1,4 @@
-// The refusals of document 01: one enum, one definition of their numbers.
+// The refusals of document 01 and of the change requests: one enum, one definition of their numbers.
 ghost use mathlib.Core.Path.{_≡_};
 ghost use Rattle.refusal.specs.Refusal.{numberOf};
 
@@ -11,6 +11,7 @@ pub enum Refusal {
     WrongReply,
     UnresolvedSide,
     BadScreenLine,
+    NotInEighths,
 }
 
 impl Refusal {
@@ -26,6 +27,7 @@ impl Refusal {
             Refusal::WrongReply => 6,
             Refusal::UnresolvedSide => 7,
             Refusal::BadScreenLine => 8,
+            Refusal::NotInEighths => 9,
         }
     }
 }

@@ -1,5 +1,5 @@
 -- Generated skeleton (tools/proof/write-skeletons), answers by hand.
-use Rattle.demands.proofs.Demands.{three-questions-each, equals-straight-run, laid-out-as-asked, mirror-image}
+use Rattle.demands.proofs.Demands.{three-questions-each, equals-straight-run, laid-out-as-asked, mirror-image, quarters-have-edges}
 use Rattle.run.proofs.EachQuestion.{stage-tells-kind}
 use Rattle.demands.proofs.demanded.Statement.{statement}
 use Rattle.demands.proofs.demanded.Tie as tie
@@ -12,6 +12,7 @@ returns c =
       equals-straight-run = equals-straight-run;
       laid-out-as-asked = laid-out-as-asked;
       mirror-image = mirror-image;
+      quarters-have-edges = quarters-have-edges;
     }
 
 pub demanded-spec : {M : Type 1} → statement M

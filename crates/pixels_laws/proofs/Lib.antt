@@ -1,0 +1,5 @@
+pub mod Accepted
+pub mod Sizes
+pub mod Resolved
+pub mod Box
+pub mod Run
