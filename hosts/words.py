@@ -46,6 +46,7 @@ RESOLVE = "style/specs/Resolve.antt"
 RECORD, DECODE = "style_record/specs/Record.antt", "style_record/specs/Decode.antt"
 CANDIDATE, LAYOUT = "tree_record/specs/Candidate.antt", "tree_record/specs/Layout.antt"
 STATE, ANSWER = "oof_c_words/specs/StateWords.antt", "oof_c_words/specs/AnswerWords.antt"
+PIXELS = "pixels/specs/Told.antt"
 SIDES = ["LEFT", "RIGHT", "TOP", "BOTTOM"]
 known = {}
 for name in ("lengthWords", "lengths", "codeWords", "afterLengths", "styleWords"):
@@ -155,6 +156,12 @@ def answer():
     return out | kinds | {"FINISH": int(re.search(r"\((\d+) ∷ countWord", finish)[1])}
 
 
+def pixels():
+    """Edges by their turn in the list that `edgesIn` puts together."""
+    sides = re.fullmatch(r"((?:p \.\w+ ∷ )+)\[\]", body(PIXELS, "edgesIn")[0][1])[1].split(" ∷ ")[:-1]
+    return {"PIXEL_" + side.removeprefix("p .").upper(): k for k, side in enumerate(sides)} | {"PIXEL_EDGES": len(sides)}
+
+
 def tags():
     """By what each comes to in a size."""
     names = {"Length value": "PX", "autoIn f": "AUTO", "Length (basis ⊗ value)": "PERCENT", "Absent": "CONTENT",
@@ -168,13 +175,14 @@ def tags():
 
 
 def wanted():
-    out = style() | candidate() | layout() | state() | answer() | tags()
+    out = style() | candidate() | layout() | state() | answer() | pixels() | tags()
     out |= {"STYLE_WORDS": known["styleWords"], "CANDIDATE_WORDS": number(CANDIDATE, "candidateWidth"), "LAYOUT_WORDS": number(LAYOUT, "layoutWidth")}
     out |= {"STATE_WORDS": count("stateWords"), "ANSWER_WORDS": count("finishWords")}
     assert count("measureWords") == count("layOutWords") == count("finishWords")
     refusals = text("run/specs/Refusals.antt")
     out |= {"MOST_ITEMS": int(re.search(r"ltb (\d+) \(items", refusals)[1]), "MOST_RECORDS": int(re.search(r"ltb (\d+) \(length list", refusals)[1])}
-    out |= {k: v for k, v in codes("refusal/specs/Refusal.antt", "numberOf", "").items() if v <= 6} | {"ACCEPTED": 0}
+    # those of the entries: 7 and 8 belong to parts that have none
+    out |= {k: v for k, v in codes("refusal/specs/Refusal.antt", "numberOf", "").items() if v not in (7, 8)} | {"ACCEPTED": 0}
     style_codes, record_codes = "style/specs/Codes.antt", "tree_record/specs/Codes.antt"
     out |= codes(style_codes, "directionCode", "DIRECTION_") | codes(style_codes, "overflowCode", "OVERFLOW_")
     out |= codes(style_codes, "safetyCode", "SAFETY_") | codes(style_codes, "keywordCode", "ALIGN_")

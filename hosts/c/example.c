@@ -1,6 +1,6 @@
 /* An English panel and its Arabic mirror image, placed by callbacks and printed side by side. A label stands 20 pixels from
  * the start edge and 12 from the top of an 800 by 480 panel, which stands at 100, 40 of its window; its size is what the
- * font says. */
+ * font says. Then the note of the incident (README.md at the root of the repository), in the panel's pixels. */
 #include <stdio.h>
 #include <stdlib.h>
 #include "oof.h"
@@ -41,7 +41,7 @@ typedef struct {
 
 static const float panel_x = 100, panel_y = 40, panel_width = 800, panel_height = 480;
 
-/* a label whose lengths are auto or 0, but for those of its panel */
+/* a box whose lengths are auto or 0, but for those of its panel */
 static panel panel_of(uint32_t direction)
 {
     panel p;
@@ -56,14 +56,13 @@ static panel panel_of(uint32_t direction)
     p.styles[OOF_STYLE_DIRECTION] = direction;
     p.styles[OOF_STYLE_JUSTIFY] = OOF_ALIGN_ABSENT;
     p.styles[OOF_STYLE_ALIGN] = OOF_ALIGN_ABSENT;
-    oof_set_length(p.styles, OOF_STYLE_INSET_TOP, OOF_TAG_PX, 12);
     p.candidates[OOF_CANDIDATE_POSITION] = OOF_POSITION_ABSOLUTE;
     p.candidates[OOF_CANDIDATE_Y_START] = oof_word(panel_y);
     p.candidates[OOF_CANDIDATE_Y_END] = oof_word(panel_y);
     return p;
 }
 
-/* where the label would stand in x without insets: at one point, in the window's coordinates */
+/* where the box would stand in x without insets: at one point, in the window's coordinates */
 static void stand_at(panel *p, float x, uint32_t edge)
 {
     p->candidates[OOF_CANDIDATE_X_START] = oof_word(x);
@@ -75,6 +74,7 @@ static void stand_at(panel *p, float x, uint32_t edge)
 static panel english(void)
 {
     panel p = panel_of(OOF_DIRECTION_LTR);
+    oof_set_length(p.styles, OOF_STYLE_INSET_TOP, OOF_TAG_PX, 12);
     oof_set_length(p.styles, OOF_STYLE_INSET_LEFT, OOF_TAG_PX, 20);
     oof_set_length(p.styles, OOF_STYLE_PADDING_LEFT, OOF_TAG_PX, 8);
     oof_set_length(p.styles, OOF_STYLE_PADDING_RIGHT, OOF_TAG_PX, 16);
@@ -86,10 +86,24 @@ static panel english(void)
 static panel arabic(void)
 {
     panel p = panel_of(OOF_DIRECTION_RTL);
+    oof_set_length(p.styles, OOF_STYLE_INSET_TOP, OOF_TAG_PX, 12);
     oof_set_length(p.styles, OOF_STYLE_INSET_RIGHT, OOF_TAG_PX, 20);
     oof_set_length(p.styles, OOF_STYLE_PADDING_LEFT, OOF_TAG_PX, 16);
     oof_set_length(p.styles, OOF_STYLE_PADDING_RIGHT, OOF_TAG_PX, 8);
     stand_at(&p, panel_x + panel_width, OOF_EDGE_END);
+    return p;
+}
+
+/* the note of the incident, 320 by 96: it ends 8 pixels before what it speaks of, and that stands in the panel's first column */
+static panel note(uint32_t direction)
+{
+    panel p = panel_of(direction);
+    int ltr = direction == OOF_DIRECTION_LTR;
+    oof_set_length(p.styles, OOF_STYLE_INSET_TOP, OOF_TAG_PX, 200);
+    oof_set_length(p.styles, ltr ? OOF_STYLE_INSET_RIGHT : OOF_STYLE_INSET_LEFT, OOF_TAG_PX, panel_width);
+    oof_set_length(p.styles, ltr ? OOF_STYLE_MARGIN_RIGHT : OOF_STYLE_MARGIN_LEFT, OOF_TAG_PX, 8);
+    oof_set_length(p.styles, OOF_STYLE_WIDTH, OOF_TAG_PX, 320);
+    oof_set_length(p.styles, OOF_STYLE_HEIGHT, OOF_TAG_PX, 96);
     return p;
 }
 
@@ -214,6 +228,24 @@ static void print_both(const panel *e, const panel *a)
     row("  padding", text[2][0], text[2][1]);
 }
 
+/* the pixel edges of the box, from the panel's corner */
+static const char *pixels(const panel *p, char *text, size_t room)
+{
+    int32_t edges[OOF_PIXEL_EDGES];
+    uint32_t result = oof_pixels(p->layouts, panel_x, panel_y, edges);
+    if (result != OOF_ACCEPTED)
+        return oof_refusal_name(result);
+    snprintf(text, room, "%d to %d, %d to %d", (int)edges[OOF_PIXEL_LEFT], (int)edges[OOF_PIXEL_RIGHT],
+             (int)edges[OOF_PIXEL_TOP], (int)edges[OOF_PIXEL_BOTTOM]);
+    return text;
+}
+
+static void print_pixels(const char *what, const panel *e, const panel *a)
+{
+    char text[2][COLUMN];
+    row(what, pixels(e, text[0], COLUMN), pixels(a, text[1], COLUMN));
+}
+
 /* a reply that no question waits for: refused, and no word is written */
 static int refused_by_name(panel *p)
 {
@@ -226,13 +258,18 @@ static int refused_by_name(panel *p)
 
 int main(void)
 {
-    panel e = english(), a = arabic();
-    uint32_t first = place(&e), second = place(&a);
-    if (first != OOF_ACCEPTED || second != OOF_ACCEPTED) {
-        printf("refused: %s, %s\n", oof_refusal_name(first), oof_refusal_name(second));
-        return EXIT_FAILURE;
+    panel e = english(), a = arabic(), there = note(OOF_DIRECTION_LTR), here = note(OOF_DIRECTION_RTL);
+    panel *all[4] = {&e, &a, &there, &here};
+    for (int k = 0; k < 4; k++) {
+        uint32_t result = place(all[k]);
+        if (result != OOF_ACCEPTED) {
+            printf("refused: %s\n", oof_refusal_name(result));
+            return EXIT_FAILURE;
+        }
     }
     print_both(&e, &a);
+    print_pixels("  pixels", &e, &a);
+    print_pixels("note, pixels", &there, &here);
     float x = layout(&e, OOF_LAYOUT_X), image = layout(&a, OOF_LAYOUT_X), width = layout(&e, OOF_LAYOUT_WIDTH);
     int mirrored = x + image + width == 2 * panel_x + panel_width;
     printf("%g + %g + %g is %g: %s\n", x, image, width, x + image + width, mirrored ? "mirrored" : "NOT MIRRORED");

@@ -1,24 +1,29 @@
 /* Out-of-flow placement for C: places absolutely positioned boxes by a dialogue between a run and its host.
  *
  * A host opens a run with oof_open, reads the question that stands in the answer's words, and replies with the entry of
- * that question's kind, until the answer is a finish. Then the layouts hold each placed box.
+ * that question's kind, until the answer is a finish. Then the layouts hold each placed box. oof_pixels rounds a layout to
+ * whole pixels; it belongs to no run.
  *
  *     result = oof_open(.., state, answer);
  *     while (result == 0 && answer[OOF_ANSWER_KIND] != OOF_FINISH)
  *         result = oof_reply_..(.., state, answer);
+ *     if (result == 0)
+ *         result = oof_pixels(layouts + OOF_LAYOUT_WORDS * node, x, y, edges);
  *
- * RESULT. 0: the call was accepted, and the answer's words say what comes next. 1 to 6: it was refused, for the reason
- * of that number (enum oof_refusal), and NO LENT WORD WAS WRITTEN: layouts, lists and answer keep every bit. What stands
- * in the state's words then:
+ * RESULT. 0: the call was accepted, and the answer's words say what comes next (of oof_pixels: the edges are written).
+ * 1 to 6, in a run, and 9, of oof_pixels alone: it was refused, for the reason of that number (enum oof_refusal), and NO
+ * LENT WORD WAS WRITTEN: layouts, lists, answer and edges keep every bit. 7 and 8 are refusals of parts that have no entry
+ * here. What stands in the state's words after a refusal:
  *   - after a refused reply, what stood there before, bit for bit, so the reply can be mended and made again;
  *   - after a refused opening, a finished run with all counts 0, so that no reply is taken until an opening is accepted.
  *     A run that stood in these words before is given up by any opening.
  *
  * POINTERS. Each slice is a pointer, then its length in 32-bit words. What a host owes:
  *   - every pointer is aligned for uint32_t and points at so many words that may be read (and written, where it isn't
- *     const); `state` at OOF_STATE_WORDS of them, `answer` at OOF_ANSWER_WORDS;
+ *     const); `state` at OOF_STATE_WORDS of them, `answer` at OOF_ANSWER_WORDS, `layout` at OOF_LAYOUT_WORDS, `edges` at
+ *     OOF_PIXEL_EDGES;
  *   - no pointer is null, also where the length is 0;
- *   - no two slices of a call overlap, state and answer included;
+ *   - no two slices of a call overlap, state, answer, layout and edges included;
  *   - nobody else writes the words during a call.
  * The words themselves may be any: whatever bits they hold, the call does what is defined, or is refused as defined.
  * No pointer is kept after a call, nothing is allocated and there are no globals: runs over different words may go on
@@ -45,6 +50,7 @@ enum {
     OOF_LAYOUT_WORDS = 23,
     OOF_STATE_WORDS = 27,
     OOF_ANSWER_WORDS = 10,
+    OOF_PIXEL_EDGES = 4,
     OOF_MOST_ITEMS = 1024,  /* of a table of styles */
     OOF_MOST_RECORDS = 4096 /* of a working or an unclaimed list */
 };
@@ -58,7 +64,8 @@ enum oof_refusal {
     OOF_BAD_STYLE = 3,     /* a tag or code that its field doesn't take, in any item of the table */
     OOF_BAD_CANDIDATE = 4, /* a node outside the table, or a code outside its list */
     OOF_LIST_FULL = 5,     /* the claimed or the unclaimed records would exceed their list */
-    OOF_WRONG_REPLY = 6    /* not the open question's kind, no question open, or a state whose counts don't fit */
+    OOF_WRONG_REPLY = 6,   /* not the open question's kind, no question open, or a state whose counts don't fit */
+    OOF_NOT_IN_EIGHTHS = 9 /* of oof_pixels: a number that isn't a whole eighth, or above 9,999,999 eighths in size */
 };
 
 static inline const char *oof_refusal_name(uint32_t result)
@@ -71,6 +78,7 @@ static inline const char *oof_refusal_name(uint32_t result)
     case OOF_BAD_CANDIDATE: return "bad candidate";
     case OOF_LIST_FULL: return "list full";
     case OOF_WRONG_REPLY: return "wrong reply";
+    case OOF_NOT_IN_EIGHTHS: return "not in eighths";
     default: return "no result of these entries";
     }
 }
@@ -223,6 +231,10 @@ enum {
     OOF_LAYOUT_MARGIN = 19
 };
 
+/* ---- the pixel edges of a box, 4 integers */
+
+enum { OOF_PIXEL_LEFT = 0, OOF_PIXEL_RIGHT = 1, OOF_PIXEL_TOP = 2, OOF_PIXEL_BOTTOM = 3 };
+
 /* ---- the answer, 10 words */
 
 enum { OOF_ANSWER_KIND = 0 };
@@ -285,7 +297,7 @@ enum {
  * right-to-left, an overflow above 3 is scroll, and of the claims the two low bits count. What doesn't fit the lent slices
  * is refused, with 2 or 6. */
 
-/* ---- the entries
+/* ---- the entries of a run
  *
  * In every call of a run:
  *   styles      one record an item, at most OOF_MOST_ITEMS; only read
@@ -348,6 +360,27 @@ uint32_t oof_reply_laid_out(float left, float right, float top, float bottom,
                             uint32_t *working, size_t working_len,
                             uint32_t *unclaimed, size_t unclaimed_len,
                             uint32_t *state, uint32_t *answer);
+
+/* ---- whole pixels */
+
+/* The pixel edges of a box, counted from the left and top edge of an area at x, y: left, right, top and bottom, by exact
+ * sums. An edge of n eighths of a pixel goes to the floor of (n + 4) / 8, also below zero: to the nearest pixel edge, and a
+ * half to the right or down. -5, -4, 3 and 4 eighths go to -1, 0, 0 and 1.
+ *   layout      one record. Its x, y, width and height are read, as they stand; the other words may hold any bits. A node that
+ *               no run placed has whatever words the host left there
+ *   x, y        the area's offset, as it was given to oof_open
+ *   edges       written on 0 only, each within 3,750,000 of 0
+ * The box covers the pixels from left up to, and not including, right, and so from top to bottom. No size is rounded by
+ * itself: boxes of one area that touch before still touch, and one of less than a pixel may have none (4 to 11 eighths: left
+ * and right are 1). Negative sizes are taken: the right edge is then left of the left one, or equal to it.
+ * Refuses with 9 unless each of the six numbers is a whole eighth of a pixel, and at most 9,999,999 eighths (1,249,999.875
+ * pixels) in size. A run whose area, lengths, static areas and replies are whole quarter pixels of at most 4,096, without
+ * percentage and ratio and without surfaced boxes that are claimed, has no box that is refused.
+ *   - A centered box whose free space is an odd count of eighths stands half an eighth off, and gets 9: in an area of 800 at
+ *     0, with left and right inset 0, auto margins and width 100.125, x is 349.9375.
+ *   - Pixel edges are not mirrored: a half goes to the right in a right-to-left area too. In an area of 16 eighths a box from
+ *     4 to 12 eighths is its own mirror image. Its edges are 1 and 2; the mirror image of these would be 0 and 1. */
+uint32_t oof_pixels(const uint32_t *layout, float x, float y, int32_t *edges);
 
 #ifdef __cplusplus
 }

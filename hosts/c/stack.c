@@ -90,6 +90,14 @@ static uint32_t do_lay_out(void *context)
     return oof_reply_laid_out(0, 10, 0, 10, candidates, OOF_CANDIDATE_WORDS, LENT);
 }
 
+static uint32_t do_pixels(void *context)
+{
+    static const uint32_t layout[OOF_LAYOUT_WORDS];
+    int32_t edges[OOF_PIXEL_EDGES];
+    (void)context;
+    return oof_pixels(layout, -0.625f, 0, edges);
+}
+
 /* items whose sizes are asked by this tag of the width and that of the height */
 static void fill(size_t count, uint32_t width, uint32_t height)
 {
@@ -114,7 +122,9 @@ static void fill(size_t count, uint32_t width, uint32_t height)
     }
 }
 
-static size_t most[5];
+enum { ENTRIES = 6 };
+
+static size_t most[ENTRIES];
 static int accepted;
 
 static void measure(int entry, uint32_t (*call)(void *context), size_t without)
@@ -144,10 +154,11 @@ int main(void)
             measure(3, do_height, without);
             measure(4, do_lay_out, without);
         }
-    printf("hosts/c: bytes of stack, %d calls accepted: open %zu, both %zu, width %zu, height %zu, laid out %zu\n", accepted,
-           most[0], most[1], most[2], most[3], most[4]);
-    for (int entry = 0; entry < 5; entry++)
+    measure(5, do_pixels, without);
+    printf("hosts/c: bytes of stack, %d calls accepted: open %zu, both %zu, width %zu, height %zu, laid out %zu; pixels %zu\n",
+           accepted, most[0], most[1], most[2], most[3], most[4], most[5]);
+    for (int entry = 0; entry < ENTRIES; entry++)
         if (most[entry] > LIMIT || most[entry] == 0)
             return EXIT_FAILURE;
-    return accepted == 24 ? EXIT_SUCCESS : EXIT_FAILURE;
+    return accepted == 25 ? EXIT_SUCCESS : EXIT_FAILURE;
 }

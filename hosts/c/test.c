@@ -1,4 +1,4 @@
-/* What the header says of offsets and of refused calls, tried. Prints one line; exits with 1 at the first that isn't so. */
+/* What the header says of offsets, of refused calls and of pixels, tried. Prints one line; exits with 1 at the first that isn't so. */
 #include <stdio.h>
 #include <stdlib.h>
 #include "oof.h"
@@ -6,7 +6,7 @@
 enum { ROOM = 2 };
 
 typedef struct {
-    float x, y;
+    float width, height, x, y;
     uint32_t direction;
     uint32_t styles[OOF_STYLE_WORDS];
     uint32_t candidates[OOF_CANDIDATE_WORDS];
@@ -39,7 +39,7 @@ static words box_at(float x, float y, float static_x, float static_y)
     memset(&w, 0x5A, sizeof w);
     memset(w.styles, 0, sizeof w.styles);
     memset(w.candidates, 0, sizeof w.candidates);
-    w.x = x, w.y = y, w.direction = OOF_DIRECTION_LTR;
+    w.width = 200, w.height = 100, w.x = x, w.y = y, w.direction = OOF_DIRECTION_LTR;
     for (size_t at = OOF_STYLE_INSET_LEFT; at <= OOF_STYLE_INSET_BOTTOM; at += 2)
         oof_set_length(w.styles, at, OOF_TAG_AUTO, 0);
     for (size_t at = OOF_STYLE_MARGIN_LEFT; at <= OOF_STYLE_BORDER_BOTTOM; at += 2)
@@ -55,9 +55,10 @@ static words box_at(float x, float y, float static_x, float static_y)
 
 static uint32_t opened(words *w)
 {
-    return oof_open(200, 100, w->x, w->y, w->direction, OOF_CLAIMS_ABSOLUTE, OOF_OVERFLOW_VISIBLE, OOF_OVERFLOW_VISIBLE,
-                    w->styles, OOF_STYLE_WORDS, w->candidates, OOF_CANDIDATE_WORDS, w->layouts, OOF_LAYOUT_WORDS,
-                    w->working, ROOM * OOF_CANDIDATE_WORDS, w->unclaimed, ROOM * OOF_CANDIDATE_WORDS, w->state, w->answer);
+    return oof_open(w->width, w->height, w->x, w->y, w->direction, OOF_CLAIMS_ABSOLUTE, OOF_OVERFLOW_VISIBLE,
+                    OOF_OVERFLOW_VISIBLE, w->styles, OOF_STYLE_WORDS, w->candidates, OOF_CANDIDATE_WORDS, w->layouts,
+                    OOF_LAYOUT_WORDS, w->working, ROOM * OOF_CANDIDATE_WORDS, w->unclaimed, ROOM * OOF_CANDIDATE_WORDS,
+                    w->state, w->answer);
 }
 
 static uint32_t laid_out(words *w, const uint32_t *surfaced, size_t count)
@@ -133,11 +134,80 @@ static void refused_replies(void)
     MUST(oof_reply_both(120, 18, LENT(&w)) == OOF_ACCEPTED);
 }
 
+/* ---- pixels */
+
+enum { LARGEST = 9999999 };
+
+/* a box's x, width and the offset's x as floats, in y -13 eighths from the offset with a height of 12; every other word is a NaN */
+static uint32_t pixels(float x, float width, float offset, int32_t *edges)
+{
+    uint32_t layout[OOF_LAYOUT_WORDS];
+    for (int k = 0; k < OOF_LAYOUT_WORDS; k++)
+        layout[k] = 0x7FC00000;
+    layout[OOF_LAYOUT_X] = oof_word(x), layout[OOF_LAYOUT_WIDTH] = oof_word(width);
+    layout[OOF_LAYOUT_Y] = oof_word(40 - 1.625f), layout[OOF_LAYOUT_HEIGHT] = oof_word(1.5f);
+    return oof_pixels(layout, offset, 40, edges);
+}
+
+/* in eighths */
+static int has_edges(int x, int width, int offset, int left, int right)
+{
+    int32_t edges[OOF_PIXEL_EDGES];
+    return pixels(x / 8.0f, width / 8.0f, offset / 8.0f, edges) == OOF_ACCEPTED && edges[OOF_PIXEL_LEFT] == left &&
+           edges[OOF_PIXEL_RIGHT] == right && edges[OOF_PIXEL_TOP] == -2 && edges[OOF_PIXEL_BOTTOM] == 0;
+}
+
+static int not_in_eighths(float x, float width, float offset)
+{
+    int32_t edges[OOF_PIXEL_EDGES] = {1, -2, 3, INT32_MIN};
+    const int32_t before[OOF_PIXEL_EDGES] = {1, -2, 3, INT32_MIN};
+    return pixels(x, width, offset, edges) == OOF_NOT_IN_EIGHTHS && memcmp(before, edges, sizeof before) == 0;
+}
+
+static void whole_pixels(void)
+{
+    MUST(has_edges(-13, 1, 0, -2, -1) && has_edges(-5, 1, 0, -1, 0) && has_edges(3, 1, 0, 0, 1) && has_edges(11, 1, 0, 1, 2));
+    MUST(has_edges(3, 3, 0, 0, 1) && has_edges(6, 3, 0, 1, 1)); /* they touch */
+    MUST(has_edges(4, 7, 0, 1, 1));                             /* no pixel */
+    MUST(has_edges(0, -8, 0, 0, -1));
+    MUST(has_edges(804, 8, 800, 1, 2));
+    MUST(has_edges(LARGEST, 0, -6777220, 2097152, 2097152)); /* as a float the sum is an eighth more, and 2,097,153 */
+    MUST(has_edges(LARGEST, LARGEST, -LARGEST, 2500000, 3750000));
+    MUST(has_edges(-LARGEST, -LARGEST, LARGEST, -2500000, -3750000));
+    MUST(not_in_eighths(0.0625f, 1, 0) && not_in_eighths(0, 0.0625f, 0) && not_in_eighths(0, 1, 0.0625f));
+    MUST(not_in_eighths(1250000, 1, 0) && not_in_eighths(0, -1250000, 0) && not_in_eighths(0, 1, oof_float(0x7F800000)));
+    MUST(not_in_eighths(oof_float(1), 1, 0) && not_in_eighths(0, 1, oof_float(0xFFC00000)));
+    MUST(!strcmp(oof_refusal_name(OOF_NOT_IN_EIGHTHS), "not in eighths"));
+    MUST(has_edges(4, 8, 0, 1, 2)); /* in an area of 16 eighths its own mirror image */
+}
+
+/* a box that is centered by auto margins, with an odd count of eighths to share */
+static void centered(void)
+{
+    int32_t edges[OOF_PIXEL_EDGES];
+    words w = box_at(100, 40, 100, 40);
+    w.width = 800;
+    oof_set_length(w.styles, OOF_STYLE_INSET_LEFT, OOF_TAG_PX, 0);
+    oof_set_length(w.styles, OOF_STYLE_INSET_RIGHT, OOF_TAG_PX, 0);
+    oof_set_length(w.styles, OOF_STYLE_MARGIN_LEFT, OOF_TAG_AUTO, 0);
+    oof_set_length(w.styles, OOF_STYLE_MARGIN_RIGHT, OOF_TAG_AUTO, 0);
+    oof_set_length(w.styles, OOF_STYLE_WIDTH, OOF_TAG_PX, 100.125f);
+    oof_set_length(w.styles, OOF_STYLE_HEIGHT, OOF_TAG_PX, 18);
+    MUST(opened(&w) == OOF_ACCEPTED && laid_out(&w, w.candidates, 0) == OOF_ACCEPTED);
+    MUST(oof_float(w.layouts[OOF_LAYOUT_X]) == 100 + 349.9375f);
+    MUST(oof_pixels(w.layouts, w.x, w.y, edges) == OOF_NOT_IN_EIGHTHS);
+    oof_set_length(w.styles, OOF_STYLE_WIDTH, OOF_TAG_PX, 100.25f);
+    MUST(opened(&w) == OOF_ACCEPTED && laid_out(&w, w.candidates, 0) == OOF_ACCEPTED);
+    MUST(oof_pixels(w.layouts, w.x, w.y, edges) == OOF_ACCEPTED && edges[OOF_PIXEL_LEFT] == 350 && edges[OOF_PIXEL_RIGHT] == 450);
+}
+
 int main(void)
 {
     offsets();
     refused_openings();
     refused_replies();
+    whole_pixels();
+    centered();
     printf("hosts/c: %d tests passed\n", tried);
     return EXIT_SUCCESS;
 }

@@ -1,6 +1,6 @@
 #!/bin/sh
-# Builds the Rust host, tests it and holds its example to examples/panel.stdout; then checks and documents it without the library,
-# and builds the example in another workspace, outside the repository, against an installed copy. Prints one line; exits with 1 at a failure.
+# Builds the Rust host, tests it and holds its examples to examples/*.stdout; then checks and documents it without the library,
+# and builds one in another workspace, outside the repository, against an installed copy. Prints one line; exits with 1 at a failure.
 #
 #     hosts/rust/run.sh
 #
@@ -24,8 +24,10 @@ fail() { cat "$log"; echo "hosts/rust: $1"; exit 1; }
 cd "$here"
 cargo test --offline --locked --release > "$log" 2>&1 || fail "it does not build, or a test failed"
 tests=$(sed -n 's/^test result: ok\. \([0-9]*\) passed.*/\1/p' "$log" | awk '{ n += $1 } END { print n }')
-cargo run --offline --locked --release --quiet --example panel 2> "$log" > "$work/out" || fail "the example failed"
-diff "$here/examples/panel.stdout" "$work/out" > "$log" || fail "the example prints something else"
+for example in panel incident; do
+    cargo run --offline --locked --release --quiet --example "$example" 2> "$log" > "$work/out" || fail "the example $example failed"
+    diff "$here/examples/$example.stdout" "$work/out" > "$log" || fail "the example $example prints something else"
+done
 
 OOF_LIB=$work/none cargo check --offline --locked > "$log" 2>&1 || fail "it can't be checked without the library"
 OOF_LIB=$work/none RUSTDOCFLAGS=-Dwarnings cargo doc --offline --locked --no-deps > "$log" 2>&1 || fail "it can't be documented"
@@ -39,4 +41,4 @@ OOF_LIB=$OOF_LIB "$here/../c/install.sh" "$work/prefix" > "$log"
 cd "$work/ws"
 OOF_LIB=$work/prefix/lib CARGO_TARGET_DIR=$work/target cargo run --offline --quiet 2> "$log" > "$work/out" || fail "it does not build in another workspace"
 diff "$here/examples/panel.stdout" "$work/out" > "$log" || fail "in another workspace the example prints something else"
-echo "hosts/rust: $tests tests passed, the example prints what it should, also in another workspace"
+echo "hosts/rust: $tests tests passed, the examples print what they should, also in another workspace"

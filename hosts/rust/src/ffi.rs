@@ -1,4 +1,4 @@
-//! The five entries of the static library `oof_c`, over words. This is the only module with `unsafe`.
+//! The six entries of the static library `oof_c`, over words. This is the only module with `unsafe`.
 //!
 //! Every entry takes any words in any number, and a call that it refuses writes no lent word. So the functions here are safe:
 //! the slices are Rust's, and two of which one may be written don't overlap.
@@ -6,11 +6,14 @@
 //! The state's words are the state that a call returns: an opening always writes them, a refused one those of a finished run
 //! with all counts 0; a refused reply leaves them, and the answer's, bit for bit.
 #![allow(unsafe_code)]
+use crate::words::LAYOUT;
 
 /// Words of a state. All zeros are the state of a finished run.
 pub const STATE: usize = 27;
 /// Words of an answer
 pub const ANSWER: usize = 10;
+/// Pixel edges of a box: left, right, top, bottom
+pub const EDGES: usize = 4;
 
 /// Places of a state's words.
 pub mod state {
@@ -149,6 +152,7 @@ mod c {
             state: *mut u32,
             answer: *mut u32,
         ) -> u32;
+        pub fn oof_pixels(layout: *const u32, x: f32, y: f32, edges: *mut i32) -> u32;
     }
 }
 
@@ -207,4 +211,11 @@ pub fn reply(reply: Reply, surfaced: &[u32], lent: &mut Lent) -> u32 {
             call!(oof_reply_laid_out, lent, left, right, top, bottom, surfaced.as_ptr(), surfaced.len(), styles, length)
         }
     }
+}
+
+/// The pixel edges of the box of a layout's words, relative to an area at x, y. Written when the call is accepted. The result is
+/// 0, or the number of a refusal.
+pub fn pixels(layout: &[u32; LAYOUT], x: f32, y: f32, edges: &mut [i32; EDGES]) -> u32 {
+    // SAFETY: the entry reads the layout's 23 words and writes the 4 edges, which are borrowed uniquely
+    unsafe { c::oof_pixels(layout.as_ptr(), x, y, edges.as_mut_ptr()) }
 }

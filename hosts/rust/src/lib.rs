@@ -2,7 +2,8 @@
 //!
 //! [`compute_oof_layout_for_area`] reads like the function of that name in taffy 0.15.1: it takes an area, a table of styles
 //! and a list of candidates, calls the [`Host`] back to measure and to lay out, and returns where the boxes stand. Under it is
-//! the library's dialogue of questions and replies over lent words; [`ffi`] has its five entries, with slices checked by Rust.
+//! the library's dialogue of questions and replies over lent words; [`ffi`] has its six entries, with slices checked by Rust.
+//! [`Layout::pixels`] rounds a box to whole pixels.
 //!
 //! ```
 //! use oof::*;
@@ -21,12 +22,15 @@
 //! let offset = Point { x: 100.0, y: 40.0 };
 //! let panel = Area { size: Size { width: 800.0, height: 480.0 }, offset, ..Area::default() };
 //! let placed = compute_oof_layout_for_area(&mut Font, &panel, &[label], &[Candidate::default()]).unwrap();
-//! assert_eq!(placed.layouts[0].unwrap().location, Point { x: 120.0, y: 52.0 });
+//! let layout = placed.layouts[0].unwrap();
+//! assert_eq!(layout.location, Point { x: 120.0, y: 52.0 });
+//! assert_eq!(layout.pixels(offset), Ok(Rect { left: 20, right: 140, top: 12, bottom: 30 }));
 //! ```
 #![deny(unsafe_code, missing_docs)]
 
 pub mod ffi;
 mod geometry;
+mod pixels;
 mod refusal;
 mod run;
 mod style;

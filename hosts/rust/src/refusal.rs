@@ -4,7 +4,8 @@ use std::fmt;
 /// Why a call was turned down. Such a call has written no lent word.
 ///
 /// From [`compute_oof_layout_for_area`](crate::compute_oof_layout_for_area) come only `BadExtent`, `BadCandidate` and
-/// `ListFull`: its types have no bad codes, and it replies what it was asked.
+/// `ListFull`: its types have no bad codes, and it replies what it was asked. `NotInEighths` comes from
+/// [`Layout::pixels`](crate::Layout::pixels) alone. 7 and 8 are refusals of parts that the library hasn't.
 #[derive(Copy, Clone, Debug, PartialEq, Eq, Hash)]
 #[non_exhaustive]
 pub enum Refusal {
@@ -20,6 +21,8 @@ pub enum Refusal {
     ListFull = 5,
     /// The reply doesn't answer the open question, or the state is none that a run can have
     WrongReply = 6,
+    /// A number isn't a whole eighth of a pixel, or is above 9,999,999 eighths in size
+    NotInEighths = 9,
 }
 
 impl Refusal {
@@ -31,15 +34,23 @@ impl Refusal {
         Refusal::BadCandidate,
         Refusal::ListFull,
         Refusal::WrongReply,
+        Refusal::NotInEighths,
     ];
 
-    /// Its number, 1 to 6
+    /// Its number, 1 to 6 or 9
     pub fn number(self) -> u32 {
         self as u32
     }
     /// The refusal of this number, if there is one
     pub fn from_number(number: u32) -> Option<Refusal> {
         Refusal::ALL.iter().copied().find(|r| r.number() == number)
+    }
+    /// What an entry's result says
+    pub(crate) fn verdict(result: u32) -> Result<(), Refusal> {
+        match result {
+            0 => Ok(()),
+            number => Err(Refusal::from_number(number).expect("an entry answers 0 or one of these")),
+        }
     }
 }
 
@@ -52,6 +63,7 @@ impl fmt::Display for Refusal {
             Refusal::BadCandidate => "bad candidate",
             Refusal::ListFull => "list full",
             Refusal::WrongReply => "wrong reply",
+            Refusal::NotInEighths => "not in eighths",
         })
     }
 }

@@ -166,7 +166,7 @@ impl Run {
     }
     fn open(&mut self, a: &Area, candidates: &[Candidate]) -> Result<(), Refusal> {
         let claims = u32::from(a.claims.absolute) | u32::from(a.claims.fixed) << 1;
-        verdict(ffi::open(
+        Refusal::verdict(ffi::open(
             [a.size.width, a.size.height, a.offset.x, a.offset.y],
             [a.direction as u32, claims, a.overflow.x as u32, a.overflow.y as u32],
             &candidate_words(candidates),
@@ -174,7 +174,7 @@ impl Run {
         ))
     }
     fn reply(&mut self, reply: Reply, surfaced: &[Candidate]) -> Result<(), Refusal> {
-        verdict(ffi::reply(reply, &candidate_words(surfaced), &mut self.lent()))
+        Refusal::verdict(ffi::reply(reply, &candidate_words(surfaced), &mut self.lent()))
     }
     fn answer(&self) -> Answer {
         Answer::from_words(&self.answer).expect("the library answers with a question or a finish")
@@ -199,11 +199,4 @@ impl Run {
 
 fn candidate_words(candidates: &[Candidate]) -> Vec<u32> {
     candidates.iter().flat_map(Candidate::to_words).collect()
-}
-
-fn verdict(result: u32) -> Result<(), Refusal> {
-    match result {
-        0 => Ok(()),
-        number => Err(Refusal::from_number(number).expect("an entry answers 0 to 6")),
-    }
 }

@@ -195,11 +195,14 @@ fn typed_refusals() {
 #[test]
 fn names_and_numbers() {
     let names = ["bad area", "bad extent", "bad style", "bad candidate", "list full", "wrong reply"];
-    for (at, refusal) in Refusal::ALL.iter().copied().enumerate() {
-        assert_eq!((refusal.number(), refusal.to_string()), (at as u32 + 1, names[at].to_string()));
-        assert_eq!(Refusal::from_number(at as u32 + 1), Some(refusal));
+    let named: Vec<_> = (1..).zip(names).chain([(9, "not in eighths")]).collect();
+    let all: Vec<_> = Refusal::ALL.iter().map(|refusal| (refusal.number(), refusal.to_string())).collect();
+    assert_eq!(all, named.iter().map(|&(number, name)| (number, name.to_string())).collect::<Vec<_>>());
+    for number in 0..100 {
+        let refusal = Refusal::ALL.iter().copied().find(|refusal| refusal.number() == number);
+        assert_eq!(Refusal::from_number(number), refusal);
+        assert_eq!(refusal.is_some(), (1..=6).contains(&number) || number == 9);
     }
-    assert_eq!((Refusal::from_number(0), Refusal::from_number(7)), (None, None));
 }
 
 /// All that one call is lent
