@@ -85,39 +85,37 @@ fn after(layout: &[u32; 23], x: f32, y: f32, out: &mut [i32; 4], change: fn(u32)
     PROVED(&other, x, y, out)
 }
 
-/// What the request invites one to write. The comparison is worth nothing if it misses one.
-fn wrong() -> Vec<(&'static str, Entry)> {
-    /// by counts that are all accepted
-    macro_rules! of {
-        ($name:expr, $of:expr) => {
-            ($name, (|layout, x, y, out| over(layout, x, y, out, |c| all(c).map($of))) as Entry)
-        };
-    }
-    /// by any
-    macro_rules! any {
-        ($name:expr, $of:expr) => {
-            ($name, (|layout, x, y, out| over(layout, x, y, out, $of)) as Entry)
-        };
-    }
-    macro_rules! changed {
-        ($name:expr, $change:expr) => {
-            ($name, (|layout, x, y, out| after(layout, x, y, out, $change)) as Entry)
-        };
-    }
+/// A wrong entry by counts that are all accepted
+macro_rules! of {
+    ($name:expr, $of:expr) => {
+        ($name, (|layout, x, y, out| over(layout, x, y, out, |c| all(c).map($of))) as Entry)
+    };
+}
+
+/// By any
+macro_rules! any {
+    ($name:expr, $of:expr) => {
+        ($name, (|layout, x, y, out| over(layout, x, y, out, $of)) as Entry)
+    };
+}
+
+/// The entry, with what it reads changed
+macro_rules! changed {
+    ($name:expr, $change:expr) => {
+        ($name, (|layout, x, y, out| after(layout, x, y, out, $change)) as Entry)
+    };
+}
+
+type Named = (&'static str, Entry);
+
+/// What is rounded, and how
+fn roundings() -> Vec<Named> {
     vec![
         of!("division toward zero", |c| edges(c, |n| (n + 4) / 8)),
         of!("halves away from zero", |c| edges(c, |n| (n.abs() + 4) / 8 * n.signum())),
         of!("halves down", |c| edges(c, |n| (n + 3).div_euclid(8))),
         of!("halves to even", |c| edges(c, |n| (n as f64 / 8.0).round_ties_even() as i64)),
         of!("no rounding", |c| edges(c, |n| n.div_euclid(8))),
-        of!("sums in f32", |c: Counts| {
-            let [x, y, w, h, ox, oy] = c.map(|n| n as f32);
-            [x - ox, x - ox + w, y - oy, y - oy + h].map(|n| pixel(n as i64))
-        }),
-        of!("sums in f32, the size first", |c: Counts| {
-            let [x, y, w, h, ox, oy] = c.map(|n| n as f32);
-            [x - ox, x + w - ox, y - oy, y + h - oy].map(|n| pixel(n as i64))
-        }),
         of!("sizes rounded by themselves", |[x, y, w, h, ox, oy]: Counts| {
             let (left, top) = (pixel(x - ox), pixel(y - oy));
             [left, left + pixel(w), top, top + pixel(h)]
@@ -126,6 +124,20 @@ fn wrong() -> Vec<(&'static str, Entry)> {
             let (a, b) = (pixel(ox), pixel(oy));
             [pixel(x) - a, pixel(x + w) - a, pixel(y) - b, pixel(y + h) - b]
         }),
+    ]
+}
+
+/// What is added
+fn sums() -> Vec<Named> {
+    vec![
+        of!("sums in f32", |c: Counts| {
+            let [x, y, w, h, ox, oy] = c.map(|n| n as f32);
+            [x - ox, x - ox + w, y - oy, y - oy + h].map(|n| pixel(n as i64))
+        }),
+        of!("sums in f32, the size first", |c: Counts| {
+            let [x, y, w, h, ox, oy] = c.map(|n| n as f32);
+            [x - ox, x + w - ox, y - oy, y + h - oy].map(|n| pixel(n as i64))
+        }),
         of!("ends without the offset", |[x, y, w, h, ox, oy]| [
             pixel(x - ox),
             pixel(x + w),
@@ -133,6 +145,13 @@ fn wrong() -> Vec<(&'static str, Entry)> {
             pixel(y + h)
         ]),
         of!("the offset added", |[x, y, w, h, ox, oy]: Counts| edges([x, y, w, h, -ox, -oy], pixel)),
+        of!("a negative size is 0", |[x, y, w, h, ox, oy]: Counts| edges([x, y, w.max(0), h.max(0), ox, oy], pixel)),
+    ]
+}
+
+/// Numbers in another one's place
+fn exchanges() -> Vec<Named> {
+    vec![
         of!("top from x", |[x, _, w, h, ox, oy]| edges([x, x, w, h, ox, oy], pixel)),
         of!("width for height", |[x, y, w, _, ox, oy]| edges([x, y, w, w, ox, oy], pixel)),
         of!("left, top, right, bottom", |c| {
@@ -143,7 +162,12 @@ fn wrong() -> Vec<(&'static str, Entry)> {
             let [left, right, top, bottom] = edges(c, pixel);
             [left, right - left, top, bottom - top]
         }),
-        of!("a negative size is 0", |[x, y, w, h, ox, oy]: Counts| edges([x, y, w.max(0), h.max(0), ox, oy], pixel)),
+    ]
+}
+
+/// What is accepted
+fn tests() -> Vec<Named> {
+    vec![
         any!("a negative size is refused", |c| { all(c).filter(|c| c[2] >= 0 && c[3] >= 0).map(|c| edges(c, pixel)) }),
         any!("9,999,999 eighths are refused", |c| {
             all(c).filter(|c| c.iter().all(|n| n.abs() < LARGEST)).map(|c| edges(c, pixel))
@@ -159,6 +183,12 @@ fn wrong() -> Vec<(&'static str, Entry)> {
         }),
         changed!("10,000,000 eighths are accepted", |w| if w == bits(LARGEST + 1) { bits(LARGEST) } else { w }),
         changed!("sixteenths are rounded", |w| ((f32::from_bits(w) * 8.0).round() / 8.0).to_bits()),
+    ]
+}
+
+/// What else a call may do
+fn calls() -> Vec<Named> {
+    vec![
         ("another refusal", |layout, x, y, out| PROVED(layout, x, y, out).min(8)),
         ("padding is read", |layout, x, y, out| {
             let good = count(layout[11]).is_some();
@@ -174,6 +204,11 @@ fn wrong() -> Vec<(&'static str, Entry)> {
             result
         }),
     ]
+}
+
+/// What the request invites one to write. The comparison is worth nothing if it misses one.
+fn wrong() -> Vec<Named> {
+    [roundings(), sums(), exchanges(), tests(), calls()].concat()
 }
 
 // ---- the comparison

@@ -258,8 +258,8 @@ static int refused_by_name(panel *p)
 
 int main(void)
 {
-    panel e = english(), a = arabic(), there = note(OOF_DIRECTION_LTR), here = note(OOF_DIRECTION_RTL);
-    panel *all[4] = {&e, &a, &there, &here};
+    panel e = english(), a = arabic(), note_e = note(OOF_DIRECTION_LTR), note_a = note(OOF_DIRECTION_RTL);
+    panel *all[4] = {&e, &a, &note_e, &note_a};
     for (int k = 0; k < 4; k++) {
         uint32_t result = place(all[k]);
         if (result != OOF_ACCEPTED) {
@@ -269,7 +269,7 @@ int main(void)
     }
     print_both(&e, &a);
     print_pixels("  pixels", &e, &a);
-    print_pixels("note, pixels", &there, &here);
+    print_pixels("note, pixels", &note_e, &note_a);
     float x = layout(&e, OOF_LAYOUT_X), image = layout(&a, OOF_LAYOUT_X), width = layout(&e, OOF_LAYOUT_WIDTH);
     int mirrored = x + image + width == 2 * panel_x + panel_width;
     printf("%g + %g + %g is %g: %s\n", x, image, width, x + image + width, mirrored ? "mirrored" : "NOT MIRRORED");

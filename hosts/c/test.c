@@ -201,6 +201,38 @@ static void centered(void)
     MUST(oof_pixels(w.layouts, w.x, w.y, edges) == OOF_ACCEPTED && edges[OOF_PIXEL_LEFT] == 350 && edges[OOF_PIXEL_RIGHT] == 450);
 }
 
+/* what the header asks for a run without such a box is needed: runs of whole quarter pixels but for one thing */
+static void not_quarters(void)
+{
+    const float sixteenth = 0.0625f;
+    int32_t edges[OOF_PIXEL_EDGES];
+    words plain = box_at(0, 0, 0, 0), w;
+    oof_set_length(plain.styles, OOF_STYLE_WIDTH, OOF_TAG_PX, 120);
+    oof_set_length(plain.styles, OOF_STYLE_HEIGHT, OOF_TAG_PX, 18);
+    w = plain;
+    MUST(opened(&w) == OOF_ACCEPTED && laid_out(&w, w.candidates, 0) == OOF_ACCEPTED && w.answer[OOF_ANSWER_KIND] == OOF_FINISH);
+    MUST(oof_pixels(w.layouts, 0, 0, edges) == OOF_ACCEPTED);
+
+    w = plain; /* a measured height */
+    oof_set_length(w.styles, OOF_STYLE_HEIGHT, OOF_TAG_MIN_CONTENT, 0);
+    MUST(opened(&w) == OOF_ACCEPTED && w.answer[OOF_ANSWER_KIND] == OOF_MEASURE_HEIGHT);
+    MUST(oof_reply_height(sixteenth, LENT(&w)) == OOF_ACCEPTED && laid_out(&w, w.candidates, 0) == OOF_ACCEPTED);
+    MUST(oof_pixels(w.layouts, 0, 0, edges) == OOF_NOT_IN_EIGHTHS);
+
+    w = plain; /* a box that is surfaced and claimed */
+    uint32_t surfaced[OOF_CANDIDATE_WORDS];
+    memcpy(surfaced, w.candidates, sizeof surfaced);
+    surfaced[OOF_CANDIDATE_X_START] = surfaced[OOF_CANDIDATE_X_END] = oof_word(sixteenth);
+    MUST(opened(&w) == OOF_ACCEPTED && laid_out(&w, surfaced, OOF_CANDIDATE_WORDS) == OOF_ACCEPTED);
+    MUST(w.answer[OOF_ANSWER_KIND] == OOF_LAY_OUT && laid_out(&w, surfaced, 0) == OOF_ACCEPTED);
+    MUST(oof_pixels(w.layouts, 0, 0, edges) == OOF_NOT_IN_EIGHTHS);
+
+    w = plain; /* a box that isn't laid out yet: its words are the host's */
+    memset(w.layouts, 0xFF, sizeof w.layouts);
+    MUST(opened(&w) == OOF_ACCEPTED && w.answer[OOF_ANSWER_KIND] == OOF_LAY_OUT);
+    MUST(oof_pixels(w.layouts, 0, 0, edges) == OOF_NOT_IN_EIGHTHS);
+}
+
 int main(void)
 {
     offsets();
@@ -208,6 +240,7 @@ int main(void)
     refused_replies();
     whole_pixels();
     centered();
+    not_quarters();
     printf("hosts/c: %d tests passed\n", tried);
     return EXIT_SUCCESS;
 }

@@ -89,7 +89,7 @@ pixels-demands layout offset c =
         λ e. inl (exactly q .0 e .1, ap numberOf (exactly q .0 e .0)),
         elim [ inl k ↦ exactly q .1 (numbers-differ q NotInEighths (k .1), k .0) | inr k ↦ absurd (k .1) ],
       );
-      answered = edges-or-none layout offset (pixelEdges layout offset) exactly;
+      accepted = edges-or-none layout offset (pixelEdges layout offset) exactly;
     })
 
 pub screen-demands : (text : List ℕ) {r : ℕ} {before after : List ℕ} → Prints r before after (printed text) → ScreenDemands text r before after

@@ -1,6 +1,7 @@
 -- The three demands, of every entry. Refusals 1 to 6 are those of `open` and `reply`, 7 of `from_alignment`, 8 of the program, 9 of
--- `pixel_edges`; of the C entries in demands_c/specs. No entry asks anything of its caller, and a proved function ends, without a panic: so
--- each of these holds for any bits in any number and slices of any length. `proofs/Demands.antt` proves each, under its name in small letters.
+-- `pixel_edges`. The demands of the C entries stand in demands_c/specs. No entry asks anything of its caller, and a proved function ends,
+-- without a panic: so each of these holds for any bits in any number and slices of any length. `proofs/Demands.antt` proves each, under its
+-- name in small letters.
 -- What document 01 leaves free is fixed by the definition all the same: what is asked and written where words were rewritten between calls or
 -- a state was forged (oof_box/specs/Cut.antt), and the numbers of a refused opening's state, which are zeros.
 -- Assumes nothing.
@@ -55,7 +56,7 @@ use Rattle.demands.specs.Entries.{Opens, RepliesTo, AnyCalls, Takes, Run
 -- ---- Demand 1. "Whoever calls an entry, with any bits in any number and slices of any length, gets its answer (in a run, a question or
 -- finish) or one of document 01's refusals 1 to 8, each exactly under its stated condition. A refusal writes no lent word and returns the
 -- state as it came." The conditions, in document 01's words and order, stand in run/specs/Conditions.antt. By request #101
--- they are 1 to 9; its condition stands in pixels/specs/Conditions.antt.
+-- the refusals are 1 to 9, and each later number joins them; the condition of 9 stands in pixels/specs/Conditions.antt.
 
 -- an opening. It has no state that came: refused, it returns that of a finished run with all counts 0
 pub record OpeningDemands (o : Opening) (candidates : List ℕ) (lent : Lent) (has : Outcome) : Type 0 where
@@ -93,7 +94,7 @@ pub record AlignmentDemands (a : AlignItems) (area : Line) (rtl : Bool) (r : Ali
 pub record PixelsDemands (layout : Layout) (offset : Point) (r : Pixels) : Type 0 where
   pub call : r ≡ pixelEdges layout offset
   pub refused : (q : Refusal) → (r ≡ pixels.Refused q) ↔ FirstIs (pixelTests layout offset) (numberOf q)
-  pub answered : ((edges : PixelRect) × (r ≡ Edges edges)) ↔ NoneHolds (pixelTests layout offset)
+  pub accepted : ((edges : PixelRect) × (r ≡ Edges edges)) ↔ NoneHolds (pixelTests layout offset)
 
 -- the program: 8, then 1, 3 and 4 of the run that the screen scripts. It prints the refusal's line, or a list
 pub record ScreenDemands (text : List ℕ) (r : ℕ) (before after : List ℕ) : Type 0 where

@@ -1,5 +1,5 @@
 -- Demands 1 and 2 of the C entries. Assumes nothing.
-use Prim.Native.Nat.{ℕ, _+_}
+use Prim.Native.Nat.{ℕ, _+_, _<_}
 use native.Mathlib.Omega.{arith}
 use mathlib.Core.Bool.{Bool, true, false, cond, not, _&&_}
 use mathlib.Core.List.{List, [], _∷_, _++_, foldl, foldl-append}
@@ -30,7 +30,7 @@ use Rattle.run.specs.Call.{Lent, Outcome, outcome}
 use Rattle.run.specs.Conditions.{FirstIs, NoneHolds, openingTests, replyTests}
 use Rattle.run.specs.Run.{closed, begun, opened, replied}
 use Rattle.run.specs.Straight.{Course, ended, asks}
-use Rattle.run.specs.Theorems.{isRefused, oneIfAsked, Heard, Loan, own, other, Turn, turned, next, nextWith, AllLend, Stands, saidAfter, openIn, called, heededIn, courseOf}
+use Rattle.run.specs.Theorems.{isRefused, oneIfAsked, Heard, Loan, own, other, Turn, turned, next, nextWith, AllLend, Stands, saidAfter, openIn, called, heededIn, courseOf, laidCount}
 use Rattle.run.specs.Theorems as run
 use Rattle.run.specs.declared.Answer.{Answer}
 use Rattle.run.specs.declared.Answer.the-variants.{Ask, Finish, Refused}
@@ -51,8 +51,9 @@ use Rattle.oof_c_words.specs.PixelWords.{pixelsInWords}
 use Rattle.oof_c_words.specs.Laws.{FitsReply}
 use Rattle.oof_c_words.proofs.Laws.{accepted-is-zero, refused-is-not, refused-opening-closes, refused-reply-writes-nothing}
 use Rattle.oof_c_words.proofs.Kept.{opening-is-kept, reply-is-kept}
+use Rattle.pixels_laws.proofs.Run.{run-has-edges}
 use Rattle.demands_c.specs.Calls.{Opens, RepliesTo, FitsOpening, askedFor, AnyCalls, Takes, Lends, Run}
-use Rattle.demands_c.specs.Demands.{OpeningDemands, ReplyDemands, PixelsDemands, ThreeQuestionsEach, StandsInWords, EqualsStraightRun}
+use Rattle.demands_c.specs.Demands.{OpeningDemands, ReplyDemands, PixelsDemands, ThreeQuestionsEach, StandsInWords, EqualsStraightRun, QuartersHaveEdges}
 
 -- ---- the result is the number of the first condition that holds
 
@@ -453,3 +454,12 @@ module _ (o : Opening) (candidates styles : List ℕ) (before : Words) where
 pub equals-straight-run : EqualsStraightRun
 equals-straight-run o candidates styles before turns has calls =
     in-words o candidates styles before turns (ran o candidates styles before calls)
+
+-- ---- whole quarter pixels
+
+pub quarters-have-edges : QuartersHaveEdges
+unfolding pixelsInWords edgesTold
+quarters-have-edges o candidates styles before turns has area table quarter calls heard i h edges =
+    let r = ran o candidates styles before calls in
+    let e = run-has-edges o candidates (lentIn styles before) turns area table quarter (r .accepted) (r .lent) heard i (subst (λ (s : State). i < laidCount (s .progress) (s .counts .begun)) (r .now .state) h) in
+    rw (r .now .layouts, r .now .working, e .1) refl

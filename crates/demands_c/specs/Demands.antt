@@ -1,13 +1,15 @@
 -- Demands 1 and 2, of the C entries. No entry asks anything of its caller, so each contract, and with it each of these, holds for any bits
 -- in any number and slices of any length. `proofs/Demands.antt` proves each, under its name in small letters. Assumes nothing.
-use Prim.Native.Nat.{ℕ, _≤_}
+use Prim.Native.Nat.{ℕ, _≤_, _<_}
 use mathlib.Core.List.{List, [], _∷_}
 use mathlib.Core.Logic.{_≢_, _↔_}
 use mathlib.Core.Path.{_≡_}
 use lib.IntN.{ℤ}
 use lib.ListN.{length}
 use Rattle.geometry.specs.declared.Point.{Point}
-use Rattle.tree_record.specs.Layout.{layoutOf}
+use Rattle.records.specs.Records.{recordAt}
+use Rattle.tree_record.specs.Candidate.{candidateWidth, candidateOf}
+use Rattle.tree_record.specs.Layout.{layoutWidth, layoutOf}
 use Rattle.pixels.specs.Conditions.{pixelTests}
 use Rattle.pixels.specs.Pixels.{pixelEdges}
 use Rattle.pixels.specs.declared.PixelRect.{PixelRect}
@@ -15,10 +17,13 @@ use Rattle.pixels.specs.declared.Pixels.the-variants.{Edges}
 use Rattle.oof_box.specs.declared.question.Reply.{Reply}
 use Rattle.run.specs.Call.{Lent, outcome}
 use Rattle.run.specs.Conditions.{FirstIs, NoneHolds, openingTests, replyTests}
-use Rattle.run.specs.Run.{closed}
+use Rattle.run.specs.Run.{closed, claimsOf}
 use Rattle.run.specs.Straight.{Course}
-use Rattle.run.specs.Theorems.{Turn, Stands, saidAfter, heededIn, courseOf}
+use Rattle.run.specs.Theorems.{Turn, Stands, saidAfter, heededIn, courseOf, laidCount}
 use Rattle.run.specs.declared.Opening.{Opening}
+use Rattle.mirror_run.specs.Quarter.{QuarterTable, QuarterCandidates}
+use Rattle.pixels_laws.specs.Quarter.{AreaInQuarters}
+use Rattle.pixels_laws.specs.Laws.{All, QuarterHeard}
 use Rattle.oof_c_words.specs.StateWords.{at, stateOf, stateWords}
 use Rattle.oof_c_words.specs.Entry.{Words, words, Returned, lentIn, answerLeft}
 use Rattle.pixels.specs.Told.{PixelsReturned}
@@ -77,8 +82,25 @@ EqualsStraightRun =
     → Run o candidates styles before turns has
     → StandsInWords (lentIn styles before) (length (heededIn o candidates (lentIn styles before) turns)) has (courseOf o candidates (lentIn styles before) turns)
 
+-- ---- Beyond the demands: of whole quarter pixels no box meets refusal 9 (pixels_laws/specs)
+
+-- the layout's words of box i, record i of the working list: they stand at its node's place
+abbrev pub wordsOfBox : Words → ℕ → List ℕ
+wordsOfBox w i = recordAt layoutWidth (w .layouts) (candidateOf (recordAt candidateWidth (w .working) i) .node)
+
+abbrev pub QuartersHaveEdges : Type 0
+QuartersHaveEdges =
+    (o : Opening) (candidates styles : List ℕ) (before : Words) (turns : List Turn) (has : Returned)
+    → AreaInQuarters (o .area) → QuarterTable styles → QuarterCandidates candidates
+    → Run o candidates styles before turns has
+    → All (QuarterHeard (claimsOf o)) (heededIn o candidates (lentIn styles before) turns)
+    → let state = stateOf (has .words .state) in
+    (i : ℕ) → i < laidCount (state .progress) (state .counts .begun)
+    → (before : List ℤ) → pixelsInWords (wordsOfBox (has .words) i) (o .area .offset) before .result ≡ 0
+
 -- ---- What is demanded of runs: the function `demanded` of src/lib.rt ensures these, so that a crate without a proof of each is not proved.
 
 pub record Demanded : Type 0 where
   pub three-questions-each : ThreeQuestionsEach
   pub equals-straight-run : EqualsStraightRun
+  pub quarters-have-edges : QuartersHaveEdges

@@ -5,9 +5,11 @@ use mathlib.Core.Bool.{Bool, true, false, cond, _&&_}
 use mathlib.Core.List.{List, [], _∷_}
 use mathlib.Core.Logic.{_↔_, _⊎_, inl, inr, Iff·trans}
 use mathlib.Core.Path.{_≡_, refl, sym, ap, _∙_}
-use lib.IntN.{ℤ, pos, negℤ, _+ℤ_, _-ℤ_, _*ℤ_, +ℤ-assoc, +ℤ-comm}
+use lib.IntN.{ℤ, pos, negℤ, _+ℤ_, _-ℤ_, _*ℤ_, +ℤ-assoc, +ℤ-comm, +ℤ-negℤ-cancel}
 use lib.Signed.{_≤ℤ_}
-use lib.Ieee.{Float}
+use lib.Ieee.{Float, eq}
+use Rattle.util.specs.Number.{_⊕_}
+use Rattle.util.proofs.Floats.{no}
 use Rattle.geometry.specs.declared.Point.{Point}
 use Rattle.refusal.specs.declared.Refusal.{Refusal}
 use Rattle.refusal.specs.declared.Refusal.the-variants.{NotInEighths}
@@ -18,15 +20,12 @@ use Rattle.pixels.specs.declared.Pixels.the-variants.{Edges, Refused}
 use Rattle.pixels.specs.Accepted.{accepted, inEighths}
 use Rattle.pixels.specs.Pixels.{pixelOf, lineOf, edgesOf, allAccepted, numbersRead, pixelEdges}
 use Rattle.pixels.specs.Conditions.{IsInEighths, NotAllInEighths}
-use Rattle.pixels.specs.Laws.{RefusedExactly, OnlySixAreRead, EdgesAreExact, TouchingStays, TouchingByFloatsStays, Near, SizesAreNear, EdgesInOrder, Small, EdgesAreSmall}
+use Rattle.pixels.specs.Laws.{RefusedExactly, OnlySixAreRead, EdgesAreExact, OffsetDropsOut, TouchingStays, TouchingByFloatsStays, Near, SizesAreNear, EdgesInOrder, Small, EdgesAreSmall}
 use Rattle.pixels.proofs.Pairs.{add-is, neg-is, times-is, le-from, le-to, lt-to}
 use Rattle.pixels.proofs.Held.{Within, start-within, end-within}
 use Rattle.pixels.proofs.Laws.{pixel-is, order-is-kept}
 use Rattle.pixels.proofs.Numbers.{accepted-exactly}
 use Rattle.pixels.proofs.Sums.{accepted-sum-is-exact}
-
-apart : false ≡ true → ⊥
-apart z = let n : _≡_ {A = ℕ} 0 1 = cc in omega arith
 
 -- ---- what is answered, by the test
 
@@ -44,12 +43,12 @@ OneIsNot (x ∷ xs) = (¬ IsInEighths x) ⊎ OneIsNot xs
 
 not-all : (xs : List Float) → (allAccepted xs ≡ false) ↔ OneIsNot xs
 unfolding allAccepted
-not-all [] = (λ e. absurd (apart (sym e)), λ z. absurd z)
+not-all [] = (λ e. no refl e, λ z. absurd z)
 not-all (x ∷ xs) = go (accepted x) refl (allAccepted xs) (not-all xs)
   where
     go : (b : Bool) → accepted x ≡ b → (c : Bool) → (c ≡ false) ↔ OneIsNot xs → ((b && c) ≡ false) ↔ OneIsNot (x ∷ xs)
     go true e c i = (λ z. inr (i .0 z), elim [ inl n ↦ absurd (n (accepted-exactly x .0 e)) | inr o ↦ i .1 o ])
-    go false e c i = (λ z. inl (λ n. apart (sym e ∙ accepted-exactly x .1 n)), λ z. refl)
+    go false e c i = (λ z. inl (λ n. no (accepted-exactly x .1 n) e), λ z. refl)
 
 -- the six, one by one
 the-six : (l : Layout) (o : Point) → OneIsNot (numbersRead (l .location) (l .size) o) ↔ NotAllInEighths l o
@@ -79,7 +78,7 @@ refused-exactly l o r =
   where
     go : (b : Bool) → (b ≡ false) ↔ NotAllInEighths l o
         → (cond b (Edges (edgesOf (l .location) (l .size) o)) (Refused NotInEighths) ≡ Refused r) ↔ ((r ≡ NotInEighths) × NotAllInEighths l o)
-    go true i = (λ e. absurd (apart (ap isRefused e)), λ k. absurd (apart (sym (i .1 (k .1)))))
+    go true i = (λ e. no (ap isRefused e) refl, λ k. no refl (i .1 (k .1)))
     go false i = (λ e. (sym (ap refusalOf e), i .0 refl), λ k. ap Refused (sym (k .0)))
 
 pub only-six-are-read : OnlySixAreRead
@@ -94,13 +93,15 @@ rectIn p (Refused r) = p
 
 and-is : (a b : Bool) → (a && b) ≡ true → (a ≡ true) × (b ≡ true)
 and-is true b e = (refl, e)
-and-is false b e = absurd (apart e)
+and-is false b e = no e refl
 
 record Given (l : Layout) (o : Point) (p : PixelRect) : Type 0 where
   x : accepted (l .location .x) ≡ true
   y : accepted (l .location .y) ≡ true
   width : accepted (l .size .width) ≡ true
   height : accepted (l .size .height) ≡ true
+  offsetX : accepted (o .x) ≡ true
+  offsetY : accepted (o .y) ≡ true
   edges : p ≡ edgesOf (l .location) (l .size) o
 
 given : (l : Layout) (o : Point) (p : PixelRect) → pixelEdges l o ≡ Edges p → Given l o p
@@ -110,13 +111,15 @@ given l o p = go (allAccepted (numbersRead (l .location) (l .size) o)) refl
     go : (b : Bool) → allAccepted (numbersRead (l .location) (l .size) o) ≡ b
         → cond b (Edges (edgesOf (l .location) (l .size) o)) (Refused NotInEighths) ≡ Edges p
         → Given l o p
-    go false t e = absurd (apart (sym (ap isRefused e)))
+    go false t e = no refl (ap isRefused e)
     go true t e =
         let x = and-is (accepted (l .location .x)) _ t in
         let y = and-is (accepted (l .location .y)) _ (x .1) in
         let w = and-is (accepted (l .size .width)) _ (y .1) in
         let h = and-is (accepted (l .size .height)) _ (w .1) in
-        record { x = x .0; y = y .0; width = w .0; height = h .0; edges = sym (ap (rectIn p) e) }
+        let a = and-is (accepted (o .x)) _ (h .1) in
+        let b = and-is (accepted (o .y)) _ (a .1) in
+        record { x = x .0; y = y .0; width = w .0; height = h .0; offsetX = a .0; offsetY = b .0; edges = sym (ap (rectIn p) e) }
 
 -- less the offset, then the size, or the size first
 turned : (a o s : ℤ) → a -ℤ o +ℤ s ≡ a +ℤ s -ℤ o
@@ -132,6 +135,20 @@ edges-are-exact l o p e =
       top = refl;
       bottom = ap pixelOf (turned (inEighths (l .location .y)) (inEighths (o .y)) (inEighths (l .size .height)));
     })
+
+-- what is added in floats is taken off in integers
+dropped : (begin offset at : Float) → accepted begin ≡ true → accepted offset ≡ true → accepted at ≡ true → eq (begin ⊕ offset) at ≡ true
+    → inEighths at -ℤ inEighths offset ≡ inEighths begin
+dropped begin offset at a b c e =
+    ap (λ (z : ℤ). z -ℤ inEighths offset) (sym (accepted-sum-is-exact begin offset at a b c e)) ∙ +ℤ-negℤ-cancel (inEighths begin) (inEighths offset)
+
+pub offset-drops-out : OffsetDropsOut
+offset-drops-out l o p e begin b =
+    let g = given l o p e in
+    let s = edges-are-exact l o p e in (
+      λ k. s .left ∙ ap pixelOf (dropped _ _ _ b (g .offsetX) (g .x) k),
+      λ k. s .top ∙ ap pixelOf (dropped _ _ _ b (g .offsetY) (g .y) k),
+    )
 
 pub touching-stays : TouchingStays
 touching-stays a b o p q e f =

@@ -4,7 +4,7 @@ use native.Mathlib.Omega.{arith}
 use native.Mathlib.Nat.{zero-add}
 use mathlib.Core.Path.{_≡_, refl, sym, ap, _∙_}
 use mathlib.Core.Bool.{Bool, true, false}
-use lib.IntN.{ℤ, pos, negsuc, negℤ, _+ℤ_, _-ℤ_}
+use lib.IntN.{ℤ, pos, negsuc, negℤ, natAbs, _+ℤ_, _-ℤ_}
 use lib.Signed.{mag, leZ, quotZ}
 use lib.Dec.{lit<, lit≤}
 use lib.Ieee.{Float}
@@ -15,14 +15,12 @@ use borrow.Author.Tests.{lt-ltb, le-ltb, le-leb}
 use Rattle.util.specs.declared.eighths.Count.{Count}
 use Rattle.util.specs.declared.eighths.Count.the-variants.{NotWhole, Whole}
 use Rattle.util.specs.Eighths.{countOf}
+use Rattle.util.proofs.Floats.{no}
 use Rattle.util.proofs.Laws.{count-is-small}
 use Rattle.pixels.specs.declared.PixelLine.{PixelLine}
 use Rattle.pixels.specs.Accepted.{signed, integerOf, inEighths}
 use Rattle.pixels.specs.Pixels.{floor, pixelOf, lineOf}
 use Rattle.pixels.proofs.Pairs.{up, off, add-is, neg-is}
-
-apart : false ≡ true → ⊥
-apart z = let n : _≡_ {A = ℕ} 0 1 = cc in omega arith
 
 -- what is held is the number
 pub back : (z : ℤ) → SFits w64 z → toZ w64 (ofZ w64 z) ≡ z
@@ -48,15 +46,15 @@ eighth-fits : (n : ℕ) → n < 2 ^ 63 → n / 8 < 2 ^ 63
 eighth-fits n h = omega arith
 
 not-below : (n : ℕ) → leZ (pos 0) (pos n) ≡ false → ⊥
-not-below n t = apart (sym t ∙ le-leb 0 n (omega arith))
+not-below n t = no (le-leb 0 n (omega arith)) t
 
 pub up-fits : (z : ℤ) → SFits w64 z → leZ (pos 0) z ≡ true → (0 < 8) × SFits w64 (quotZ z (pos 8))
 up-fits (pos n) f t = (lit< tt, sfits (pos (n / 8)) (eighth-fits n (f .sfits)))
-up-fits (negsuc n) f t = absurd (apart t)
+up-fits (negsuc n) f t = no t refl
 
 pub up-is : (z : ℤ) → leZ (pos 0) z ≡ true → quotZ z (pos 8) ≡ floor z 8
 up-is (pos n) t = refl
-up-is (negsuc n) t = absurd (apart t)
+up-is (negsuc n) t = no t refl
 
 pub turn-fits : (z : ℤ) → SFits w64 z → leZ (pos 0) z ≡ false → SFits w64 (negsuc 0 -ℤ z)
 turn-fits (pos n) f t = absurd (not-below n t)
@@ -79,9 +77,17 @@ down-is (negsuc n) t = rw (over n, under (n / 8)) refl
 abbrev pub Within : ℕ → ℤ → Type 0
 Within b z = (up z ≤ b) × (off z ≤ b)
 
-pub within-mag : (b : ℕ) (z : ℤ) → Within b z → mag z ≤ b
+within-mag : (b : ℕ) (z : ℤ) → Within b z → mag z ≤ b
 within-mag b (pos n) h = h .0
 within-mag b (negsuc n) h = let k = h .1 in omega arith
+
+pub within-abs : (b : ℕ) (z : ℤ) → Within b z → natAbs z ≤ b
+within-abs b (pos n) h = h .0
+within-abs b (negsuc n) h = h .1
+
+abs-within : (b : ℕ) (z : ℤ) → natAbs z ≤ b → Within b z
+abs-within b (pos n) h = (h, omega arith)
+abs-within b (negsuc n) h = (omega arith, h)
 
 within-fits : (z : ℤ) → Within 30000001 z → SFits w64 z
 within-fits z h = let m = within-mag 30000001 z h in sfits z (omega arith)
@@ -93,17 +99,9 @@ pub less-within : (x y : ℤ) (b c : ℕ) → Within b x → Within c y → With
 less-within x y b c h k = let n = neg-is y in plus-within x (negℤ y) b c h (rw (n .0) (k .1), rw (n .1) (k .0))
 
 -- a pixel: an i32 holds it
-mag-within : (n : ℤ) → mag n ≤ 29999997 → Within 29999998 n
-mag-within (pos n) h = (omega arith, omega arith)
-mag-within (negsuc n) h = (omega arith, omega arith)
-
-module _ (n : ℤ) (h : mag n ≤ 29999997) where
+module _ (n : ℤ) (h : natAbs n ≤ 29999997) where
   four-within : Within 30000001 (n +ℤ pos 4)
-  four-within = let s = add-is n (pos 4) in let k = mag-within n h in (go n h (s .1), omega arith)
-    where
-      go : (n : ℤ) → mag n ≤ 29999997 → up (n +ℤ pos 4) ≤ up n + 4 → up (n +ℤ pos 4) ≤ 30000001
-      go (pos n) h s = omega arith
-      go (negsuc n) h s = omega arith
+  four-within = plus-within n (pos 4) 29999997 4 (abs-within 29999997 n h) (lit≤ tt, lit≤ tt)
 
   pub four-fits : SFits w64 (n +ℤ pos 4)
   four-fits = within-fits (n +ℤ pos 4) four-within
@@ -197,7 +195,7 @@ line-is-sums at size offset = refl
 -- ---- an i32 holds the edges
 
 pub held-pixel : (n : ℤ) → Within 29999997 n → toZ w32 (ofZ w32 (pixelOf n)) ≡ pixelOf n
-held-pixel n h = rw (pixel-is-floor n) (toZ-ofZ (pixel-fits n (within-mag 29999997 n h)))
+held-pixel n h = rw (pixel-is-floor n) (toZ-ofZ (pixel-fits n (within-abs 29999997 n h)))
 
 module _ (at size offset : Float) (l : PixelLine) (e : l ≡ lineOf at size offset) where
   pub held-start : toZ w32 (ofZ w32 (l .start)) ≡ l .start

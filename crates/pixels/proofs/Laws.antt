@@ -1,4 +1,4 @@
--- The laws of `specs/Laws.antt`: of the floor, the pixel and the edges. Assumes nothing.
+-- The laws of `specs/Laws.antt` on the floor and the pixel. Assumes nothing.
 use Prim.Native.Nat.{ℕ, suc, _+_, _-_, _*_, _/_, _%_, _≤_, _<_}
 use native.Mathlib.Omega.{arith}
 use native.Mathlib.Nat.{div-add-mod, mod-lt, mul-zero, mul-suc}

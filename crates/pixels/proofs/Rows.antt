@@ -12,8 +12,8 @@ pixel-rows = (refl, refl, refl, refl, refl, refl, refl, refl)
 
 pub line-rows : LineRows
 unfolding lineOf pixelOf inEighths countOf counted ofBits
-line-rows = (refl, refl, refl, refl, refl, refl, refl, refl, refl)
+line-rows = (refl, refl, refl, refl, refl, refl, refl, refl, refl, refl)
 
 pub edge-rows : EdgeRows
 unfolding pixelEdges allAccepted edgesOf lineOf pixelOf accepted inEighths countOf counted ofBits
-edge-rows = (refl, refl, refl, refl, refl, refl, refl, refl, refl)
+edge-rows = (refl, refl, refl, refl, refl, refl, refl, refl, refl, refl)

@@ -27,6 +27,7 @@ NotAllInEighths layout offset =
     ⊎ (¬ IsInEighths (offset .x))
     ⊎ (¬ IsInEighths (offset .y))
 
--- what is tested, by its number, as openingTests of run/specs/Conditions.antt
+-- what is tested, by its number, as openingTests of run/specs/Conditions.antt. 9 "is tested after 1 to 7": of those none can hold here, where
+-- no code, slice, style, candidate, reply or alignment is taken, so that 9 stands alone
 abbrev pub pixelTests : Layout → Point → List (ℕ × Type 0)
 pixelTests layout offset = (9, NotAllInEighths layout offset) ∷ []

@@ -76,6 +76,15 @@ pub record AtExactEdges (l : Layout) (o : Point) (p : PixelRect) : Type 0 where
 abbrev pub EdgesAreExact : Type 0
 EdgesAreExact = (l : Layout) (o : Point) (p : PixelRect) → pixelEdges l o ≡ Edges p → AtExactEdges l o p
 
+-- "relative to the area": a run writes as x where the box begins in its area plus the area's offset (oof_place/specs/Placing.antt), and the
+-- offset drops out
+abbrev pub OffsetDropsOut : Type 0
+OffsetDropsOut =
+    (l : Layout) (o : Point) (p : PixelRect) → pixelEdges l o ≡ Edges p
+    → (begin : Float) → accepted begin ≡ true
+    → (eq (begin ⊕ o .x) (l .location .x) ≡ true → p .left ≡ pixelOf (inEighths begin))
+    × (eq (begin ⊕ o .y) (l .location .y) ≡ true → p .top ≡ pixelOf (inEighths begin))
+
 -- "Two boxes whose edges touch before still touch after": in one area, where the one ends exactly where the other begins
 abbrev pub TouchingStays : Type 0
 TouchingStays =

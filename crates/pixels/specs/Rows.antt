@@ -43,10 +43,12 @@ LineRows =
     × Row 0 0xBF80_0000 0 (pos 0) (negℤ (pos 1))
     -- the far end: 9,999,999e and as wide, less -9,999,999e
     × Row 0x4998_967F 0x4998_967F 0xC998_967F (pos 2500000) (pos 3750000)
-    -- and the near end
+    -- and the far end below zero
     × Row 0xC998_967F 0xC998_967F 0x4998_967F (negℤ (pos 2500000)) (negℤ (pos 3750000))
     -- both edges are relative to the area: 9e to 17e in an area at 9e
     × Row 0x3F90_0000 0x3F80_0000 0x3F90_0000 (pos 0) (pos 1)
+    -- the offset isn't rounded by itself: 3e to 11e in an area at -1e, where 0 to 1 less 0 would be 0 to 1
+    × Row 0x3EC0_0000 0x3F80_0000 0xBE00_0000 (pos 1) (pos 2)
     -- 4e to 12e in an area 16e wide is its own mirror image; 1 and 2 mirrored in 2 pixels would be 0 and 1. A half goes to the right in an
     -- Arabic panel too
     × Row 0x3F00_0000 0x3F80_0000 0 (pos 1) (pos 2)
@@ -73,6 +75,8 @@ abbrev pub EdgeRows : Type 0
 EdgeRows =
     -- all four differ: x 8e, y 24e, 32e wide, 80e high, the area at 0e and 8e
     (pixelEdges (box 0x3F80_0000 0x4040_0000 0x4080_0000 0x4120_0000 0) (point 0 0x3F80_0000) ≡ Edges (record { left = pos 1; right = pos 5; top = pos 2; bottom = pos 12 }))
+    -- numbers below zero and at the limit: x -13e, 9,999,999e wide, the area at 3e; y 24e, -16e high, the area at -9,999,999e
+    × (pixelEdges (box 0xBFD0_0000 0x4040_0000 0x4998_967F 0xC000_0000 0) (point 0x3EC0_0000 0xC998_967F) ≡ Edges (record { left = negℤ (pos 2); right = pos 1249998; top = pos 1250003; bottom = pos 1250001 }))
     -- what isn't read may be NaN
     × (pixelEdges (box 0x3F80_0000 0 0x3F80_0000 0x3F80_0000 0x7FC0_0000) (point 0 0) ≡ Edges (record { left = pos 1; right = pos 2; top = pos 0; bottom = pos 1 }))
     -- -0 is 0

@@ -1,7 +1,7 @@
 // Whole pixels (request #101): the pixel edges of a box, from its layout and the area's offset. 1.0 of a layout is one pixel.
 ghost use mathlib.Core.Path.{_≡_};
 ghost use Prim.Native.Nat.{_≤_};
-ghost use lib.Signed.{mag};
+ghost use lib.IntN.{natAbs};
 ghost use Rattle.pixels.specs.Accepted.{signed, accepted, inEighths};
 ghost use Rattle.pixels.specs.Pixels.{floor, pixelOf, lineOf, numbersRead, allAccepted, pixelEdges};
 use geometry::Point;
@@ -75,9 +75,9 @@ pub fn floor8(m: i64) -> i64
     -1 - (-1 - m) / 8
 }
 
-// The pixel edge of a position of n eighths: the nearest, and of two the one to the right.
+// The pixel edge of a position of n eighths: the nearest, and of two the one to the right or further down.
 fn pixel(n: i64) -> i32
-    requires { ⌜ mag n ≤ 29999997 ⌝ }
+    requires { ⌜ natAbs n ≤ 29999997 ⌝ }
     ensures { λ r. ⌜ r ≡ pixelOf n ⌝ }
 {
     floor8(n + 4) as i32
@@ -118,7 +118,7 @@ fn all_accepted(location: Point, size: Size, offset: Point) -> bool
 }
 
 // The pixel edges of a box that stands as `layout` says, its location including the area's offset, as a run writes it. Refused where
-// x, y, width, height or one of the offset's two is a NaN, an infinity, no whole eighth, or above 9,999,999 eighths in size.
+// x, y, width, height or a coordinate of the offset is a NaN, an infinity, no whole eighth, or above 9,999,999 eighths in size.
 pub fn pixel_edges(layout: Layout, offset: Point) -> Pixels
     ensures { λ r. ⌜ r ≡ pixelEdges layout offset ⌝ }
 {

@@ -41,7 +41,7 @@ use Rattle.mirror_box.proofs.Bounds.{lengthBound, staticBound, sizeBound, fitBo
 use Rattle.mirror_box.proofs.Keywords.{KeywordSame, noKeyword, exact, measure, keyword-of, if-absent}
 use Rattle.mirror_box.proofs.Stretch.{raised, no-ratio}
 use Rattle.mirror_run.specs.Quarter.{QuarterPlace}
-use Rattle.pixels.specs.Pixels.{allAccepted, pixelEdges}
+use Rattle.pixels.specs.Pixels.{edgesOf, allAccepted, pixelEdges}
 use Rattle.pixels_laws.specs.Quarter.{AreaInQuarters, StyleInQuarters, AnsweredInQuarters, now, later}
 use Rattle.pixels_laws.specs.Laws.{HasEdges, BoxHasEdges}
 use Rattle.pixels_laws.proofs.Accepted.{exact-accepted}
@@ -86,16 +86,18 @@ located a h k q =
 
 pub has-edges : {l : Layout} {offset : Point} → LayoutIn l → Quarter (offset .x) → Quarter (offset .y) → HasEdges l offset
 unfolding pixelEdges allAccepted
-has-edges h x y =
-    rw (
-      exact-accepted (lit≤ tt) (h .x .1),
-      exact-accepted (lit≤ tt) (h .y .1),
-      exact-accepted (lit≤ tt) (eighths (h .size .width .l)),
-      exact-accepted (lit≤ tt) (eighths (h .size .height .l)),
-      exact-accepted (lit≤ tt) (eighths (quarters-exact x)),
-      exact-accepted (lit≤ tt) (eighths (quarters-exact y)),
-    )
-    refl
+has-edges {l} {offset} h x y = (
+  edgesOf (l .location) (l .size) offset,
+  rw (
+    exact-accepted (lit≤ tt) (h .x .1),
+    exact-accepted (lit≤ tt) (h .y .1),
+    exact-accepted (lit≤ tt) (eighths (h .size .width .l)),
+    exact-accepted (lit≤ tt) (eighths (h .size .height .l)),
+    exact-accepted (lit≤ tt) (eighths (quarters-exact x)),
+    exact-accepted (lit≤ tt) (eighths (quarters-exact y)),
+  )
+      refl,
+)
 
 -- ---- dialogues, S being asked of what the box surfaces
 

@@ -10,7 +10,8 @@ use Rattle.tree.specs.declared.layout.Layout.{Layout}
 use Rattle.tree.specs.declared.layout.OofCandidate.{OofCandidate}
 use Rattle.oof_resolve.specs.declared.ContainingBlock.{ContainingBlock}
 use Rattle.oof_box.specs.Box.{Placed, placed}
-use Rattle.pixels.specs.Pixels.{edgesOf, pixelEdges}
+use Rattle.pixels.specs.Pixels.{pixelEdges}
+use Rattle.pixels.specs.declared.PixelRect.{PixelRect}
 use Rattle.pixels.specs.declared.Pixels.the-variants.{Edges}
 use Rattle.sweep.specs.Sweep.{candidatesIn, claimed}
 use Rattle.run.specs.declared.Opening.{Opening}
@@ -24,7 +25,7 @@ use Rattle.pixels_laws.specs.Quarter.{AreaInQuarters, StyleInQuarters, A
 
 -- `pixel_edges` has edges for it, and no refusal
 abbrev pub HasEdges : Layout → Point → Type 0
-HasEdges l offset = pixelEdges l offset ≡ Edges (edgesOf (l .location) (l .size) offset)
+HasEdges l offset = (p : PixelRect) × (pixelEdges l offset ≡ Edges p)
 
 -- ---- a box, whatever it surfaces
 

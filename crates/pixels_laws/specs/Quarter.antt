@@ -1,5 +1,6 @@
--- Whole quarter pixels along both axes: what demand 3 asks of area, style, candidate and replies (mirror_run/specs/Quarter.antt), for one box.
--- The area's width may be 0. Assumes nothing.
+-- Whole quarter pixels of size 4,096 at most, along both axes: what demand 3 asks of area, style, candidate and replies
+-- (mirror_run/specs/Quarter.antt), for one box. A length is one by its tag, so that no percentage stands. The area's width may be 0.
+-- Assumes nothing.
 use mathlib.Core.Path.{_≡_}
 use mathlib.Core.List.{List}
 use Rattle.util.specs.declared.math.MaybeF32.the-variants.{None}
@@ -41,7 +42,7 @@ pub record StyleInQuarters (s : Style) : Type 0 where
   pub max : SizeInQuarters (s .max)
   pub ratio : s .ratio ≡ None
 
--- a reply to a question, S being asked of the candidates that the box surfaces
+-- a reply to a question, S being asked of the candidates that the box surfaces: nothing of a box by itself, that none is claimed in a run
 abbrev pub QuarterTo : (List OofCandidate → Type 0) → (q : Question) → ReplyTo q → Type 0
 QuarterTo S (MeasureBoth m) r = Quarter (r .width) × Quarter (r .height)
 QuarterTo S (MeasureWidth m) r = Quarter r

@@ -7,7 +7,7 @@ impl Layout {
     /// An edge of n eighths of a pixel goes to the floor of (n + 4) / 8, also below zero: to the nearest pixel edge, and a half to
     /// the right or down. The box covers the pixels from `left` up to, and not including, `right`, and so from `top` to `bottom`. No
     /// size is rounded by itself: boxes of one area that touch before still touch, and one of less than a pixel may have none. A
-    /// negative size has its right edge left of its left one, or equal to it.
+    /// negative width has its right edge left of its left one, or equal to it; a negative height the same of bottom and top.
     ///
     /// ```
     /// use oof::*;

@@ -1,4 +1,4 @@
-//! Whole pixels: the rows of the request, and boxes of a run.
+//! Whole pixels: the rows of the request, and boxes of runs.
 use oof::ffi;
 use oof::*;
 
@@ -89,4 +89,57 @@ fn boxes_of_a_run() {
     // 20.5 and 120.625: both edges are rounded, and the box is 100 wide
     let first = Rect { left: 21, right: 121, top: 12, bottom: 30 };
     assert_eq!(placed.pixels(&panel), [Some(Ok(first)), Some(Err(Refusal::NotInEighths)), None]);
+}
+
+/// A run can write a negative width, and it is accepted
+#[test]
+fn negative_width() {
+    let px = LengthPercentageAuto::Length;
+    let zero = LengthPercentage::Length(0.0);
+    let style = Style {
+        inset: Rect { left: px(0.0), top: px(0.0), ..Rect::AUTO },
+        padding: Rect { left: LengthPercentage::Length(-1.0), right: zero, top: zero, bottom: zero },
+        size: Size { width: Dimension::Length(-1.0), height: Dimension::Length(1.0) },
+        ..Style::default()
+    };
+    let panel = Area { size: Size { width: 100.0, height: 100.0 }, ..Area::default() };
+    let placed = compute_oof_layout_for_area(&mut Font, &panel, &[style], &[Candidate::default()]).unwrap();
+    assert_eq!(placed.layouts[0].unwrap().size.width, -1.0);
+    assert_eq!(placed.pixels(&panel), [Some(Ok(Rect { left: 0, right: -1, top: 0, bottom: 1 }))]);
+}
+
+/// Surfaces the box that it lays out, until so many are laid out
+struct Nested(usize);
+impl Host for Nested {
+    fn measure_both(&mut self, _: NodeId, _: Size<Option<f32>>, _: Size<AvailableSpace>) -> Size<f32> {
+        unreachable!("its size is given")
+    }
+    fn lay_out(&mut self, _: NodeId, _: Size<f32>, _: Size<AvailableSpace>) -> LaidOut {
+        self.0 -= 1;
+        let surfaced = if self.0 > 0 { vec![far()] } else { vec![] };
+        LaidOut { overflow: Rect::default(), surfaced }
+    }
+}
+fn far() -> Candidate {
+    let x = AxisStaticPosition { area: Line { start: 4096.0, end: 4096.0 }, ..AxisStaticPosition::default() };
+    Candidate { static_position: Point { x, y: AxisStaticPosition::default() }, ..Candidate::default() }
+}
+
+/// Whole quarter pixels of at most 4,096, but surfaced boxes that are claimed: the 153rd is too far out
+#[test]
+fn generations() {
+    let px = LengthPercentageAuto::Length;
+    let style = Style {
+        margin: Rect { left: px(4096.0), right: px(0.0), top: px(0.0), bottom: px(0.0) },
+        size: Size { width: Dimension::Length(1.0), height: Dimension::Length(1.0) },
+        ..Style::default()
+    };
+    let panel = Area { size: Size { width: 100.0, height: 100.0 }, ..Area::default() };
+    let last = |boxes: usize| {
+        let placed = compute_oof_layout_for_area(&mut Nested(boxes), &panel, &[style], &[far()]).unwrap();
+        assert_eq!(placed.hoisted.len(), boxes);
+        (placed.layouts[0].unwrap().location.x * 8.0, placed.pixels(&panel)[0].unwrap())
+    };
+    assert_eq!(last(152), (9_961_472.0, Ok(Rect { left: 1_245_184, right: 1_245_185, top: 0, bottom: 1 })));
+    assert_eq!(last(153), (10_027_008.0, Err(Refusal::NotInEighths)));
 }

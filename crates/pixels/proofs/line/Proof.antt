@@ -1,6 +1,6 @@
 -- Generated skeleton (tools/proof/write-skeletons), answers by hand.
 -- `pixels::line` meets its contract. Assumes nothing.
-use Rattle.pixels.proofs.Held.{back, within-mag, held-eighths, start-fits, start-within, end-fits, end-within, held-pixel, line-is-sums}
+use Rattle.pixels.proofs.Held.{back, within-abs, held-eighths, start-fits, start-within, end-fits, end-within, held-pixel, line-is-sums}
 use borrow.Author.Needs.{needs}
 use mathlib.Core.Path.{refl}
 use lib.IntN.{_+ℤ_, _-ℤ_}
@@ -33,13 +33,13 @@ pixel-requires : tie.Need-pixel-requires
 pixel-requires c κs =
     let a = c .before .before .before .args in
     rw (c .before .before .in-eighths .ensures, c .before .in-eighths2 .ensures, held-eighths (a .at), held-eighths (a .offset), back _ (start-fits (a .at) (a .offset)))
-    (within-mag 29999997 (inEighths (a .at) -ℤ inEighths (a .offset)) (start-within (a .at) (a .offset)))
+    (within-abs 29999997 (inEighths (a .at) -ℤ inEighths (a .offset)) (start-within (a .at) (a .offset)))
 
 pixel-requires-2 : tie.Need-pixel-requires-2
 pixel-requires-2 c κs =
     let a = c .before .before .before .before .args in
     rw (c .before .before .before .in-eighths .ensures, c .before .before .in-eighths2 .ensures, c .before .in-eighths3 .ensures, held-eighths (a .at), held-eighths (a .offset), held-eighths (a .size), back _ (start-fits (a .at) (a .offset)), back _ (end-fits (a .at) (a .offset) (a .size)))
-    (within-mag 29999997 (inEighths (a .at) -ℤ inEighths (a .offset) +ℤ inEighths (a .size)) (end-within (a .at) (a .offset) (a .size)))
+    (within-abs 29999997 (inEighths (a .at) -ℤ inEighths (a .offset) +ℤ inEighths (a .size)) (end-within (a .at) (a .offset) (a .size)))
 
 returns : tie.Need-returns
 returns c =
