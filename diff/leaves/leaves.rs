@@ -4,6 +4,11 @@
 //! a NaN's word is 7FC00000) is checked by bits. Counts of eighths are checked in f64, where they are exact. Before the
 //! leaves, wrong ones are tried: each must be found out.
 
+#[path = "../random.rs"]
+mod random;
+
+use random::Random;
+
 extern "C" {
     fn leaf_max(a: f32, b: f32) -> f32;
     fn leaf_min(a: f32, b: f32) -> f32;
@@ -165,17 +170,7 @@ fn specials(l: &Leaves, list: &[f32]) -> Result<(), String> {
     [0, 1, 2, 7, 8, 9, LARGEST - 1, LARGEST, LARGEST + 1, 1 << 24, 1 << 32, u64::MAX].iter().try_for_each(|&n| count(l, n))
 }
 
-/// xorshift64*
-struct Random(u64);
-
 impl Random {
-    fn word(&mut self) -> u32 {
-        self.0 ^= self.0 >> 12;
-        self.0 ^= self.0 << 25;
-        self.0 ^= self.0 >> 27;
-        (self.0.wrapping_mul(0x2545_F491_4F6C_DD1D) >> 32) as u32
-    }
-
     /// Any bits; a special value; a small count of eighths; or a neighbour of the float before.
     fn float(&mut self, list: &[f32], before: f32) -> f32 {
         let w = self.word();

@@ -3,6 +3,11 @@
 //! The model takes a float apart by its bits, and shares no code with the entry. Where taffy's util/sys.rs is at hand, its `round` says
 //! what pixel a count of eighths is. Before the entry, wrong ones are tried: each must be found out.
 
+#[path = "../random.rs"]
+mod random;
+
+use random::Random;
+
 mod c {
     extern "C" {
         pub fn oof_pixels(layout: *const u32, x: f32, y: f32, edges: *mut i32) -> u32;
@@ -356,17 +361,7 @@ fn directed(entry: Entry) -> Result<u64, String> {
     Ok(tried)
 }
 
-/// xorshift64*
-struct Random(u64);
-
 impl Random {
-    fn word(&mut self) -> u32 {
-        self.0 ^= self.0 >> 12;
-        self.0 ^= self.0 << 25;
-        self.0 ^= self.0 >> 27;
-        (self.0.wrapping_mul(0x2545_F491_4F6C_DD1D) >> 32) as u32
-    }
-
     /// A count that is accepted: any, small, or at the limit.
     fn count(&mut self) -> i64 {
         let w = i64::from(self.word());

@@ -2,7 +2,6 @@
 use Prim.Native.Nat.{ℕ, _+_, _<_}
 use native.Mathlib.Omega.{arith}
 use native.Mathlib.Nat.{zero-add}
-use mathlib.Core.Logic.{_↔_, inl, inr}
 use mathlib.Core.Path.{_≡_, refl, sym, ap, subst, _∙_}
 use mathlib.Core.Bool.{Bool, true, false}
 use mathlib.Core.List.{List, [], _∷_, _++_, foldl, foldl-append, append-nil}
@@ -11,21 +10,12 @@ use Rattle.util.proofs.Floats.{no}
 use Rattle.geometry.specs.declared.Line.{Line}
 use Rattle.geometry.specs.declared.Point.{Point}
 use Rattle.geometry.specs.declared.Rect.{Rect}
-use Rattle.refusal.specs.Refusal.{numberOf}
-use Rattle.refusal.specs.declared.Refusal.{Refusal}
-use Rattle.refusal.specs.declared.Refusal.the-variants.{NotInEighths}
-use Rattle.refusal.proofs.Laws.{numbers-differ}
 use Rattle.style.specs.declared.alignment.AlignItems.{AlignItems}
 use Rattle.tree.specs.Static.{fromAlignment}
 use Rattle.tree.specs.declared.layout.Aligned.{Aligned}
 use Rattle.tree.specs.declared.layout.Layout.{Layout}
-use Rattle.pixels.specs.Conditions.{NotAllInEighths, pixelTests}
 use Rattle.pixels.specs.Pixels.{pixelEdges}
-use Rattle.pixels.specs.declared.PixelRect.{PixelRect}
 use Rattle.pixels.specs.declared.Pixels.{Pixels}
-use Rattle.pixels.specs.declared.Pixels.the-variants.{Edges}
-use Rattle.pixels.specs.declared.Pixels.the-variants as pixels
-use Rattle.pixels.proofs.Edges.{isRefused as isTurnedDown, refused-exactly as pixels-refused-exactly}
 use Rattle.style_record.specs.Decode.{styleAt}
 use Rattle.oof_box.specs.declared.question.Reply.{Reply}
 use Rattle.oof_box.specs.declared.question.Reply.the-variants.{LaidOut}
@@ -35,7 +25,6 @@ use Rattle.run.specs.declared.Opening.{Opening}
 use Rattle.run.specs.declared.State.{State}
 use Rattle.run.specs.declared.Step.{Step}
 use Rattle.run.specs.Call.{Lent, Outcome, outcome}
-use Rattle.run.specs.Conditions.{NoneHolds}
 use Rattle.run.specs.Theorems.{WroteSize, openIn, oneIfAsked, isRefused, askedFor, Heard, Loan, own, other, Turn, next, nextWith, turned, Lends, AllLend, called, Stands, heededIn, courseOf, laidSoFar}
 use Rattle.run.specs.Run.{extentsOf, boxAtHand, opened, replied, takenBy, laidOut}
 use Rattle.run.proofs.Refusals.{refused-reply-keeps, refused-opening-keeps, saying, turn-refused}
@@ -54,6 +43,7 @@ use Rattle.mirror_run.specs.Quarter.{QuarterArea, QuarterTable, QuarterCandidat
 use Rattle.mirror_run.specs.Runs.{Message, runNext, imageNext, Fair, AllFair, MirroredRuns, unclaimedAtOpening, layoutOfBox}
 use Rattle.pixels_laws.specs.Laws.{HasEdges}
 use Rattle.pixels_laws.proofs.Run.{run-has-edges}
+use Rattle.pixels_laws.proofs.Tests.{refused-first, edges-first}
 use Rattle.demands.specs.Entries.{Opens, RepliesTo, AnyCalls, Takes, Run, RefusedSince, BothRuns}
 use Rattle.demands.specs.Demands.{OpeningDemands, ReplyDemands, AlignmentDemands, PixelsDemands, ScreenDemands, ThreeQuestionsEach, EqualsStraightRun, SizedLayout, SizeLaw, LaidOutAsAsked, MirrorImage, QuartersHaveEdges}
 
@@ -73,24 +63,9 @@ opening-demands o candidates lent c =
 pub alignment-demands : (a : AlignItems) (area : Line) (rtl : Bool) {r : Aligned} → r ≡ fromAlignment a area rtl → AlignmentDemands a area rtl r
 alignment-demands a area rtl c = subst (AlignmentDemands a area rtl) (sym c) (record { call = refl; refused = unresolved-exactly a area rtl })
 
-edges-or-none : (layout : Layout) (offset : Point) (r : Pixels)
-    → ((q : Refusal) → (r ≡ pixels.Refused q) ↔ ((q ≡ NotInEighths) × NotAllInEighths layout offset))
-    → ((edges : PixelRect) × (r ≡ Edges edges)) ↔ NoneHolds (pixelTests layout offset)
-edges-or-none layout offset (Edges edges) f = (λ k. (λ n. no {b = false} (ap isTurnedDown (f NotInEighths .1 (refl, n))) refl, tt), λ k. (edges, refl))
-edges-or-none layout offset (pixels.Refused q) f = (λ k. no {b = true} refl (ap isTurnedDown (k .1)), λ k. absurd (k .0 (f q .0 refl .1)))
-
 pub pixels-demands : (layout : Layout) (offset : Point) {r : Pixels} → r ≡ pixelEdges layout offset → PixelsDemands layout offset r
 pixels-demands layout offset c =
-    let exactly = pixels-refused-exactly layout offset in
-    subst (PixelsDemands layout offset) (sym c)
-    (record {
-      call = refl;
-      refused = λ q. (
-        λ e. inl (exactly q .0 e .1, ap numberOf (exactly q .0 e .0)),
-        elim [ inl k ↦ exactly q .1 (numbers-differ q NotInEighths (k .1), k .0) | inr k ↦ absurd (k .1) ],
-      );
-      accepted = edges-or-none layout offset (pixelEdges layout offset) exactly;
-    })
+    subst (PixelsDemands layout offset) (sym c) (record { call = refl; refused = refused-first layout offset; accepted = edges-first layout offset })
 
 pub screen-demands : (text : List ℕ) {r : ℕ} {before after : List ℕ} → Prints r before after (printed text) → ScreenDemands text r before after
 screen-demands text c = record { call = c; refused = refused-exactly text; listed = listed-exactly text }

@@ -43,9 +43,8 @@ use Rattle.run.specs.Run.{closed, boxAtHand, extentsOf, claimsOf}
 use Rattle.run.specs.Conditions.{FirstIs, NoneHolds, SideIsUnresolved, openingTests, replyTests}
 use Rattle.run.specs.Theorems.{isRefused, own, StageTellsKind, WroteSize, Turn, Stands, heededIn, courseOf, laidSoFar}
 use Rattle.mirror_run.specs.Image.{imageStyles}
-use Rattle.mirror_run.specs.Quarter.{QuarterArea, QuarterTable, QuarterCandidates}
+use Rattle.mirror_run.specs.Quarter.{AreaInQuarters, QuarterArea, QuarterTable, QuarterCandidates}
 use Rattle.mirror_run.specs.Runs.{Message, MirroredRuns, unclaimedAtOpening, layoutOfBox}
-use Rattle.pixels_laws.specs.Quarter.{AreaInQuarters}
 use Rattle.pixels_laws.specs.Laws.{HasEdges, All, QuarterHeard}
 use Rattle.boxlist_lines.specs.Lines.{refusalText}
 use Rattle.boxlist_print.specs.Rows.{Prints}
@@ -55,8 +54,8 @@ use Rattle.demands.specs.Entries.{Opens, RepliesTo, AnyCalls, Takes, Run
 
 -- ---- Demand 1. "Whoever calls an entry, with any bits in any number and slices of any length, gets its answer (in a run, a question or
 -- finish) or one of document 01's refusals 1 to 8, each exactly under its stated condition. A refusal writes no lent word and returns the
--- state as it came." The conditions, in document 01's words and order, stand in run/specs/Conditions.antt. By request #101
--- the refusals are 1 to 9, and each later number joins them; the condition of 9 stands in pixels/specs/Conditions.antt.
+-- state as it came." The conditions, in document 01's words and order, stand in run/specs/Conditions.antt. By request #101 the refusals
+-- are 1 to 9, and each later number joins them; the condition of 9 stands in pixels/specs/Conditions.antt.
 
 -- an opening. It has no state that came: refused, it returns that of a finished run with all counts 0
 pub record OpeningDemands (o : Opening) (candidates : List ℕ) (lent : Lent) (has : Outcome) : Type 0 where

@@ -13,16 +13,13 @@ use Rattle.util.proofs.Floats.{no}
 use Rattle.geometry.specs.declared.Point.{Point}
 use Rattle.refusal.specs.Refusal.{numberOf}
 use Rattle.refusal.specs.declared.Refusal.{Refusal}
-use Rattle.refusal.specs.declared.Refusal.the-variants.{NotInEighths}
-use Rattle.tree.specs.declared.layout.Layout.{Layout}
 use Rattle.tree_record.specs.Layout.{layoutOf}
-use Rattle.pixels.specs.Conditions.{NotAllInEighths, pixelTests}
+use Rattle.pixels.specs.Conditions.{pixelTests}
 use Rattle.pixels.specs.Pixels.{pixelEdges}
 use Rattle.pixels.specs.declared.PixelRect.{PixelRect}
 use Rattle.pixels.specs.declared.Pixels.{Pixels}
 use Rattle.pixels.specs.declared.Pixels.the-variants.{Edges}
 use Rattle.pixels.specs.declared.Pixels.the-variants as pixels
-use Rattle.pixels.proofs.Edges.{isRefused as isTurnedDown, refused-exactly}
 use Rattle.oof_box.specs.declared.question.Question.{Question}
 use Rattle.oof_box.specs.declared.question.Question.the-variants.{MeasureBoth, MeasureWidth, MeasureHeight, LayOut}
 use Rattle.oof_box.specs.declared.question.Reply.{Reply}
@@ -52,6 +49,7 @@ use Rattle.oof_c_words.specs.Laws.{FitsReply}
 use Rattle.oof_c_words.proofs.Laws.{accepted-is-zero, refused-is-not, refused-opening-closes, refused-reply-writes-nothing}
 use Rattle.oof_c_words.proofs.Kept.{opening-is-kept, reply-is-kept}
 use Rattle.pixels_laws.proofs.Run.{run-has-edges}
+use Rattle.pixels_laws.proofs.Tests.{refused-first, edges-first}
 use Rattle.demands_c.specs.Calls.{Opens, RepliesTo, FitsOpening, askedFor, AnyCalls, Takes, Lends, Run}
 use Rattle.demands_c.specs.Demands.{OpeningDemands, ReplyDemands, PixelsDemands, ThreeQuestionsEach, StandsInWords, EqualsStraightRun, QuartersHaveEdges}
 
@@ -69,20 +67,32 @@ none-first n [] h k = k
 none-first n (t ∷ ts) h (inl k) = h .0 (k .0)
 none-first n (t ∷ ts) h (inr k) = none-first n ts (h .1) (k .1)
 
-module _ (tests : List (ℕ × Type 0)) where
-  numbered : (a : Answer) → ((r : Refusal) → (a ≡ Refused r) ↔ FirstIs tests (numberOf r)) → (isRefused a ≡ false) ↔ NoneHolds tests
-      → (n : ℕ) → n ≢ 0
-      → (resultOf a ≡ n) ↔ FirstIs tests n
-  unfolding resultOf
-  numbered (Ask q) f g n h = (λ e. absurd (h (sym e)), λ k. absurd (none-first n tests (g .0 refl) k))
-  numbered (Finish x) f g n h = (λ e. absurd (h (sym e)), λ k. absurd (none-first n tests (g .0 refl) k))
-  numbered (Refused r) f g n h = (λ e. subst (FirstIs tests) e (f r .0 refl), λ k. first-one tests (f r .0 refl) k)
+-- a result by the tests of its call
+data ResultBy (tests : List (ℕ × Type 0)) : ℕ → Type 0 where
+  noneHolds : NoneHolds tests → ResultBy tests 0
+  firstHolds : (r : Refusal) → FirstIs tests (numberOf r) → ResultBy tests (numberOf r)
 
-  zeroed : (a : Answer) → (isRefused a ≡ false) ↔ NoneHolds tests → (resultOf a ≡ 0) ↔ NoneHolds tests
+numbered : {tests : List (ℕ × Type 0)} {result : ℕ} → ResultBy tests result → (n : ℕ) → n ≢ 0 → (result ≡ n) ↔ FirstIs tests n
+numbered {tests} (noneHolds g) n h = (λ e. absurd (h (sym e)), λ k. absurd (none-first n tests g k))
+numbered {tests} (firstHolds r f) n h = (λ e. subst (FirstIs tests) e f, λ k. first-one tests f k)
+
+zeroed : {tests : List (ℕ × Type 0)} {result : ℕ} → ResultBy tests result → (result ≡ 0) ↔ NoneHolds tests
+zeroed {tests} (noneHolds g) = (λ e. g, λ k. refl)
+zeroed {tests} (firstHolds r f) = (λ e. absurd (refused-is-not r e), λ g. absurd (none-first (numberOf r) tests g f))
+
+-- of a run's answer, and of pixel edges
+module _ (tests : List (ℕ × Type 0)) where
+  answer-by : (a : Answer) → ((r : Refusal) → (a ≡ Refused r) ↔ FirstIs tests (numberOf r)) → (isRefused a ≡ false) ↔ NoneHolds tests → ResultBy tests (resultOf a)
   unfolding resultOf
-  zeroed (Ask q) g = (λ e. g .0 refl, λ k. refl)
-  zeroed (Finish x) g = (λ e. g .0 refl, λ k. refl)
-  zeroed (Refused r) g = (λ e. absurd (refused-is-not r e), λ k. no {b = true} refl (g .1 k))
+  answer-by (Ask q) f g = noneHolds (g .0 refl)
+  answer-by (Finish x) f g = noneHolds (g .0 refl)
+  answer-by (Refused r) f g = firstHolds r (f r .0 refl)
+
+  edges-by : (p : Pixels) (before : List ℤ) → ((r : Refusal) → (p ≡ pixels.Refused r) ↔ FirstIs tests (numberOf r)) → ((q : PixelRect) × (p ≡ Edges q)) ↔ NoneHolds tests
+      → ResultBy tests (edgesTold p before .result)
+  unfolding edgesTold
+  edges-by (Edges q) before f g = noneHolds (g .0 (q, refl))
+  edges-by (pixels.Refused r) before f g = firstHolds r (f r .0 refl)
 
 pub opening-demands :
     (o : Opening) (candidates styles : List ℕ) (before : Words) {has : Returned} → Opens o candidates styles before has
@@ -92,16 +102,16 @@ opening-demands o candidates styles before c =
     subst (OpeningDemands o candidates styles before) (sym c)
     (record {
       call = refl;
-      refused = numbered (openingTests o candidates l) a (opening-refused-exactly o candidates l) (opening-accepted-exactly o candidates l);
-      accepted = zeroed (openingTests o candidates l) a (opening-accepted-exactly o candidates l);
+      refused = numbered by;
+      accepted = zeroed by;
       kept = refused-opening-closes o candidates styles before;
     })
   where
     l : Lent
     l = lentIn styles before
 
-    a : Answer
-    a = opened o candidates l .step .answer
+    by : ResultBy (openingTests o candidates l) (resultOf (opened o candidates l .step .answer))
+    by = answer-by (openingTests o candidates l) (opened o candidates l .step .answer) (opening-refused-exactly o candidates l) (opening-accepted-exactly o candidates l)
 
 pub reply-demands :
     (reply : Reply) (surfaced styles : List ℕ) (before : Words) {has : Returned} → RepliesTo reply surfaced styles before has
@@ -111,8 +121,8 @@ reply-demands reply surfaced styles before c =
     subst (ReplyDemands reply surfaced styles before) (sym c)
     (record {
       call = refl;
-      refused = numbered (replyTests s reply surfaced l) a (reply-refused-exactly s reply surfaced l) (reply-accepted-exactly s reply surfaced l);
-      accepted = zeroed (replyTests s reply surfaced l) a (reply-accepted-exactly s reply surfaced l);
+      refused = numbered by;
+      accepted = zeroed by;
       kept = refused-reply-writes-nothing reply surfaced styles before;
     })
   where
@@ -122,29 +132,10 @@ reply-demands reply surfaced styles before c =
     l : Lent
     l = lentIn styles before
 
-    a : Answer
-    a = replied s reply surfaced l .step .answer
+    by : ResultBy (replyTests s reply surfaced l) (resultOf (replied s reply surfaced l .step .answer))
+    by = answer-by (replyTests s reply surfaced l) (replied s reply surfaced l .step .answer) (reply-refused-exactly s reply surfaced l) (reply-accepted-exactly s reply surfaced l)
 
-module _ (layout : Layout) (offset : Point) (before : List ℤ) where
-  abbrev Exactly : Pixels → Type 0
-  Exactly p = (r : Refusal) → (p ≡ pixels.Refused r) ↔ ((r ≡ NotInEighths) × NotAllInEighths layout offset)
-
-  edges-numbered : (p : Pixels) → Exactly p → (n : ℕ) → n ≢ 0 → (edgesTold p before .result ≡ n) ↔ FirstIs (pixelTests layout offset) n
-  unfolding edgesTold
-  edges-numbered (Edges edges) f n h = (
-    λ e. absurd (h (sym e)),
-    elim [ inl k ↦ no {b = false} (ap isTurnedDown (f NotInEighths .1 (refl, k .0))) refl | inr k ↦ absurd (k .1) ],
-  )
-  edges-numbered (pixels.Refused r) f n h = (
-    λ e. inl (f r .0 refl .1, sym e ∙ ap numberOf (f r .0 refl .0)),
-    elim [ inl k ↦ ap numberOf (f r .0 refl .0) ∙ sym (k .1) | inr k ↦ absurd (k .1) ],
-  )
-
-  edges-zeroed : (p : Pixels) → Exactly p → (edgesTold p before .result ≡ 0) ↔ NoneHolds (pixelTests layout offset)
-  unfolding edgesTold
-  edges-zeroed (Edges edges) f = (λ e. (λ n. no {b = false} (ap isTurnedDown (f NotInEighths .1 (refl, n))) refl, tt), λ k. refl)
-  edges-zeroed (pixels.Refused r) f = (λ e. absurd (refused-is-not r e), λ k. absurd (k .0 (f r .0 refl .1)))
-
+module _ (before : List ℤ) where
   edges-kept : (p : Pixels) → edgesTold p before .result ≢ 0 → edgesTold p before .edges ≡ before
   unfolding edgesTold
   edges-kept (Edges edges) h = absurd (h refl)
@@ -160,14 +151,10 @@ pub pixels-demands :
 unfolding pixelsInWords
 pixels-demands layout offset before c =
     let l = layoutOf layout in
+    let p = pixelEdges l offset in
+    let by = edges-by (pixelTests l offset) p before (refused-first l offset) (edges-first l offset) in
     subst (PixelsDemands layout offset before) (sym c)
-    (record {
-      call = refl;
-      refused = edges-numbered l offset before (pixelEdges l offset) (refused-exactly l offset);
-      accepted = edges-zeroed l offset before (pixelEdges l offset) (refused-exactly l offset);
-      kept = edges-kept l offset before (pixelEdges l offset);
-      written = edges-written l offset before (pixelEdges l offset);
-    })
+    (record { call = refl; refused = numbered by; accepted = zeroed by; kept = edges-kept before p; written = edges-written before p })
 
 -- ---- at most three questions for each box
 

@@ -21,8 +21,7 @@ use Rattle.run.specs.Run.{closed, claimsOf}
 use Rattle.run.specs.Straight.{Course}
 use Rattle.run.specs.Theorems.{Turn, Stands, saidAfter, heededIn, courseOf, laidCount}
 use Rattle.run.specs.declared.Opening.{Opening}
-use Rattle.mirror_run.specs.Quarter.{QuarterTable, QuarterCandidates}
-use Rattle.pixels_laws.specs.Quarter.{AreaInQuarters}
+use Rattle.mirror_run.specs.Quarter.{AreaInQuarters, QuarterTable, QuarterCandidates}
 use Rattle.pixels_laws.specs.Laws.{All, QuarterHeard}
 use Rattle.oof_c_words.specs.StateWords.{at, stateOf, stateWords}
 use Rattle.oof_c_words.specs.Entry.{Words, words, Returned, lentIn, answerLeft}
@@ -96,7 +95,7 @@ QuartersHaveEdges =
     → All (QuarterHeard (claimsOf o)) (heededIn o candidates (lentIn styles before) turns)
     → let state = stateOf (has .words .state) in
     (i : ℕ) → i < laidCount (state .progress) (state .counts .begun)
-    → (before : List ℤ) → pixelsInWords (wordsOfBox (has .words) i) (o .area .offset) before .result ≡ 0
+    → (edges : List ℤ) → pixelsInWords (wordsOfBox (has .words) i) (o .area .offset) edges .result ≡ 0
 
 -- ---- What is demanded of runs: the function `demanded` of src/lib.rt ensures these, so that a crate without a proof of each is not proved.
 

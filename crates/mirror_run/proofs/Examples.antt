@@ -24,7 +24,7 @@ use Rattle.run.specs.Theorems.{own}
 use Rattle.util_exact.specs.Value.{_≐_, Quarter, Quarters}
 use Rattle.mirror_box.specs.Mirrored.{SameSpace, definite, minContent, maxContent, measureBoth, measureWidth, measureHeight, layOut}
 use Rattle.mirror_run.specs.Image.{listed, eachRecord}
-use Rattle.mirror_run.specs.Quarter.{QuarterArea, QuarterTable, QuarterCandidates, QuarterReply}
+use Rattle.mirror_run.specs.Quarter.{AreaInQuarters, QuarterArea, QuarterTable, QuarterCandidates, QuarterReply}
 use Rattle.mirror_run.specs.Runs.{Message, isUnread, Alike, Fair, AllFair, SameAnswer, ask, finish, refused, MirroredRuns}
 use Rattle.mirror_run.proofs.Decided.{quarter-decided, table-decided, candidates-decided}
 use Rattle.mirror_run.proofs.Unread.{accepted-read}
@@ -73,10 +73,7 @@ quarter-panel : QuarterArea (panel .area)
 unfolding ofBits eq
 quarter-panel =
     record {
-      width = quarter-decided (word 1120403456) refl;
-      height = quarter-decided (word 1112014848) refl;
-      x = quarter-decided (word 1090519040) refl;
-      y = nought;
+      quarters = record { width = quarter-decided (word 1120403456) refl; height = quarter-decided (word 1112014848) refl; x = quarter-decided (word 1090519040) refl; y = nought };
       notZero = λ e. no e refl;
     }
 
@@ -135,18 +132,18 @@ quarter-at-start = candidates-decided atStart refl
 
 quarter-small : QuarterArea (small .area)
 unfolding ofBits eq
-quarter-small = record { width = quarter-decided (word 1048576000) refl; height = quarter-decided (word 1048576000) refl; x = nought; y = nought; notZero = λ e. no e refl }
+quarter-small = record { quarters = record { width = quarter-decided (word 1048576000) refl; height = quarter-decided (word 1048576000) refl; x = nought; y = nought }; notZero = λ e. no e refl }
 
 quarter-wide : QuarterArea (wide .area)
 unfolding ofBits eq
-quarter-wide = record { width = quarter-decided (word 1083179008) refl; height = quarter-decided (word 1048576000) refl; x = nought; y = nought; notZero = λ e. no e refl }
+quarter-wide = record { quarters = record { width = quarter-decided (word 1083179008) refl; height = quarter-decided (word 1048576000) refl; x = nought; y = nought }; notZero = λ e. no e refl }
 
 -- an area whose width isn't 0: in one of 0 the run offers 0.5 and its image 0
 width-needed :
-    (Quarter (narrow .area .size .width) × Quarter (narrow .area .size .height) × Quarter (narrow .area .offset .x) × Quarter (narrow .area .offset .y) × QuarterTable still × QuarterCandidates centered)
+    (AreaInQuarters (narrow .area) × QuarterTable still × QuarterCandidates centered)
     × Fails narrow still centered []
 unfolding ofBits every recordAt candidateOf axisOf
-width-needed = ((nought, nought, nought, nought, quarter-still, candidates-decided centered refl), fails (computed .widthZero))
+width-needed = ((record { width = nought; height = nought; x = nought; y = nought }, quarter-still, candidates-decided centered refl), fails (computed .widthZero))
 
 -- all that is asked of an area but for its offset across
 pub record ButOffset (area : OofPositioningArea) : Type 0 where
@@ -169,7 +166,7 @@ unfolding ofBits eq
 bound-needed = ((rest, far-away, quarter-still, quarter-at-start), fails (computed .bound))
   where
     rest : ButOffset (far .area)
-    rest = record { width = quarter-small .width; height = quarter-small .height; y = nought; notZero = λ e. no e refl }
+    rest = record { width = quarter-small .quarters .width; height = quarter-small .quarters .height; y = nought; notZero = λ e. no e refl }
 
     far-away : Quarters 8388608 (far .area .offset .x)
     far-away = record { sign = false; k = 8388608; value = (refl, refl); small = omega arith }

@@ -52,7 +52,7 @@ use Rattle.mirror_run.proofs.Next.{openedOf, leaving, proceeds-linked}
 -- ---- what demand 3 asks, as the law of one box asks it
 
 pub quarter-block : (o : Opening) → QuarterArea (o .area) → QuarterContainer (containerOf o)
-quarter-block o h = record { width = h .width; notZero = h .notZero; offset = h .x }
+quarter-block o h = record { width = h .quarters .width; notZero = h .notZero; offset = h .quarters .x }
 
 pub quarter-style : (styles : List ℕ) → badStyle styles ≡ false → (i : ℕ) → i < items styles → QuarterItem (item styles i) → QuarterStyle (styleAt styles i)
 unfolding styleAt styleOf rectAt sizeAt

@@ -18,11 +18,14 @@ use Rattle.oof_box.specs.declared.question.Reply.the-variants.{Both, Width, Hei
 use Rattle.util_exact.specs.Value.{_≐_, Quarter}
 use Rattle.mirror_box.specs.Quarter.{QuarterLength}
 
-pub record QuarterArea (area : OofPositioningArea) : Type 0 where
+pub record AreaInQuarters (area : OofPositioningArea) : Type 0 where
   pub width : Quarter (area .size .width)
   pub height : Quarter (area .size .height)
   pub x : Quarter (area .offset .x)
   pub y : Quarter (area .offset .y)
+
+pub record QuarterArea (area : OofPositioningArea) : Type 0 where
+  pub quarters : AreaInQuarters area
   pub notZero : area .size .width ≐ 0f → ⊥
 
 -- a style: each of its lengths by its tag, the scrollbar width; no ratio is present

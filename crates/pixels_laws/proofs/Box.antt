@@ -1,5 +1,5 @@
 -- Steps 4 to 7: with replies of whole quarter pixels a box's size is such, and its location is whole eighths. Assumes nothing.
-use mathlib.Core.Path.{refl}
+use mathlib.Core.Path.{_≡_, refl}
 use mathlib.Core.Bool.{Bool, not, _&&_}
 use mathlib.Core.List.{List}
 use Prim.Native.Nat.{ℕ, _+_, _≤_}
@@ -40,9 +40,10 @@ use Rattle.mirror_axis.proofs.ExactPlace.{place-exact}
 use Rattle.mirror_box.proofs.Bounds.{lengthBound, staticBound, sizeBound, fitBound, placeBound}
 use Rattle.mirror_box.proofs.Keywords.{KeywordSame, noKeyword, exact, measure, keyword-of, if-absent}
 use Rattle.mirror_box.proofs.Stretch.{raised, no-ratio}
-use Rattle.mirror_run.specs.Quarter.{QuarterPlace}
+use Rattle.mirror_run.specs.Quarter.{AreaInQuarters, QuarterPlace}
 use Rattle.pixels.specs.Pixels.{edgesOf, allAccepted, pixelEdges}
-use Rattle.pixels_laws.specs.Quarter.{AreaInQuarters, StyleInQuarters, AnsweredInQuarters, now, later}
+use Rattle.pixels.specs.declared.Pixels.the-variants.{Edges}
+use Rattle.pixels_laws.specs.Quarter.{StyleInQuarters, AnsweredInQuarters, now, later}
 use Rattle.pixels_laws.specs.Laws.{HasEdges, BoxHasEdges}
 use Rattle.pixels_laws.proofs.Accepted.{exact-accepted}
 use Rattle.pixels_laws.proofs.Sizes.{either, In, MaybeIn, SizeIn, KnownIn, widen-known, zero-in, definite-in, filled-in, clamped-in, floats-in}
@@ -86,18 +87,18 @@ located a h k q =
 
 pub has-edges : {l : Layout} {offset : Point} → LayoutIn l → Quarter (offset .x) → Quarter (offset .y) → HasEdges l offset
 unfolding pixelEdges allAccepted
-has-edges {l} {offset} h x y = (
-  edgesOf (l .location) (l .size) offset,
-  rw (
-    exact-accepted (lit≤ tt) (h .x .1),
-    exact-accepted (lit≤ tt) (h .y .1),
-    exact-accepted (lit≤ tt) (eighths (h .size .width .l)),
-    exact-accepted (lit≤ tt) (eighths (h .size .height .l)),
-    exact-accepted (lit≤ tt) (eighths (quarters-exact x)),
-    exact-accepted (lit≤ tt) (eighths (quarters-exact y)),
-  )
-      refl,
-)
+has-edges {l} {offset} h x y =
+    let given : pixelEdges l offset ≡ Edges (edgesOf (l .location) (l .size) offset) =
+    rw (
+      exact-accepted (lit≤ tt) (h .x .1),
+      exact-accepted (lit≤ tt) (h .y .1),
+      exact-accepted (lit≤ tt) (eighths (h .size .width .l)),
+      exact-accepted (lit≤ tt) (eighths (h .size .height .l)),
+      exact-accepted (lit≤ tt) (eighths (quarters-exact x)),
+      exact-accepted (lit≤ tt) (eighths (quarters-exact y)),
+    )
+    refl in
+    (_, given)
 
 -- ---- dialogues, S being asked of what the box surfaces
 

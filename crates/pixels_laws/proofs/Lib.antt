@@ -3,3 +3,4 @@ pub mod Sizes
 pub mod Resolved
 pub mod Box
 pub mod Run
+pub mod Tests

@@ -32,8 +32,8 @@ use Rattle.mirror_box.specs.Quarter.{QuarterLength}
 use Rattle.mirror_box.proofs.Bounds.{lengthBound, staticBound, edgesBound, sizeBound, fitBound}
 use Rattle.mirror_box.proofs.Lengths.{length-same}
 use Rattle.mirror_box.proofs.Resolve.{or-zero}
-use Rattle.mirror_run.specs.Quarter.{QuarterPlace}
-use Rattle.pixels_laws.specs.Quarter.{AreaInQuarters, SizeInQuarters, StyleInQuarters}
+use Rattle.mirror_run.specs.Quarter.{AreaInQuarters, QuarterPlace}
+use Rattle.pixels_laws.specs.Quarter.{SizeInQuarters, StyleInQuarters}
 use Rattle.pixels_laws.proofs.Sizes.{either, In, MaybeIn, SizeIn, KnownIn, widen-size, zero-in, definite-in, first-in, added-in, raised-in, clamped-in}
 
 -- ---- an axis

@@ -38,7 +38,7 @@ use Rattle.run.proofs.Straight.{straight-run}
 use Rattle.run.proofs.Ways.{OpeningWay, begins, turnedDown, opening-way}
 use Rattle.run.proofs.Worlds.{claimed-after, claimed-count}
 use Rattle.run.specs.Call.{Outcome}
-use Rattle.mirror_run.specs.Quarter.{QuarterItem, QuarterTable, QuarterCandidates, QuarterPlace}
+use Rattle.mirror_run.specs.Quarter.{AreaInQuarters, QuarterItem, QuarterTable, QuarterCandidates, QuarterPlace}
 use Rattle.mirror_run.specs.Runs.{Each, one, layoutOfBox}
 use Rattle.mirror_run.proofs.Again.{again-exact, again-same}
 use Rattle.mirror_run.proofs.Claimed.{node-there, slice-back}
@@ -47,7 +47,7 @@ use Rattle.mirror_run.proofs.Lists.{nobody, first-at, first-by, each-kept}
 use Rattle.mirror_run.proofs.Styles as styles
 use Rattle.mirror_run.proofs.Surfaced.{none-kept}
 use Rattle.mirror_run.proofs.Verdicts.{OpeningPassed, opening-passed}
-use Rattle.pixels_laws.specs.Quarter.{AreaInQuarters, StyleInQuarters, QuarterTo, AnsweredInQuarters, now, later}
+use Rattle.pixels_laws.specs.Quarter.{StyleInQuarters, QuarterTo, AnsweredInQuarters, now, later}
 use Rattle.pixels_laws.specs.Laws.{All, QuarterHeard, RunHasEdges}
 use Rattle.pixels_laws.proofs.Box.{LayoutIn, has-edges, placed-in}
 

@@ -19,15 +19,15 @@ use Rattle.run.specs.Call.{Lent}
 use Rattle.run.specs.Refusals.{lentBy}
 use Rattle.run.specs.Run.{claimsOf, opened}
 use Rattle.run.specs.Theorems.{isRefused, Heard, Turn, AllLend, laidSoFar, called, heededIn}
-use Rattle.mirror_run.specs.Quarter.{QuarterPlace, QuarterTable, QuarterCandidates, QuarterReply}
+use Rattle.mirror_run.specs.Quarter.{AreaInQuarters, QuarterPlace, QuarterTable, QuarterCandidates, QuarterReply}
 use Rattle.mirror_run.specs.Runs.{layoutOfBox}
-use Rattle.pixels_laws.specs.Quarter.{AreaInQuarters, StyleInQuarters, AnsweredInQuarters}
+use Rattle.pixels_laws.specs.Quarter.{StyleInQuarters, AnsweredInQuarters}
 
 -- `pixel_edges` has edges for it, and no refusal
 abbrev pub HasEdges : Layout → Point → Type 0
 HasEdges l offset = (p : PixelRect) × (pixelEdges l offset ≡ Edges p)
 
--- ---- a box, whatever it surfaces
+-- ---- a box, whatever it surfaces; the area's width may be 0
 
 abbrev pub BoxHasEdges : Type 0
 BoxHasEdges =

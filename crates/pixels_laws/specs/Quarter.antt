@@ -1,6 +1,5 @@
--- Whole quarter pixels of size 4,096 at most, along both axes: what demand 3 asks of area, style, candidate and replies
--- (mirror_run/specs/Quarter.antt), for one box. A length is one by its tag, so that no percentage stands. The area's width may be 0.
--- Assumes nothing.
+-- Whole quarter pixels of size 4,096 at most, along both axes: what demand 3 asks of a style and of replies (mirror_run/specs/Quarter.antt),
+-- for one box. A length is one by its tag, so that no percentage stands. Assumes nothing.
 use mathlib.Core.Path.{_≡_}
 use mathlib.Core.List.{List}
 use Rattle.util.specs.declared.math.MaybeF32.the-variants.{None}
@@ -8,18 +7,11 @@ use Rattle.style.specs.declared.Style.{Style}
 use Rattle.style.specs.declared.compact_length.LengthRect.{LengthRect}
 use Rattle.style.specs.declared.compact_length.LengthSize.{LengthSize}
 use Rattle.tree.specs.declared.layout.OofCandidate.{OofCandidate}
-use Rattle.tree.specs.declared.layout.OofPositioningArea.{OofPositioningArea}
 use Rattle.oof_box.specs.Talk.{Talk, done, ask, ReplyTo}
 use Rattle.oof_box.specs.declared.question.Question.{Question}
 use Rattle.oof_box.specs.declared.question.Question.the-variants.{MeasureBoth, MeasureWidth, MeasureHeight, LayOut}
 use Rattle.util_exact.specs.Value.{Quarter}
 use Rattle.mirror_box.specs.Quarter.{QuarterLength}
-
-pub record AreaInQuarters (a : OofPositioningArea) : Type 0 where
-  pub width : Quarter (a .size .width)
-  pub height : Quarter (a .size .height)
-  pub x : Quarter (a .offset .x)
-  pub y : Quarter (a .offset .y)
 
 -- each length by its tag
 pub record SidesInQuarters (r : LengthRect) : Type 0 where
