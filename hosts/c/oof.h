@@ -376,9 +376,9 @@ uint32_t oof_reply_laid_out(float left, float right, float top, float bottom,
  * itself is drawn at pixel 0. Negative sizes are taken: the right edge is then left of the left one, or equal to it, and the
  * bottom one above the top one, or equal to it.
  * Refuses with 9 unless each of the six numbers is a whole eighth of a pixel, and at most 9,999,999 eighths (1,249,999.875
- * pixels) in size. A run whose area, lengths, static areas and replies are whole quarter pixels of at most 4,096, without
- * percentage and ratio and without surfaced boxes that are claimed, has no box that is refused, while nobody else writes the
- * lent words.
+ * pixels) in size. A run whose area, lengths, scrollbar widths, static areas and replies are whole quarter pixels of at most
+ * 4,096, without percentage and ratio and without surfaced boxes that are claimed, has no box that is refused, while nobody
+ * else writes the lent words.
  *   - A centered box whose free space is an odd count of eighths stands half an eighth off, and gets 9: in an area of 800 at
  *     0, with left and right inset 0, auto margins and width 100.125, x is 349.9375.
  *   - Pixel edges are not mirrored: a half goes to the right in a right-to-left area too. In an area of 16 eighths a box from

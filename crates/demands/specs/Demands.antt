@@ -157,7 +157,7 @@ QuartersHaveEdges =
     → All (QuarterHeard (claimsOf o)) (heededIn o candidates lent turns)
     → (i : ℕ) → i < laidSoFar has → HasEdges (layoutOfBox has i) (o .area .offset)
 
--- ---- What is demanded of runs: the function `demanded` of src/lib.rt ensures these, so that a crate without a proof of each is not proved.
+-- ---- What is demanded of runs, and the theorem beyond: the function `demanded` of src/lib.rt ensures these, so that a crate without a proof of each is not proved.
 
 pub record Demanded : Type 0 where
   pub three-questions-each : ThreeQuestionsEach

@@ -141,9 +141,10 @@ module _ (before : List ℤ) where
   edges-kept (Edges edges) h = absurd (h refl)
   edges-kept (pixels.Refused r) h = refl
 
-  edges-written : (p : Pixels) (q : PixelRect) → p ≡ Edges q → edgesTold p before .edges ≡ q .left ∷ q .right ∷ q .top ∷ q .bottom ∷ []
+  edges-written : (p : Pixels) → edgesTold p before .result ≡ 0 → (q : PixelRect) × (p ≡ Edges q) × (edgesTold p before .edges ≡ q .left ∷ q .right ∷ q .top ∷ q .bottom ∷ [])
   unfolding edgesTold
-  edges-written p q e = rw e refl
+  edges-written (Edges q) h = (q, refl, refl)
+  edges-written (pixels.Refused r) h = absurd (refused-is-not r h)
 
 pub pixels-demands :
     (layout : List ℕ) (offset : Point) (before : List ℤ) {has : PixelsReturned} → has ≡ pixelsInWords layout offset before

@@ -56,7 +56,7 @@ pub record PixelsDemands (layout : List ℕ) (offset : Point) (before : List ℤ
   pub refused : (n : ℕ) → n ≢ 0 → (has .result ≡ n) ↔ FirstIs (pixelTests (layoutOf layout) offset) n
   pub accepted : (has .result ≡ 0) ↔ NoneHolds (pixelTests (layoutOf layout) offset)
   pub kept : has .result ≢ 0 → has .edges ≡ before
-  pub written : (p : PixelRect) → pixelEdges (layoutOf layout) offset ≡ Edges p → has .edges ≡ p .left ∷ p .right ∷ p .top ∷ p .bottom ∷ []
+  pub written : has .result ≡ 0 → (p : PixelRect) × (pixelEdges (layoutOf layout) offset ≡ Edges p) × (has .edges ≡ p .left ∷ p .right ∷ p .top ∷ p .bottom ∷ [])
 
 -- "A run asks at most three questions for each box hoisted", whatever words the host rewrites between calls: at most three for each box,
 -- and none for one that isn't hoisted, which the state's word 7 tells
@@ -81,9 +81,10 @@ EqualsStraightRun =
     → Run o candidates styles before turns has
     → StandsInWords (lentIn styles before) (length (heededIn o candidates (lentIn styles before) turns)) has (courseOf o candidates (lentIn styles before) turns)
 
--- ---- Beyond the demands: of whole quarter pixels no box meets refusal 9 (pixels_laws/specs)
+-- ---- Beyond the demands: under what demand 3 asks of area, styles, candidates and replies, but that the area's width may be 0, no box
+-- meets refusal 9 (pixels_laws/specs)
 
--- the layout's words of box i, record i of the working list: they stand at its node's place
+-- the layout's words of box i, record i of the working list: they stand at its node's place, where a node claimed twice has its last layout
 abbrev pub wordsOfBox : Words → ℕ → List ℕ
 wordsOfBox w i = recordAt layoutWidth (w .layouts) (candidateOf (recordAt candidateWidth (w .working) i) .node)
 
@@ -97,7 +98,7 @@ QuartersHaveEdges =
     (i : ℕ) → i < laidCount (state .progress) (state .counts .begun)
     → (edges : List ℤ) → pixelsInWords (wordsOfBox (has .words) i) (o .area .offset) edges .result ≡ 0
 
--- ---- What is demanded of runs: the function `demanded` of src/lib.rt ensures these, so that a crate without a proof of each is not proved.
+-- ---- What is demanded of runs, and the theorem beyond: the function `demanded` of src/lib.rt ensures these, so that a crate without a proof of each is not proved.
 
 pub record Demanded : Type 0 where
   pub three-questions-each : ThreeQuestionsEach

@@ -1,5 +1,6 @@
 -- What demand 3 asks of a run: whole quarter pixels of size 4,096 at most (`Quarter`), an area whose width isn't 0, no percentage and no
--- ratio. Only what bears on x is put to use: along y both runs have the same words. Assumes nothing.
+-- ratio. The mirror puts to use only what bears on x, since along y both runs have the same words; whole pixels, both (pixels_laws), and no
+-- width that isn't 0. Assumes nothing.
 use Prim.Native.Nat.{ℕ, _+_, _*_, _/_, _<_}
 use mathlib.Core.Path.{_≡_}
 use mathlib.Core.List.{List}
@@ -24,6 +25,7 @@ pub record AreaInQuarters (area : OofPositioningArea) : Type 0 where
   pub x : Quarter (area .offset .x)
   pub y : Quarter (area .offset .y)
 
+-- and demand 3's "area width not 0"
 pub record QuarterArea (area : OofPositioningArea) : Type 0 where
   pub quarters : AreaInQuarters area
   pub notZero : area .size .width ≐ 0f → ⊥

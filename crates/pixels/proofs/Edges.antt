@@ -20,7 +20,7 @@ use Rattle.pixels.specs.declared.Pixels.the-variants.{Edges, Refused}
 use Rattle.pixels.specs.Accepted.{accepted, inEighths}
 use Rattle.pixels.specs.Pixels.{pixelOf, lineOf, edgesOf, allAccepted, numbersRead, pixelEdges}
 use Rattle.pixels.specs.Conditions.{IsInEighths, NotAllInEighths}
-use Rattle.pixels.specs.Laws.{RefusedExactly, OnlySixAreRead, EdgesAreExact, OffsetDropsOut, TouchingStays, TouchingByFloatsStays, Near, SizesAreNear, EdgesInOrder, Small, EdgesAreSmall}
+use Rattle.pixels.specs.Laws.{RefusedExactly, OnlySixAreRead, EdgesAreExact, OffsetDropsOut, TouchingStays, TouchingByFloatsStays, Near, SizesAreNear, Ordered, EdgesInOrder, Small, EdgesAreSmall}
 use Rattle.pixels.proofs.Pairs.{add-is, neg-is, times-is, le-from, le-to, lt-to}
 use Rattle.pixels.proofs.Held.{Within, start-within, end-within}
 use Rattle.pixels.proofs.Laws.{pixel-is, order-is-kept}
@@ -146,8 +146,18 @@ pub offset-drops-out : OffsetDropsOut
 offset-drops-out l o p e begin b =
     let g = given l o p e in
     let s = edges-are-exact l o p e in (
-      λ k. s .left ∙ ap pixelOf (dropped _ _ _ b (g .offsetX) (g .x) k),
-      λ k. s .top ∙ ap pixelOf (dropped _ _ _ b (g .offsetY) (g .y) k),
+      λ k. from (l .location .x) (o .x) (l .size .width) (s .left) (s .right) (dropped _ _ _ b (g .offsetX) (g .x) k),
+      λ k. from (l .location .y) (o .y) (l .size .height) (s .top) (s .bottom) (dropped _ _ _ b (g .offsetY) (g .y) k),
+    )
+  where
+    from : (at offset size : Float) {start end : ℤ}
+        → start ≡ pixelOf (inEighths at -ℤ inEighths offset)
+        → end ≡ pixelOf (inEighths at +ℤ inEighths size -ℤ inEighths offset)
+        → inEighths at -ℤ inEighths offset ≡ inEighths begin
+        → (start ≡ pixelOf (inEighths begin)) × (end ≡ pixelOf (inEighths begin +ℤ inEighths size))
+    from at offset size h k d = (
+      h ∙ ap pixelOf d,
+      k ∙ ap pixelOf (sym (turned (inEighths at) (inEighths offset) (inEighths size))) ∙ ap (λ (z : ℤ). pixelOf (z +ℤ inEighths size)) d,
     )
 
 pub touching-stays : TouchingStays
@@ -190,13 +200,15 @@ pub sizes-are-near : SizesAreNear
 unfolding edgesOf
 sizes-are-near l o p e = rw (given l o p e .edges) (near _ _ _, near _ _ _)
 
-in-order : (at size offset : Float) → let l = lineOf at size offset in pos 0 ≤ℤ inEighths size → l .start ≤ℤ l .end
+in-order : (at size offset : Float) → let l = lineOf at size offset in Ordered (l .start) (l .end) size
 unfolding lineOf
-in-order at size offset h =
+in-order at size offset =
     let n = inEighths at -ℤ inEighths offset in
-    let s = add-is n (inEighths size) in
-    let l = le-from h in
-    order-is-kept n (n +ℤ inEighths size) (le-to n (n +ℤ inEighths size) (omega arith))
+    let m = n +ℤ inEighths size in
+    let s = add-is n (inEighths size) in (
+      λ h. let l = le-from h in order-is-kept n m (le-to n m (omega arith)),
+      λ h. let l = le-from h in order-is-kept m n (le-to m n (omega arith)),
+    )
 
 pub edges-in-order : EdgesInOrder
 unfolding edgesOf

@@ -76,14 +76,15 @@ pub record AtExactEdges (l : Layout) (o : Point) (p : PixelRect) : Type 0 where
 abbrev pub EdgesAreExact : Type 0
 EdgesAreExact = (l : Layout) (o : Point) (p : PixelRect) → pixelEdges l o ≡ Edges p → AtExactEdges l o p
 
--- "relative to the area": a run writes as x where the box begins in its area plus the area's offset (oof_place/specs/Placing.antt), and the
--- offset drops out
+-- "relative to the area": a run writes as x where the box begins in its area plus the area's offset (oof_place/specs/Placing.antt). Where that
+-- beginning is in eighths, the offset drops out; the same down
 abbrev pub OffsetDropsOut : Type 0
 OffsetDropsOut =
     (l : Layout) (o : Point) (p : PixelRect) → pixelEdges l o ≡ Edges p
     → (begin : Float) → accepted begin ≡ true
-    → (eq (begin ⊕ o .x) (l .location .x) ≡ true → p .left ≡ pixelOf (inEighths begin))
-    × (eq (begin ⊕ o .y) (l .location .y) ≡ true → p .top ≡ pixelOf (inEighths begin))
+    → let n = inEighths begin in
+    (eq (begin ⊕ o .x) (l .location .x) ≡ true → (p .left ≡ pixelOf n) × (p .right ≡ pixelOf (n +ℤ inEighths (l .size .width))))
+    × (eq (begin ⊕ o .y) (l .location .y) ≡ true → (p .top ≡ pixelOf n) × (p .bottom ≡ pixelOf (n +ℤ inEighths (l .size .height))))
 
 -- "Two boxes whose edges touch before still touch after": in one area, where the one ends exactly where the other begins
 abbrev pub TouchingStays : Type 0
@@ -108,11 +109,14 @@ SizesAreNear =
     (l : Layout) (o : Point) (p : PixelRect) → pixelEdges l o ≡ Edges p
     → Near (p .right -ℤ p .left) (l .size .width) × Near (p .bottom -ℤ p .top) (l .size .height)
 
--- a size that isn't negative gives no right edge left of the left one
+-- a size that isn't negative gives no end before its start, and one that isn't positive none after it
+abbrev pub Ordered : ℤ → ℤ → Float → Type 0
+Ordered start end size = (pos 0 ≤ℤ inEighths size → start ≤ℤ end) × (inEighths size ≤ℤ pos 0 → end ≤ℤ start)
+
 abbrev pub EdgesInOrder : Type 0
 EdgesInOrder =
     (l : Layout) (o : Point) (p : PixelRect) → pixelEdges l o ≡ Edges p
-    → (pos 0 ≤ℤ inEighths (l .size .width) → p .left ≤ℤ p .right) × (pos 0 ≤ℤ inEighths (l .size .height) → p .top ≤ℤ p .bottom)
+    → Ordered (p .left) (p .right) (l .size .width) × Ordered (p .top) (p .bottom) (l .size .height)
 
 -- no edge is more than 3,750,000 pixels from the area's left or top one: an i32 holds it
 abbrev pub Small : ℤ → Type 0

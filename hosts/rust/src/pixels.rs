@@ -24,9 +24,9 @@ impl Layout {
     /// ```
     ///
     /// Location, size and offset must be whole eighths of a pixel, of at most 9,999,999 eighths (1,249,999.875 pixels) in size;
-    /// nothing else is read. Otherwise [`Refusal::NotInEighths`]. A run whose area, lengths, static areas and replies are whole
-    /// quarter pixels of at most 4,096, without percentage and ratio and without surfaced boxes that are claimed, has no box that is
-    /// refused. But a centered box whose free space is an odd count of eighths stands half an eighth off: in an area of 800 at 0, with
+    /// nothing else is read. Otherwise [`Refusal::NotInEighths`]. A run whose area, lengths, scrollbar widths, static areas and replies
+    /// are whole quarter pixels of at most 4,096, without percentage and ratio and without surfaced boxes that are claimed, has no box
+    /// that is refused. But a centered box whose free space is an odd count of eighths stands half an eighth off: in an area of 800 at 0, with
     /// left and right inset 0, auto margins and width 100.125, x is 349.9375.
     ///
     /// Edges are not mirrored: a half goes to the right in a right-to-left area too. In an area of 16 eighths a box from 4 to 12
