@@ -11,9 +11,6 @@ use Rattle.refusal.specs.declared.Refusal.{Refusal}
 use Rattle.tree.specs.declared.layout.Layout.{Layout}
 use Rattle.tree.specs.declared.layout.OofCandidate.{OofCandidate}
 use Rattle.tree.specs.declared.layout.OofPositioningArea.{OofPositioningArea}
-use Rattle.records.specs.Records.{recordAt}
-use Rattle.tree_record.specs.Candidate.{candidateWidth, candidateOf}
-use Rattle.tree_record.specs.Layout.{layoutWidth, layoutOf}
 use Rattle.sweep.specs.Sweep.{firstCandidates, candidatesIn, claimed}
 use Rattle.oof_box.specs.declared.question.Question.{Question}
 use Rattle.run.specs.declared.Extents.{Extents}
@@ -24,7 +21,7 @@ use Rattle.run.specs.Call.{Lent, Outcome}
 use Rattle.run.specs.declared.Opening.{Opening}
 use Rattle.run.specs.declared.State.{State}
 use Rattle.run.specs.Refusals.{lentBy}
-use Rattle.run.specs.Run.{extentsOf, opened}
+use Rattle.run.specs.Run.{layoutAt, extentsOf, opened}
 use Rattle.run.specs.Theorems.{isRefused, Loan, own, other, Turn, turned, laidSoFar, claimedSoFar, hoisted}
 use Rattle.mirror_box.specs.Mirrored.{CandidateImage, SameQuestion, MirroredLayout, SameRect}
 use Rattle.mirror_run.specs.Quarter.{QuarterReply}
@@ -121,7 +118,7 @@ unclaimedSoFar o = firstCandidates (o .step .state .counts .filled .unclaimed) (
 
 -- the layout of box i as its words say, at its node's place
 abbrev pub layoutOfBox : Outcome → ℕ → Layout
-layoutOfBox o i = layoutOf (recordAt layoutWidth (o .layouts) (candidateOf (recordAt candidateWidth (o .working) i) .node))
+layoutOfBox o i = layoutAt (o .layouts) (o .working) i
 
 pub record MirroredRuns (area : OofPositioningArea) (atOpening : ℕ) (o o' : Outcome) : Type 0 where
   -- the answer to the last call

@@ -77,7 +77,7 @@ down-is (negsuc n) t = rw (over n, under (n / 8)) refl
 abbrev pub Within : ℕ → ℤ → Type 0
 Within b z = (up z ≤ b) × (off z ≤ b)
 
-within-mag : (b : ℕ) (z : ℤ) → Within b z → mag z ≤ b
+pub within-mag : (b : ℕ) (z : ℤ) → Within b z → mag z ≤ b
 within-mag b (pos n) h = h .0
 within-mag b (negsuc n) h = let k = h .1 in omega arith
 
@@ -85,7 +85,7 @@ pub within-abs : (b : ℕ) (z : ℤ) → Within b z → natAbs z ≤ b
 within-abs b (pos n) h = h .0
 within-abs b (negsuc n) h = h .1
 
-abs-within : (b : ℕ) (z : ℤ) → natAbs z ≤ b → Within b z
+pub abs-within : (b : ℕ) (z : ℤ) → natAbs z ≤ b → Within b z
 abs-within b (pos n) h = (h, omega arith)
 abs-within b (negsuc n) h = (omega arith, h)
 
@@ -153,7 +153,7 @@ eighths-within x = go (countOf x) refl
     go (Whole false n) e = let k = count-is-small x false n e in (k .0, omega arith)
     go (Whole true n) e = let k = count-is-small x true n e in let t = neg-is (pos n) in (omega arith, omega arith)
 
-more : (b c : ℕ) (z : ℤ) → b ≤ c → Within b z → Within c z
+pub more : (b c : ℕ) (z : ℤ) → b ≤ c → Within b z → Within c z
 more b c z h k = (omega arith, omega arith)
 
 pub held-eighths : (x : Float) → toZ w64 (ofZ w64 (inEighths x)) ≡ inEighths x

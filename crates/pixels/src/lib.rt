@@ -1,9 +1,10 @@
 // Whole pixels (request #101): the pixel edges of a box, from its layout and the area's offset. 1.0 of a layout is one pixel.
 ghost use mathlib.Core.Path.{_≡_};
 ghost use Prim.Native.Nat.{_≤_};
+ghost use mathlib.Core.List.{[], _∷_};
 ghost use lib.IntN.{natAbs};
 ghost use Rattle.pixels.specs.Accepted.{signed, accepted, inEighths};
-ghost use Rattle.pixels.specs.Pixels.{floor, pixelOf, lineOf, numbersRead, allAccepted, pixelEdges};
+ghost use Rattle.pixels.specs.Pixels.{floor, pixelOf, lineOf, allAccepted, pixelEdges};
 use geometry::Point;
 use geometry::Size;
 use refusal::Refusal;
@@ -95,26 +96,26 @@ fn line(at: f32, size: f32, offset: f32) -> PixelLine
     }
 }
 
-// Whether all six numbers are accepted.
-fn all_accepted(location: Point, size: Size, offset: Point) -> bool
-    ensures { λ r. ⌜ r ≡ allAccepted (numbersRead location size offset) ⌝ }
+// Whether six numbers are accepted.
+pub fn are_accepted(a: f32, b: f32, c: f32, d: f32, e: f32, f: f32) -> bool
+    ensures { λ r. ⌜ r ≡ allAccepted (a ∷ b ∷ c ∷ d ∷ e ∷ f ∷ []) ⌝ }
 {
-    if !is_accepted(location.x) {
+    if !is_accepted(a) {
         return false;
     }
-    if !is_accepted(location.y) {
+    if !is_accepted(b) {
         return false;
     }
-    if !is_accepted(size.width) {
+    if !is_accepted(c) {
         return false;
     }
-    if !is_accepted(size.height) {
+    if !is_accepted(d) {
         return false;
     }
-    if !is_accepted(offset.x) {
+    if !is_accepted(e) {
         return false;
     }
-    is_accepted(offset.y)
+    is_accepted(f)
 }
 
 // The pixel edges of a box that stands as `layout` says, its location including the area's offset, as a run writes it. Refused where
@@ -124,7 +125,14 @@ pub fn pixel_edges(layout: Layout, offset: Point) -> Pixels
 {
     let location = layout.location;
     let size = layout.size;
-    if !all_accepted(location, size, offset) {
+    if !are_accepted(
+        location.x,
+        location.y,
+        size.width,
+        size.height,
+        offset.x,
+        offset.y,
+    ) {
         return Pixels::Refused(Refusal::NotInEighths);
     }
     let x = line(location.x, size.width, offset.x);

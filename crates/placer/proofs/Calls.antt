@@ -30,7 +30,7 @@ use Rattle.sweep.proofs.Listed.{AllBelow}
 use Rattle.placer.proofs.Nodes.{good-below, below-at, item-words}
 
 -- records that are not bad
-fine : (styles list : List ℕ) (count : ℕ) → badCandidate styles list count ≡ false → goodRecords (candidateKinds (items styles)) list count ≡ true
+pub fine : (styles list : List ℕ) (count : ℕ) → badCandidate styles list count ≡ false → goodRecords (candidateKinds (items styles)) list count ≡ true
 unfolding badCandidate
 fine styles list count e = not-false _ e
 
@@ -58,7 +58,7 @@ pub record Passed (s : State) (reply : Reply) (surfaced : List ℕ) (l : Lent) :
   pub listed : AllBelow (items (l .styles)) (firstCandidates (s .counts .filled .working) (l .working))
   pub brought : AllBelow (items (l .styles)) (candidatesIn (lentBy reply surfaced))
 
-table : (styles layouts : List ℕ) → badTable styles layouts ≡ false → length layouts ≡ layoutWidth * items styles
+pub table : (styles layouts : List ℕ) → badTable styles layouts ≡ false → length layouts ≡ layoutWidth * items styles
 unfolding badTable
 table styles layouts e =
     eqb-true _ _ (not-false _ (neither (ragged styleWords styles || ltb 1024 (items styles)) (not (eqb (length layouts) (layoutWidth * items styles))) e .1))

@@ -10,3 +10,8 @@ use Rattle.placer_check.specs.declared.Verdict.the-variants.{Accepted, R
 abbrev pub thenRoom : Verdict → Bool → run.Verdict
 thenRoom (Refused r) full = refused r
 thenRoom Accepted full = ListFull when full else accepted
+
+-- what tests found that no test of room follows
+abbrev pub verdictOf : Verdict → run.Verdict
+verdictOf (Refused r) = refused r
+verdictOf Accepted = accepted

@@ -1,8 +1,9 @@
 // Conditions on the lent slices.
 ghost use mathlib.Core.Path.{_≡_};
 ghost use Rattle.tree_record.specs.Candidate.{candidateWidth};
-ghost use Rattle.run.specs.Refusals.{ragged, badTable, badList, badSlices, badStyle, badCandidate};
+ghost use Rattle.run.specs.Refusals.{ragged, badTable, badList, badSlices, otherLengths, badLent, badStyle, badCandidate};
 ghost use Rattle.run.specs.Call.{atEntry};
+use run::Extents;
 use style_record::check;
 use style_record::check::TableCheck;
 use style_record::words::STYLE_WORDS;
@@ -57,6 +58,44 @@ pub fn are_slices_bad(styles: &[u32], layouts: &[u32], working: &[u32], unclaime
         return true;
     }
     is_list_bad(unclaimed)
+}
+
+// A slice of another length than at the opening.
+fn are_lengths_other(
+    e: Extents,
+    styles: &[u32],
+    layouts: &[u32],
+    working: &[u32],
+    unclaimed: &[u32],
+) -> bool
+    ensures { λ r. ⌜ r ≡ otherLengths e (atEntry styles layouts working unclaimed) ⌝ }
+{
+    if styles.len() != e.styles {
+        return true;
+    }
+    if layouts.len() != e.layouts {
+        return true;
+    }
+    if working.len() != e.working {
+        return true;
+    }
+    unclaimed.len() != e.unclaimed
+}
+
+// The four slices of a call after the opening: bad ones, or of other lengths.
+pub fn is_lent_bad(
+    e: Extents,
+    styles: &[u32],
+    layouts: &[u32],
+    working: &[u32],
+    unclaimed: &[u32],
+) -> bool
+    ensures { λ r. ⌜ r ≡ badLent e (atEntry styles layouts working unclaimed) ⌝ }
+{
+    if are_slices_bad(styles, layouts, working, unclaimed) {
+        return true;
+    }
+    are_lengths_other(e, styles, layouts, working, unclaimed)
 }
 
 // ---- 3: bad style

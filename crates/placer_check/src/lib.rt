@@ -2,7 +2,7 @@
 // decides it, after all of these.
 use refusal::Refusal;
 
-mod lent;
+pub mod lent;
 pub mod opening;
 pub mod reply;
 

@@ -4,7 +4,7 @@ ghost use mathlib.Core.Bool.{_||_};
 ghost use mathlib.Core.List.{[]};
 ghost use lib.ListN.{length};
 ghost use Rattle.tree_record.specs.Candidate.{candidateWidth};
-ghost use Rattle.run.specs.Refusals.{ragged, badSlices, otherLengths, lentBy, badCandidate, badCandidates, listFull, wrongCounts};
+ghost use Rattle.run.specs.Refusals.{ragged, badLent, lentBy, badCandidate, badCandidates, listFull, wrongCounts};
 ghost use Rattle.run.specs.Run.{takenBy, isWrong, replyVerdict};
 ghost use Rattle.run.specs.Call.{lent, atEntry};
 ghost use Rattle.placer_check.specs.Verdict.{thenRoom};
@@ -20,28 +20,6 @@ use run::State;
 use tree_record::candidate::CANDIDATE_WORDS;
 
 // ---- 2: bad extent
-
-// A slice of another length than at the opening.
-fn are_lengths_other(
-    e: Extents,
-    styles: &[u32],
-    layouts: &[u32],
-    working: &[u32],
-    unclaimed: &[u32],
-) -> bool
-    ensures { λ r. ⌜ r ≡ otherLengths e (atEntry styles layouts working unclaimed) ⌝ }
-{
-    if styles.len() != e.styles {
-        return true;
-    }
-    if layouts.len() != e.layouts {
-        return true;
-    }
-    if working.len() != e.working {
-        return true;
-    }
-    unclaimed.len() != e.unclaimed
-}
 
 // How many words of the surfaced slice are looked at: those of a lay-out reply only.
 fn looked_at(reply: Reply, surfaced: &[u32]) -> usize
@@ -65,12 +43,9 @@ fn are_extents_bad(
     working: &[u32],
     unclaimed: &[u32],
 ) -> bool
-    ensures { λ r. ⌜ r ≡ (badSlices (atEntry styles layouts working unclaimed) || otherLengths e (atEntry styles layouts working unclaimed) || ragged candidateWidth (lentBy reply (now (surfaced .entry)))) ⌝ }
+    ensures { λ r. ⌜ r ≡ (badLent e (atEntry styles layouts working unclaimed) || ragged candidateWidth (lentBy reply (now (surfaced .entry)))) ⌝ }
 {
-    if lent::are_slices_bad(styles, layouts, working, unclaimed) {
-        return true;
-    }
-    if are_lengths_other(e, styles, layouts, working, unclaimed) {
+    if lent::is_lent_bad(e, styles, layouts, working, unclaimed) {
         return true;
     }
     looked_at(reply, surfaced) % CANDIDATE_WORDS != 0

@@ -62,6 +62,10 @@ otherLengths e lent =
     || not (eqb (length (lent .working)) (e .working))
     || not (eqb (length (lent .unclaimed)) (e .unclaimed))
 
+-- the four slices of a call after the opening
+abbrev pub badLent : Extents → Lent → Bool
+badLent e lent = badSlices lent || otherLengths e lent
+
 -- the surfaced slice goes by the reply's kind: only that of a lay-out reply is looked at
 abbrev pub lentBy : Reply → List ℕ → List ℕ
 lentBy (Both size) surfaced = []
@@ -96,10 +100,15 @@ listFull by lent filled candidates =
 
 -- ---- 6: wrong reply
 
+-- more filled records than the lists have places for
+abbrev pub aboveLists : List ℕ → List ℕ → Filled → Bool
+aboveLists working unclaimed filled =
+    ltb (length working / candidateWidth) (filled .working) || ltb (length unclaimed / candidateWidth) (filled .unclaimed)
+
 -- state counts exceed the lists, boxes begun not 1 to the filled working records, or question count above 3 × the boxes begun
 unfoldable pub wrongCounts : Lent → Counts → Bool
 wrongCounts lent c =
-    ltb (length (lent .working) / candidateWidth) (c .filled .working) || ltb (length (lent .unclaimed) / candidateWidth) (c .filled .unclaimed)
+    aboveLists (lent .working) (lent .unclaimed) (c .filled)
     || eqb (c .begun) 0
     || ltb (c .filled .working) (c .begun)
     || ltb (3 * c .begun) (c .answered)

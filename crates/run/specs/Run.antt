@@ -13,10 +13,11 @@ use Rattle.style.specs.Codes.{directionOf, overflowOf, bit0, bit1}
 use Rattle.style.specs.declared.Direction.the-variants.{Ltr}
 use Rattle.style.specs.declared.Overflow.the-variants.{Visible}
 use Rattle.style.specs.declared.ContainingBlockClaims.{ContainingBlockClaims}
+use Rattle.tree.specs.declared.layout.Layout.{Layout}
 use Rattle.tree.specs.declared.layout.OofCandidate.{OofCandidate}
 use Rattle.records.specs.Records.{recordAt, written}
 use Rattle.tree_record.specs.Candidate.{candidateWidth, candidateOf}
-use Rattle.tree_record.specs.Layout.{layoutWidth, layoutWords}
+use Rattle.tree_record.specs.Layout.{layoutWidth, layoutOf, layoutWords}
 use Rattle.style_record.specs.Decode.{styleAt}
 use Rattle.sweep.specs.Sweep.{candidatesIn, moved, sweptInto}
 use Rattle.sweep.specs.declared.Filled.{Filled}
@@ -37,9 +38,14 @@ use Rattle.run.specs.declared.State.{State}
 use Rattle.run.specs.declared.Answer.the-variants.{Ask, Finish, Refused}
 use Rattle.run.specs.declared.Step.{Step}
 use Rattle.run.specs.Call.{Lent, Outcome, unwritten}
-use Rattle.run.specs.Refusals.{Verdict, accepted, refused, _when_else_, badArea, ragged, badSlices, otherLengths, badStyle, badCandidate, badCandidates, listFull, wrongCounts, lentBy}
+use Rattle.run.specs.Refusals.{Verdict, accepted, refused, _when_else_, badArea, ragged, badSlices, badLent, badStyle, badCandidate, badCandidates, listFull, wrongCounts, lentBy}
 
 -- ---- from one question to the next
+
+-- the layout of the box whose record stands at a place of the working list, from 0: the one at its node's place
+abbrev pub layoutAt : List ℕ → List ℕ → ℕ → Layout
+layoutAt layouts working place =
+    layoutOf (recordAt layoutWidth layouts (candidateOf (recordAt candidateWidth working place) .node))
 
 -- the box at hand is the last one begun, as its record says now
 unfoldable pub boxAtHand : List ℕ → Counts → OofCandidate
@@ -162,7 +168,7 @@ isWrong (Laid overflow) = false
 -- tests 2, 6, 3, 4, 5
 unfoldable pub replyVerdict : State → Reply → List ℕ → Lent → Verdict
 replyVerdict s reply surfaced lent =
-    BadExtent when (badSlices lent || otherLengths (s .opened .extents) lent || ragged candidateWidth (lentBy reply surfaced)) else
+    BadExtent when (badLent (s .opened .extents) lent || ragged candidateWidth (lentBy reply surfaced)) else
     WrongReply when (isWrong (takenBy s reply) || wrongCounts lent (s .counts)) else
     BadStyle when badStyle (lent .styles) else
     BadCandidate when (badCandidate (lent .styles) (lent .working) (s .counts .filled .working) || badCandidates (lent .styles) (lentBy reply surfaced)) else

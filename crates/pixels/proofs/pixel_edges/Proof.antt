@@ -8,12 +8,12 @@ use borrow.Author.Tests.{not-true, not-false}
 use Rattle.pixels.proofs.pixel_edges.Statement.{statement}
 use Rattle.pixels.proofs.pixel_edges.Tie as tie
 
-all-accepted-requires : tie.Need-all-accepted-requires
-all-accepted-requires c κs = search needs
+are-accepted-requires : tie.Need-are-accepted-requires
+are-accepted-requires c κs = search needs
 
 returns : tie.Need-returns
 unfolding pixelEdges edgesOf
-returns c = simp (← c .before .all-accepted .ensures, not-true (c .before .all-accepted .result) (c .if1 .taken))
+returns c = simp (← c .before .are-accepted .ensures, not-true (c .before .are-accepted .result) (c .if1 .taken))
 
 line-requires : tie.Need-line-requires
 line-requires c κs = search needs
@@ -26,9 +26,9 @@ unfolding pixelEdges edgesOf
 returns-2 c =
     let x = c .before .before .before .line .ensures in
     let y = c .before .before .line2 .ensures in
-    simp (← c .before .before .before .before .before .all-accepted .ensures, not-false (c .before .before .before .before .before .all-accepted .result) (c .before .before .before .before .if1 .left), ← c .before .before .before .line .ensures, ← c .before .before .line2 .ensures)
+    simp (← c .before .before .before .before .before .are-accepted .ensures, not-false (c .before .before .before .before .before .are-accepted .result) (c .before .before .before .before .if1 .left), ← c .before .before .before .line .ensures, ← c .before .before .line2 .ensures)
     (rw (held-start _ _ _ _ x, held-end _ _ _ _ x, held-start _ _ _ _ y, held-end _ _ _ _ y) refl)
 
 pub pixel-edges-spec : {M : Type 1} → statement M
 pixel-edges-spec =
-    tie.close (tie.spec all-accepted-requires returns line-requires line-requires-2 returns-2)
+    tie.close (tie.spec are-accepted-requires returns line-requires line-requires-2 returns-2)

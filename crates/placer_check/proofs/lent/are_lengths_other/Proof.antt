@@ -2,10 +2,10 @@
 use mathlib.Core.Path.{refl}
 use Rattle.run.specs.Refusals.{otherLengths}
 use borrow.Author.Tests.{eq-eqb, ne-eqb}
-use Rattle.placer_check.proofs.reply.are_lengths_other.Statement.{statement}
-use Rattle.placer_check.proofs.reply.are_lengths_other.Tie as tie
-use Rattle.placer_check.proofs.reply.are_lengths_other.Reads as reads
-use Rattle.placer_check.proofs.reply.are_lengths_other.Lts as lts
+use Rattle.placer_check.proofs.lent.are_lengths_other.Statement.{statement}
+use Rattle.placer_check.proofs.lent.are_lengths_other.Tie as tie
+use Rattle.placer_check.proofs.lent.are_lengths_other.Reads as reads
+use Rattle.placer_check.proofs.lent.are_lengths_other.Lts as lts
 
 returns : tie.Need-returns
 unfolding otherLengths

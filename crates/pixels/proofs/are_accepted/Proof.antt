@@ -1,12 +1,12 @@
 -- Generated skeleton (tools/proof/write-skeletons), answers by hand.
--- `pixels::all_accepted` meets its contract. Assumes nothing.
+-- `pixels::are_accepted` meets its contract. Assumes nothing.
 use Rattle.pixels.specs.Pixels.{allAccepted}
 use borrow.Author.Needs.{needs}
 use mathlib.Core.Bool.{and-true}
 use mathlib.Core.Path.{sym}
 use borrow.Author.Tests.{not-true, not-false}
-use Rattle.pixels.proofs.all_accepted.Statement.{statement}
-use Rattle.pixels.proofs.all_accepted.Tie as tie
+use Rattle.pixels.proofs.are_accepted.Statement.{statement}
+use Rattle.pixels.proofs.are_accepted.Tie as tie
 
 is-accepted-requires : tie.Need-is-accepted-requires
 is-accepted-requires c κs = search needs
@@ -50,8 +50,8 @@ returns-6 : tie.Need-returns-6
 unfolding allAccepted
 returns-6 c = simp (← c .before .before .before .before .before .before .before .before .before .before .is-accepted .ensures, not-false (c .before .before .before .before .before .before .before .before .before .before .is-accepted .result) (c .before .before .before .before .before .before .before .before .before .if1 .left), ← c .before .before .before .before .before .before .before .before .is-accepted2 .ensures, not-false (c .before .before .before .before .before .before .before .before .is-accepted2 .result) (c .before .before .before .before .before .before .before .if2 .left), ← c .before .before .before .before .before .before .is-accepted3 .ensures, not-false (c .before .before .before .before .before .before .is-accepted3 .result) (c .before .before .before .before .before .if3 .left), ← c .before .before .before .before .is-accepted4 .ensures, not-false (c .before .before .before .before .is-accepted4 .result) (c .before .before .before .if4 .left), ← c .before .before .is-accepted5 .ensures, not-false (c .before .before .is-accepted5 .result) (c .before .if5 .left), ← c .is-accepted6 .ensures) (sym (and-true _))
 
-pub all-accepted-spec : {M : Type 1} → statement M
-all-accepted-spec =
+pub are-accepted-spec : {M : Type 1} → statement M
+are-accepted-spec =
     tie.close
     (tie.spec
     is-accepted-requires

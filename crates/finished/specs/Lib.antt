@@ -1,0 +1,3 @@
+pub mod Finished
+pub mod Conditions
+pub mod Laws
