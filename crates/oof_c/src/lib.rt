@@ -1,9 +1,12 @@
-// The C entries: a run whose state and answer stand in lent words, and the pixel edges of a box. A slice passes as a pointer, then its
-// length in words; state, answer, a layout and edges pass as a pointer each. hosts/c/oof.h declares them for C.
+// The C entries: a run whose state and answer stand in lent words, the pixel edges of a box, and whether scrolling brings a box up. A slice
+// passes as a pointer, then its length in words; state, answer, a layout, edges and a verdict pass as a pointer each. hosts/c/oof.h declares
+// them for C.
 ghost use mathlib.Core.Path.{_≡_};
 ghost use mathlib.Core.List.{[]};
 ghost use Rattle.oof_c_words.specs.Entry.{came, before, returned, openingOf, openedInWords, repliedInWords};
 ghost use Rattle.oof_c_words.specs.PixelWords.{pixelsReturned, pixelsInWords};
+ghost use Rattle.run.specs.Call.{atEntry};
+ghost use Rattle.oof_c.specs.ReachWords.{reachReturned, reachInWords};
 use geometry::Point;
 use geometry::Rect;
 use geometry::Size;
@@ -11,6 +14,7 @@ use oof_box::question::Reply;
 use oof_c_words::answer::ANSWER_WORDS;
 use oof_c_words::state::STATE_WORDS;
 use pixels::lent::EDGES;
+use reach::lent::VERDICT;
 use run::Opening;
 use tree::layout::OofPositioningArea;
 use tree_record::layout::LAYOUT_WORDS;
@@ -203,4 +207,22 @@ pub extern "C" fn oof_pixels(
     let l = tree_record::layout::layout_at(layout, 0);
     let p = pixels::pixel_edges(l, Point { x, y });
     pixels::lent::tell(p, edges)
+}
+
+// Whether scrolling brings up the box at a place of a finished run.
+#[no_mangle]
+pub extern "C" fn oof_reach(
+    place: usize,
+    styles: &[u32],
+    layouts: &[u32],
+    working: &[u32],
+    unclaimed: &[u32],
+    state: &[u32; STATE_WORDS],
+    verdict: &mut [u32; VERDICT],
+) -> u32
+    ensures { λ r. ⌜ reachReturned r verdict ≡ reachInWords place (atEntry styles layouts working unclaimed) (came state) (now (verdict .entry)) ⌝ }
+{
+    let s = oof_c_words::state::state_of(state);
+    let reached = reach::reach(place, s, styles, layouts, working, unclaimed);
+    reach::lent::tell(reached, verdict)
 }

@@ -1,7 +1,6 @@
 -- Steps 4 to 7: with replies of whole quarter pixels a box's size is such, and its location is whole eighths. Assumes nothing.
 use mathlib.Core.Path.{_≡_, refl}
 use mathlib.Core.Bool.{Bool, not, _&&_}
-use mathlib.Core.List.{List}
 use Prim.Native.Nat.{ℕ, _+_, _≤_}
 use lib.Dec.{lit<, lit≤}
 use lib.Ieee.{Float}
@@ -11,10 +10,13 @@ use Rattle.util.specs.declared.math.MaybeF32.the-variants.{None}
 use Rattle.geometry.specs.Geometry.{bothPresent, withRatio}
 use Rattle.geometry.specs.declared.MaybeSize.{MaybeSize}
 use Rattle.geometry.specs.declared.Point.{Point}
+use Rattle.geometry.specs.declared.Rect.{Rect}
 use Rattle.geometry.specs.declared.Size.{Size}
+use Rattle.style.specs.Values.{anyScrollContainer}
 use Rattle.style.specs.declared.Style.{Style}
 use Rattle.tree.specs.declared.layout.Layout.{Layout}
 use Rattle.tree.specs.declared.layout.OofCandidate.{OofCandidate}
+use Rattle.oof_common.specs.ScrollableOverflow.{contribution}
 use Rattle.oof_common.specs.SizingKeyword.{keywordsOf}
 use Rattle.oof_common.specs.declared.sizing_keyword.SizingKeywordResolution.{SizingKeywordResolution}
 use Rattle.oof_common.specs.declared.sizing_keyword.SizingKeywordResolution.the-variants.{NoKeyword, Exact, Measure}
@@ -24,8 +26,8 @@ use Rattle.oof_axis.specs.declared.OofAxis.{OofAxis}
 use Rattle.oof_resolve.specs.Resolved.{resolvedBox}
 use Rattle.oof_resolve.specs.declared.ContainingBlock.{ContainingBlock}
 use Rattle.oof_resolve.specs.declared.ResolvedBox.{ResolvedBox}
-use Rattle.oof_place.specs.Placing.{layoutOf, boxLayout}
-use Rattle.oof_box.specs.Talk.{Talk, _>>=_}
+use Rattle.oof_place.specs.Placing.{layoutOf, fromOrigin, boxLayout}
+use Rattle.oof_box.specs.Talk.{Laid, Talk, _>>=_}
 use Rattle.oof_box.specs.Box.{_by_, keywordStretch, sizeKeywords, hasKeyword, settled, widthAs, heightAs, inTurn, byKeywords, keywordSizes, widened, heightened, stretched, finalSize, measured, Placed, placed}
 use Rattle.oof_box.specs.declared.sizing.Stretched.{Stretched}
 use Rattle.util_exact.specs.Integer.{N, addN}
@@ -100,9 +102,14 @@ has-edges {l} {offset} h x y =
     refl in
     (_, given)
 
--- ---- dialogues, S being asked of what the box surfaces
+-- what a box of a layout adds to the overflow
+abbrev pub adds : ContainingBlock → Style → Layout → Rect
+adds container style l =
+    contribution (fromOrigin container (l .location) (l .size)) (l .size) (l .overflow) (style .overflow) (style .contain) (anyScrollContainer (container .overflow))
 
-module _ (S : List OofCandidate → Type 0) where
+-- ---- dialogues, S being asked of the reply to lay out
+
+module _ (S : Laid → Type 0) where
   bind : {A B : Type 0} (P : A → Type 0) (Q : B → Type 0) (m : Talk A) (next : A → Talk B) → AnsweredInQuarters S P m → ((a : A) → P a → AnsweredInQuarters S Q (next a)) → AnsweredInQuarters S Q (m >>= next)
   unfolding _>>=_
   bind P Q _ next (now {a = a} p) f = f a p
@@ -189,9 +196,11 @@ module _ (S : List OofCandidate → Type 0) where
   -- ---- the whole box
 
   module _ (container : ContainingBlock) (style : Style) (candidate : OofCandidate) (hb : AreaInQuarters (container .area)) (hs : StyleInQuarters style) (hc : QuarterPlace candidate) where
-    -- its layout, and what it surfaces
-    abbrev pub PlacedIn : Placed → Type 0
-    PlacedIn p = LayoutIn (p .outcome .layout) × S (p .surfaced)
+    -- its layout, what it adds to the overflow, and what was replied
+    pub record PlacedIn (p : Placed) : Type 0 where
+      pub layout : LayoutIn (p .outcome .layout)
+      pub contribution : p .outcome .contribution ≡ adds container style (p .outcome .layout)
+      pub laid : S (record { overflow = p .outcome .layout .overflow; surfaced = p .surfaced })
 
     pub placed-in : AnsweredInQuarters S PlacedIn (placed container style candidate)
     unfolding placed boxLayout layoutOf _>>=_
@@ -201,7 +210,15 @@ module _ (S : List OofCandidate → Type 0) where
         bind (KnownIn sizeBound) PlacedIn (keywordSizes (candidate .node) style box (sizeKeywords style box)) _ (known-in style hs (candidate .node) box h)
         (λ known k. bind (SizeIn fitBound) PlacedIn (measured (candidate .node) box (stretched style box known)) _
         (measured-in style hs (candidate .node) box h (stretched style box known) (stretched-in style hs (candidate .node) box h known (widen-known (lit≤ tt) k)))
-        (λ size s. later (λ laid g. now (record { size = s; x = located (box .horizontal) (h .across) (s .width) (hb .x); y = located (box .vertical) (h .down) (s .height) (hb .y) }, g))))
+        (λ size s.
+        later
+        (λ laid g.
+        now
+        (record {
+          layout = record { size = s; x = located (box .horizontal) (h .across) (s .width) (hb .x); y = located (box .vertical) (h .down) (s .height) (hb .y) };
+          contribution = refl;
+          laid = g;
+        }))))
 
   pub weaker : {A : Type 0} (P Q : A → Type 0) (m : Talk A) → ((a : A) → P a → Q a) → AnsweredInQuarters S P m → AnsweredInQuarters S Q m
   weaker P Q _ f (now {a = a} p) = now (f a p)
@@ -209,6 +226,6 @@ module _ (S : List OofCandidate → Type 0) where
 
 pub box-has-edges : BoxHasEdges
 box-has-edges container style candidate hb hs hc =
-    let S : List OofCandidate → Type 0 = λ surfaced. Unit {0} in
+    let S : Laid → Type 0 = λ laid. Unit {0} in
     weaker S (PlacedIn S container style candidate hb hs hc) (λ p. HasEdges (p .outcome .layout) (container .area .offset)) (placed container style candidate)
-    (λ p h. has-edges (h .0) (hb .x) (hb .y)) (placed-in S container style candidate hb hs hc)
+    (λ p h. has-edges (h .layout) (hb .x) (hb .y)) (placed-in S container style candidate hb hs hc)

@@ -20,8 +20,9 @@ use Rattle.records.proofs.Laws.{written-length}
 use Rattle.tree_record.specs.Candidate.{candidateWidth, candidateOf}
 use Rattle.tree_record.specs.Layout.{layoutWidth, layoutOf, layoutWords}
 use Rattle.sweep.specs.Sweep.{candidatesIn, firstCandidates, claimed, moved, keep, appended}
+use Rattle.sweep.specs.declared.Filled.{Filled}
 use Rattle.sweep.specs.declared.Shift.the-variants.{By}
-use Rattle.oof_box.specs.Talk.{Talk, ReplyTo}
+use Rattle.oof_box.specs.Talk.{Laid, Talk, ReplyTo}
 use Rattle.oof_box.specs.Box.{Placed, placed}
 use Rattle.oof_box.specs.Theorems.{replyTo}
 use Rattle.oof_box.specs.declared.question.Question.{Question}
@@ -31,14 +32,14 @@ use Rattle.oof_box.specs.declared.question.Reply.the-variants as reply
 use Rattle.run.specs.declared.Opening.{Opening}
 use Rattle.run.specs.Call.{Lent}
 use Rattle.run.specs.Refusals.{badStyle}
-use Rattle.run.specs.Run.{claimsOf, containerOf}
+use Rattle.run.specs.Run.{claimsOf, containerOf, opened}
 use Rattle.run.specs.Straight.{World, Box, atOpening, afterBox, Course, ended, asks, during, boxes, straight}
-use Rattle.run.specs.Theorems.{isRefused, Heard, orStay, hearing, soFar, laidInto, claimedIn, called, heededIn, courseOf}
+use Rattle.run.specs.Theorems.{isRefused, Heard, Turn, AllLend, orStay, hearing, soFar, laidInto, laidSoFar, claimedIn, called, heededIn, courseOf}
 use Rattle.run.proofs.Straight.{straight-run}
 use Rattle.run.proofs.Ways.{OpeningWay, begins, turnedDown, opening-way}
 use Rattle.run.proofs.Worlds.{claimed-after, claimed-count}
 use Rattle.run.specs.Call.{Outcome}
-use Rattle.mirror_run.specs.Quarter.{AreaInQuarters, QuarterItem, QuarterTable, QuarterCandidates, QuarterPlace}
+use Rattle.mirror_run.specs.Quarter.{AreaInQuarters, QuarterItem, QuarterTable, QuarterCandidates, QuarterPlace, QuarterReply}
 use Rattle.mirror_run.specs.Runs.{Each, one, layoutOfBox}
 use Rattle.mirror_run.proofs.Again.{again-exact, again-same}
 use Rattle.mirror_run.proofs.Claimed.{node-there, slice-back}
@@ -50,6 +51,7 @@ use Rattle.mirror_run.proofs.Verdicts.{OpeningPassed, opening-passed}
 use Rattle.pixels_laws.specs.Quarter.{StyleInQuarters, QuarterTo, AnsweredInQuarters, now, later}
 use Rattle.pixels_laws.specs.Laws.{All, QuarterHeard, RunHasEdges}
 use Rattle.pixels_laws.proofs.Box.{LayoutIn, has-edges, placed-in}
+use Rattle.pixels_laws.proofs.Overflow.{RectIn, zero-rect-in, union-in, adds-in}
 
 -- ---- a layout, written and read
 
@@ -128,6 +130,10 @@ module _ (o : Opening) (candidates : List ℕ) (lent : Lent) (area : AreaInQuart
   abbrev Unclaimed : List OofCandidate → Type 0
   Unclaimed cs = claimed by cs ≡ []
 
+  -- a reply to lay out
+  abbrev LaidBy : Laid → Type 0
+  LaidBy r = Unclaimed (r .surfaced) × QuarterReply (reply.LaidOut (r .overflow))
+
   -- a candidate, and itself
   record Ready (c c' : OofCandidate) : Type 0 where
     same : c ≡ c'
@@ -137,12 +143,13 @@ module _ (o : Opening) (candidates : List ℕ) (lent : Lent) (area : AreaInQuart
   record WorldIn (w : World) : Type 0 where
     laid : All (LaidIn n) (w .laid)
     claimed : claimedIn w ≡ keep by true (candidatesIn candidates)
+    overflow : RectIn (w .overflow)
 
   data CourseIn : Course → Type 0 where
     over : {w : World} → WorldIn w → CourseIn (ended w)
-    asked : {w : World} {q : Question} {next : ReplyTo q → Course} → WorldIn w → ((r : ReplyTo q) → QuarterTo Unclaimed q r → CourseIn (next r)) → CourseIn (asks w q next)
+    asked : {w : World} {q : Question} {next : ReplyTo q → Course} → WorldIn w → ((r : ReplyTo q) → QuarterTo LaidBy q r → CourseIn (next r)) → CourseIn (asks w q next)
 
-  during-in : (w : World) → WorldIn w → (P : Placed → Type 0) (t : Talk Placed) (k : Placed → Course) → AnsweredInQuarters Unclaimed P t → ((p : Placed) → P p → CourseIn (k p)) → CourseIn (during w t k)
+  during-in : (w : World) → WorldIn w → (P : Placed → Type 0) (t : Talk Placed) (k : Placed → Course) → AnsweredInQuarters LaidBy P t → ((p : Placed) → P p → CourseIn (k p)) → CourseIn (during w t k)
   unfolding during
   during-in w h P _ k (now {a = p} g) f = f p g
   during-in w h P _ k (later {next = next} g) f = asked h (λ r q. during-in w h P (next r) k (g r q) f)
@@ -152,13 +159,14 @@ module _ (o : Opening) (candidates : List ℕ) (lent : Lent) (area : AreaInQuart
     unfolding afterBox moved
     waits = ap (λ (l : List OofCandidate). rest ++ l) (none-kept by (By (p .outcome .layout .location)) (p .surfaced) none) ∙ append-nil rest
 
-    after-in : WorldIn w → w .waiting ≡ c ∷ rest → LayoutIn (p .outcome .layout) → c .node < n → WorldIn (afterBox by w c rest p)
+    after-in : WorldIn w → w .waiting ≡ c ∷ rest → LayoutIn (p .outcome .layout) → RectIn (p .outcome .contribution) → c .node < n → WorldIn (afterBox by w c rest p)
     unfolding afterBox
-    after-in h e l there =
+    after-in h e l r there =
         record {
           laid = all-append (LaidIn n) (w .laid) (record { candidate = c; layout = p .outcome .layout } ∷ []) (h .laid) ((l, there), tt);
           claimed =
               claimed-after by w c rest p e ∙ ap (λ (l : List OofCandidate). claimedIn w ++ l) (none-kept by (By (p .outcome .layout .location)) (p .surfaced) none) ∙ append-nil (claimedIn w) ∙ h .claimed;
+          overflow = union-in (w .overflow) (p .outcome .contribution) (h .overflow) r;
         }
 
   boxes-in : (most : ℕ) (w : World) (waiting : List OofCandidate) → WorldIn w → w .waiting ≡ waiting → Each Ready waiting waiting → CourseIn (boxes most (containerOf o) by (styleAt (lent .styles)) w waiting)
@@ -167,9 +175,12 @@ module _ (o : Opening) (candidates : List ℕ) (lent : Lent) (area : AreaInQuart
   boxes-in (suc most) w [] h e r = over h
   boxes-in (suc most) w (c ∷ rest) h e (one r rs) =
       during-in w h _ (placed (containerOf o) (styleAt (lent .styles) (c .node)) c) _
-      (placed-in Unclaimed (containerOf o) (styleAt (lent .styles) (c .node)) c area (quarter-style (lent .styles) style (c .node) (r .there) (table (c .node) (r .there))) (r .place))
-      (λ p g. boxes-in most (afterBox by w c rest p) (afterBox by w c rest p .waiting) (after-in w c rest p (g .1) h e (g .0) (r .there)) refl
-      (subst (λ (l : List OofCandidate). Each Ready l l) (sym (waits w c rest p (g .1))) rs))
+      (placed-in LaidBy (containerOf o) (styleAt (lent .styles) (c .node)) c area (quarter-style (lent .styles) style (c .node) (r .there) (table (c .node) (r .there))) (r .place))
+      (λ p g. boxes-in most (afterBox by w c rest p) (afterBox by w c rest p .waiting)
+      (after-in w c rest p (g .laid .0) h e (g .layout)
+      (rw (g .contribution) (adds-in (containerOf o) area (styleAt (lent .styles) (c .node)) (p .outcome .layout) (g .layout) (g .laid .1))) (r .there))
+      refl
+      (subst (λ (l : List OofCandidate). Each Ready l l) (sym (waits w c rest p (g .laid .0))) rs))
 
   -- a reply
   hearing-in : (course : Course) (h : Heard) → QuarterHeard by h → CourseIn course → CourseIn (hearing course h)
@@ -177,7 +188,7 @@ module _ (o : Opening) (candidates : List ℕ) (lent : Lent) (area : AreaInQuart
   hearing-in _ h k (over w) = over w
   hearing-in _ h k (asked {w = w} {q = q} {next = next} g f) = go q (h .reply) k next f
     where
-      go : (q : Question) (r : Reply) → QuarterHeard by (record { reply = r; surfaced = h .surfaced }) → (next : ReplyTo q → Course) → ((r : ReplyTo q) → QuarterTo Unclaimed q r → CourseIn (next r))
+      go : (q : Question) (r : Reply) → QuarterHeard by (record { reply = r; surfaced = h .surfaced }) → (next : ReplyTo q → Course) → ((r : ReplyTo q) → QuarterTo LaidBy q r → CourseIn (next r))
           → CourseIn (orStay (replyTo q (record { reply = r; surfaced = candidatesIn (h .surfaced) })) next (asks w q next))
       go (question.MeasureBoth m) (reply.Both s) k next f = f s (k .0)
       go (question.MeasureBoth m) (reply.Width x) k next f = asked g f
@@ -194,7 +205,7 @@ module _ (o : Opening) (candidates : List ℕ) (lent : Lent) (area : AreaInQuart
       go (question.LayOut l) (reply.Both s) k next f = asked g f
       go (question.LayOut l) (reply.Width x) k next f = asked g f
       go (question.LayOut l) (reply.Height x) k next f = asked g f
-      go (question.LayOut l) (reply.LaidOut x) k next f = f _ (k .1)
+      go (question.LayOut l) (reply.LaidOut x) k next f = f _ (k .1, k .0)
 
   all-heard : (hs : List Heard) (course : Course) → All (QuarterHeard by) hs → CourseIn course → CourseIn (foldl hearing course hs)
   all-heard [] course k h = h
@@ -207,7 +218,7 @@ module _ (o : Opening) (candidates : List ℕ) (lent : Lent) (area : AreaInQuart
   straight-in : QuarterCandidates candidates → OpeningPassed o candidates lent → CourseIn (straight 4096 (containerOf o) by (styleAt (lent .styles)) (candidatesIn candidates))
   unfolding straight atOpening candidatesIn
   straight-in quarter passed =
-      boxes-in 4096 (atOpening by (candidatesIn candidates)) (claimed by (candidatesIn candidates)) (record { laid = tt; claimed = refl }) refl
+      boxes-in 4096 (atOpening by (candidatesIn candidates)) (claimed by (candidatesIn candidates)) (record { laid = tt; claimed = refl; overflow = zero-rect-in }) refl
       (each-kept by true (λ c c' r. ap (λ (c : OofCandidate). c .position) (r .same))
       (first-by (length candidates / candidateWidth) candidates candidates (λ i h. record { same = refl; place = quarter i h; there = node-there n candidates (passed .candidate) i h })))
 
@@ -221,10 +232,23 @@ box-node w ws back i l =
     (ap (λ (cs : List OofCandidate). getD cs i nobody) (sym back) ∙ first-at (length (claimedIn w)) (appended ws 0 (claimedIn w)) i (omega (arith, claimed-count w)))
     (among (w .laid) (w .waiting) i l)
 
-pub run-has-edges : RunHasEdges
-run-has-edges o candidates lent turns area table quarter accepts lends heard i l = has-edges (go (opening-way o candidates lent)) (area .x) (area .y)
+-- what holds of it: its numbers, and that the working list holds the opening's claimed candidates
+pub record RunIn (o : Opening) (candidates : List ℕ) (lent : Lent) (has : Outcome) : Type 0 where
+  pub layouts : (i : ℕ) → i < laidSoFar has → LayoutIn (layoutOfBox has i)
+  pub overflow : RectIn (has .step .state .overflow)
+  pub working : has .working ≡ appended (lent .working) 0 (keep (claimsOf o) true (candidatesIn candidates))
+  pub filled : has .step .state .counts .filled .working ≡ length (keep (claimsOf o) true (candidatesIn candidates))
+
+-- under what `RunHasEdges` asks
+pub run-in : (o : Opening) (candidates : List ℕ) (lent : Lent) (turns : List Turn)
+    → AreaInQuarters (o .area) → QuarterTable (lent .styles) → QuarterCandidates candidates
+    → isRefused (opened o candidates lent .step .answer) ≡ false
+    → AllLend (lent .styles) (opened o candidates lent) turns
+    → All (QuarterHeard (claimsOf o)) (heededIn o candidates lent turns)
+    → RunIn o candidates lent (called o candidates lent turns)
+run-in o candidates lent turns area table quarter accepts lends heard = go (opening-way o candidates lent)
   where
-    go : OpeningWay o candidates lent → LayoutIn (layoutOfBox (called o candidates lent turns) i)
+    go : OpeningWay o candidates lent → RunIn o candidates lent (called o candidates lent turns)
     go (turnedDown r e) = no (ap (λ (x : Outcome). isRefused (x .step .answer)) e) accepts
     go (begins v e) =
         let passed = opening-passed o candidates lent v in
@@ -235,5 +259,15 @@ run-has-edges o candidates lent turns area table quarter accepts lends heard i l
         (all-heard o candidates lent area table (passed .style) (heededIn o candidates lent turns) _ heard (straight-in o candidates lent area table (passed .style) quarter passed)) in
         let back =
         subst (λ (cs : List OofCandidate). firstCandidates (length cs) (appended (lent .working) 0 cs) ≡ cs) (sym (h .claimed)) (slice-back (claimsOf o) candidates (lent .working) true (passed .room .0)) in
-        rw (stands .layouts, stands .working)
-        (words-in (items (lent .styles)) _ (w .laid) (lent .layouts) (passed .layouts) (h .laid) (inr (box-node w (lent .working) back i (subst (λ (n : ℕ). i < n) (stands .laid) l))))
+        record {
+          layouts = λ i l.
+              rw (stands .layouts, stands .working)
+              (words-in (items (lent .styles)) _ (w .laid) (lent .layouts) (passed .layouts) (h .laid) (inr (box-node w (lent .working) back i (subst (λ (n : ℕ). i < n) (stands .laid) l))));
+          overflow = rw (stands .overflow) (h .overflow);
+          working = stands .working ∙ ap (appended (lent .working) 0) (h .claimed);
+          filled = ap (λ (f : Filled). f .working) (stands .filled) ∙ ap length (h .claimed);
+        }
+
+pub run-has-edges : RunHasEdges
+run-has-edges o candidates lent turns area table quarter accepts lends heard i l =
+    has-edges (run-in o candidates lent turns area table quarter accepts lends heard .layouts i l) (area .x) (area .y)

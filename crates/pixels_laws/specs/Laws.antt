@@ -33,7 +33,7 @@ abbrev pub BoxHasEdges : Type 0
 BoxHasEdges =
     (container : ContainingBlock) (style : Style) (candidate : OofCandidate)
     → AreaInQuarters (container .area) → StyleInQuarters style → QuarterPlace candidate
-    → AnsweredInQuarters (λ surfaced. Unit {0}) (λ (p : Placed). HasEdges (p .outcome .layout) (container .area .offset)) (placed container style candidate)
+    → AnsweredInQuarters (λ laid. Unit {0}) (λ (p : Placed). HasEdges (p .outcome .layout) (container .area .offset)) (placed container style candidate)
 
 -- ---- a run, after its opening and any replies, under demand 3's conditions, but for a width of 0 and in either direction: nobody else writes the lent words, and a reply that isn't refused
 -- is of whole quarter pixels and surfaces no box that is claimed

@@ -2,13 +2,11 @@
 -- (mirror_run/specs/Quarter.antt) as much as bears on pixel edges, so neither scrollbar width nor overflow. A length is one by its tag, so that
 -- no percentage stands. Assumes nothing.
 use mathlib.Core.Path.{_≡_}
-use mathlib.Core.List.{List}
 use Rattle.util.specs.declared.math.MaybeF32.the-variants.{None}
 use Rattle.style.specs.declared.Style.{Style}
 use Rattle.style.specs.declared.compact_length.LengthRect.{LengthRect}
 use Rattle.style.specs.declared.compact_length.LengthSize.{LengthSize}
-use Rattle.tree.specs.declared.layout.OofCandidate.{OofCandidate}
-use Rattle.oof_box.specs.Talk.{Talk, done, ask, ReplyTo}
+use Rattle.oof_box.specs.Talk.{Laid, Talk, done, ask, ReplyTo}
 use Rattle.oof_box.specs.declared.question.Question.{Question}
 use Rattle.oof_box.specs.declared.question.Question.the-variants.{MeasureBoth, MeasureWidth, MeasureHeight, LayOut}
 use Rattle.util_exact.specs.Value.{Quarter}
@@ -35,14 +33,15 @@ pub record StyleInQuarters (s : Style) : Type 0 where
   pub max : SizeInQuarters (s .max)
   pub ratio : s .ratio ≡ None
 
--- a reply to a question, S being asked of the candidates that the box surfaces: nothing of a box by itself, that none is claimed in a run
-abbrev pub QuarterTo : (List OofCandidate → Type 0) → (q : Question) → ReplyTo q → Type 0
+-- a reply to a question, S being asked of the reply to lay out: nothing of a box by itself; in a run that its rectangle is of whole quarters,
+-- and that no candidate that it surfaces is claimed
+abbrev pub QuarterTo : (Laid → Type 0) → (q : Question) → ReplyTo q → Type 0
 QuarterTo S (MeasureBoth m) r = Quarter (r .width) × Quarter (r .height)
 QuarterTo S (MeasureWidth m) r = Quarter r
 QuarterTo S (MeasureHeight m) r = Quarter r
-QuarterTo S (LayOut l) r = S (r .surfaced)
+QuarterTo S (LayOut l) r = S r
 
 -- P holds of the outcome of a dialogue, for every list of such replies
-pub data AnsweredInQuarters {A : Type 0} (S : List OofCandidate → Type 0) (P : A → Type 0) : Talk A → Type 0 where
+pub data AnsweredInQuarters {A : Type 0} (S : Laid → Type 0) (P : A → Type 0) : Talk A → Type 0 where
   now : {a : A} → P a → AnsweredInQuarters S P (done a)
   later : {q : Question} {next : ReplyTo q → Talk A} → ((r : ReplyTo q) → QuarterTo S q r → AnsweredInQuarters S P (next r)) → AnsweredInQuarters S P (ask q next)

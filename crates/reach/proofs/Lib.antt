@@ -1,0 +1,8 @@
+pub mod Rows
+pub mod Axis
+pub mod Held
+pub mod Numbers
+pub mod Offsets
+pub mod Shown
+pub mod Boxes
+pub mod Exactly

@@ -1,0 +1,5 @@
+pub mod Reach
+pub mod Conditions
+pub mod Told
+pub mod Laws
+pub mod Rows
