@@ -1,14 +1,22 @@
 #!/usr/bin/env python3
-"""Holds `boxlist` to the published Rust: ORACLE is the program of diff/oracle (`run.sh` builds it, and does a little of each).
+"""Holds `boxlist` to the published Rust, and `boxreach` to a model over the Rust's list (tools/samples/reach_model.py): ORACLE is the program
+of diff/oracle (`run.sh` builds it, and does a little of each).
 
     diff/screens/compare.py ORACLE random SEED COUNT     random screens, about a quarter of them damaged
     diff/screens/compare.py ORACLE large SEED COUNT      random good screens of up to 128 items and 256 candidates
+    diff/screens/compare.py ORACLE around SEED COUNT     boxes around panels, in whole numbers, most of which scroll
     diff/screens/compare.py ORACLE bytes SEED SECONDS    any bytes: random ones, and good screens changed, cut and run over
 
-`rt check boxlist` makes target/bin/boxlist. Stops at the first difference, crash, or output that is neither a list nor a refusal."""
+`rt check boxlist boxreach` makes the programs, which are taken from target/bin or from the folder PROGRAMS of the environment. Stops at the
+first difference, crash, or output that is neither a list nor a refusal."""
 import collections, glob, os, random, re, subprocess, sys, tempfile, time
 
-boxlist = os.path.join(os.path.dirname(os.path.abspath(__file__)), '..', '..', 'target', 'bin', 'boxlist')
+root = os.path.join(os.path.dirname(os.path.abspath(__file__)), '..', '..')
+sys.path.insert(0, os.path.join(root, 'tools', 'samples'))
+sys.dont_write_bytecode = True
+import reach_model
+
+boxlist, boxreach = (os.path.join(os.environ.get('PROGRAMS') or os.path.join(root, 'target', 'bin'), name) for name in ('boxlist', 'boxreach'))
 HEADER = rb'    node       x       y   width  height    left   right     top  bottom\n'
 LIST = re.compile(HEADER + rb'(?:(?: {0,7}(?:-?\d{1,7}|\*)){9}\n)*overflow(?: {0,7}(?:-?\d{1,7}|\*)){4}\n')
 LINE = re.compile(rb' refused       ([1-8])\n')
@@ -27,7 +35,7 @@ def fail(text, why):
     sys.exit('%s: %s' % (f.name, why))
 
 
-kinds = collections.Counter()
+kinds, verdicts = collections.Counter(), collections.Counter()
 
 
 def hold(text, expected):
@@ -42,6 +50,19 @@ def hold(text, expected):
         kinds['rows'] += found.count(b'\n') - 2
     else:
         fail(text, 'neither a list nor a refusal')
+    hold_verdicts(text, expected)
+
+
+def hold_verdicts(text, expected_list):
+    expected = reach_model.printed(text, expected_list)
+    found = run([boxreach], text)
+    if found != expected:
+        lines = [(a, b) for a, b in zip(found.splitlines(), expected.splitlines()) if a != b] or [(found[-80:], expected[-80:])]
+        fail(text, 'boxreach printed %r, expected %r' % lines[0])
+    if not LINE.fullmatch(found):
+        for line in found.splitlines()[1:]:
+            words = line.split()
+            verdicts['scrolled' if words[2] == b'seen' and words[3:] != [b'0', b'0'] else words[2].decode()] += 1
 
 
 def random_screens(oracle, seed, count):
@@ -82,6 +103,44 @@ def large_screens(oracle, seed, count):
         hold(text, run([oracle, 'screen'], text))
 
 
+def around(r):
+    """whole numbers, so that no row is refused; boxes on all sides of the area, some of them just beside an edge"""
+    width, height, x, y = r.randint(1, 60), r.randint(1, 60), r.randint(-30, 30), r.randint(-30, 30)
+    if r.randrange(12) == 0:
+        width, height = r.choice(((0, height), (width, 0), (-width, height)))
+    n, length = r.randint(1, 8), lambda v: [1, v]
+
+    def start(area, size):
+        return r.choice((r.randint(-60, 150), r.randint(0, 150), r.randint(0, 150), r.randint(0, 9), -size + r.randint(-1, 1), area + r.randint(-1, 1)))
+
+    rows = [[width, height, x, y, r.randrange(2), r.choice((3, 3, 3, 1, 2)), r.choice((0, 1, 2, 2, 3, 3)), r.choice((0, 1, 2, 2, 3, 3)), n, r.randint(1, 10)]]
+    for _ in range(n):
+        w, h = (r.randint(1, 40) if r.randrange(12) else 0 for _ in range(2))
+        across, down = [length(start(width, w)), [3, 0]], [length(start(height, h)), [3, 0]]
+        # mostly from the start edge
+        if (r.randrange(4) == 0) != rows[0][4]:
+            across.reverse()
+        if r.randrange(5) == 0:
+            down.reverse()
+        if r.randrange(6) == 0:
+            across = [[3, 0], [3, 0]]
+        lengths = across + down + [length(0)] * 12 + [length(w), length(h)] + [[3, 0]] * 4
+        own = [r.choice((0, 0, 0, r.randint(-60, 200))) for _ in range(4)]
+        codes = [0, 0, 0, 0, r.randrange(2), 10, 0, 10, 0, r.choice((0, 0, 0, 1, 2, 3)), r.choice((0, 0, 0, 1, 2, 3)), 0, r.choice((0, 0, 0, 2))]
+        rows.append(sum(lengths, []) + codes + [w, h] + own)
+    for k in range(rows[0][9]):
+        rows.append([r.randrange(n), k, r.choice((2, 2, 2, 3)), *sorted(r.randint(-60, 120) for _ in range(2)), r.choice((0, 2)), r.randrange(3), 0,
+                     *sorted(r.randint(-60, 120) for _ in range(2)), r.choice((0, 2)), r.randrange(3), 0])
+    return b''.join(b''.join(b'%11d' % v for v in row) + b'\n' for row in rows)
+
+
+def around_panels(oracle, seed, count):
+    r = random.Random(seed)
+    for _ in range(count):
+        text = around(r)
+        hold(text, run([oracle, 'screen'], text))
+
+
 def changed(r, text):
     """one change of a text"""
     at = r.randrange(len(text) + 1)
@@ -111,7 +170,7 @@ def fuzzed(oracle, seed, seconds):
     with tempfile.TemporaryDirectory() as folder:
         subprocess.check_call([oracle, 'screens', str(seed), '300', folder], stdout=subprocess.DEVNULL)
         good = [open(n, 'rb').read() for n in sorted(glob.glob(folder + '/*.screen'))]
-    good += [open(n, 'rb').read() for n in sorted(glob.glob(os.path.join(os.path.dirname(boxlist), '..', '..', 'screens', '*.screen')))]
+    good += [open(n, 'rb').read() for n in sorted(glob.glob(os.path.join(root, 'screens', '*.screen')))]
     end = time.time() + seconds
     while time.time() < end:
         if r.randrange(8) == 0:
@@ -124,6 +183,6 @@ def fuzzed(oracle, seed, seconds):
 
 
 oracle, what, seed, n = sys.argv[1], sys.argv[2], int(sys.argv[3]), int(sys.argv[4])
-{'random': random_screens, 'large': large_screens, 'bytes': fuzzed}[what](oracle, seed, n)
+{'random': random_screens, 'large': large_screens, 'around': around_panels, 'bytes': fuzzed}[what](oracle, seed, n)
 total = kinds['lists'] + sum(v for k, v in kinds.items() if k.startswith('refused'))
-print('%d texts, all equal: %s' % (total, ', '.join('%s %d' % (k, kinds[k]) for k in sorted(kinds))))
+print('%d texts, all equal: %s; boxes %s' % (total, *(', '.join('%s %d' % (k, counts[k]) for k in sorted(counts)) or 'none' for counts in (kinds, verdicts))))

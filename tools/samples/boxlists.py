@@ -1,13 +1,18 @@
 #!/usr/bin/env python3
-"""Writes the telling screens (screens/) and those at the limits of the format (screens/limits/), each with its list, and what crates/boxlist
-is run on.
+"""Writes the telling screens (screens/) and those at the limits of the format (screens/limits/), each with its list and its verdicts, and
+what crates/boxlist and crates/boxreach are run on.
 
     tools/samples/boxlists.py ORACLE     writes all; ORACLE is the program of diff/oracle, which runs the published Rust
-    tools/samples/boxlists.py --check    says whether the screens are what this script makes of them, and each has a list
+    tools/samples/boxlists.py --reach    writes all but the lists, from the stored lists
+    tools/samples/boxlists.py --check    says whether all is what this script makes of it, and each screen has a list
 
-The screens come from here. A list is what the published Rust makes of its screen or, where that is refused, the refusal by document 01's
-table, which ORACLE has a model of. None of it comes from the Rattle code."""
+The screens come from here. A list (NAME.list, for `boxlist`) is what the published Rust makes of its screen or, where that is refused, the
+refusal by document 01's table, which ORACLE has a model of. The verdicts (NAME.reach, for `boxreach`) are what reach_model.py makes of
+the screen's first line and its list. None of it comes from the Rattle code."""
 import os, subprocess, sys
+
+sys.dont_write_bytecode = True
+import reach_model
 
 root = os.path.join(os.path.dirname(os.path.abspath(__file__)), '..', '..')
 
@@ -58,6 +63,24 @@ def opening(width, height, x=0, y=0, direction=LTR, claims=3, overflow=(VISIBLE,
     return [*map(eighths, (width, height, x, y)), direction, claims, *overflow]
 
 
+def mirrored(o, items, candidates):
+    """the mirror image by document 01: directions flipped, left and right exchanged, the static areas and their edges mirrored"""
+    def exchanged(item):
+        for k in (0, 8, 16, 24):
+            item = item[:k] + item[k + 2:k + 4] + item[k:k + 2] + item[k + 4:]
+        return put(item, 48, 1 - item[48])
+
+    def moved(c):
+        across = 2 * o[2] + o[0]
+        return c[:3] + [across - c[4], across - c[3], 2 - c[5], c[6], 2 - c[7]] + c[8:]
+
+    return put(o, 4, 1 - o[4]), [exchanged(i) for i in items], [moved(c) for c in candidates]
+
+
+def put(values, i, v):
+    return values[:i] + [v] + values[i + 1:]
+
+
 def lines(*rows):
     return b''.join(b''.join(b'%11s' % (n if isinstance(n, bytes) else b'%d' % n) for n in r) + b'\n' for r in rows)
 
@@ -77,6 +100,30 @@ arabic = opening(800, 480, direction=RTL, overflow=(SCROLL, SCROLL))
 mirrored_note = style(
     left=px(800), top=px(200), margin=(px(8), none, none, none), padding=(px(8), px(16), px(8), px(8)), width=px(320), height=px(96), direction=RTL)
 mirrored_label = style(right=px(24), top=px(16), padding=(px(8), px(8), px(4), px(4)), direction=RTL)
+
+# a panel at 16, 40 of its window. Six notes around a label; one more is fixed, and this panel claims absolute ones alone. They are
+# hoisted in another order than their nodes'. Only the overflow differs between the panels of these boxes
+def scrolled(*overflow):
+    return opening(640, 360, x=16, y=40, claims=1, overflow=overflow), [
+        item(style(left=px(24), top=px(16), padding=(px(8), px(4), px(4), px(4))), (160, 24)),
+        item(style(left=px(880), top=px(620), width=px(200), height=px(64))),
+        item(style(left=px(700), top=px(120), width=px(170), height=px(48))),
+        item(style(left=px(240), bottom=px(408), width=px(150), height=px(56))),
+        item(style(right=px(640), top=px(150), width=px(140), height=px(52))),
+        item(style(left=px(-64), top=px(270), width=px(180), height=px(44))),
+        item(style(left=px(120), top=px(500), width=px(190), height=px(40))),
+        item(style(left=px(0), top=px(0)), (30, 30)),
+    ], [candidate(2), candidate(7, position=FIXED), *(candidate(k, order=k, x=(16, 16), y=(40, 40)) for k in (0, 4, 1, 6, 3, 5))]
+
+
+def sixteenth(*overflow):
+    """box 0 is centered left of the panel, and its free space is an odd count of eighths: x is half an eighth off. Box 1 is whole"""
+    return screen(
+        opening(800, 480, overflow=overflow),
+        [item(style(px(-400), px(800), px(100), auto, margin=(auto, auto, none, none), width=px(100.125), height=px(40))),
+         item(style(left=px(900), top=px(40), width=px(160), height=px(24)))],
+        [candidate(0), candidate(1)])
+
 
 telling = {
     'incident': screen(panel, [item(label, (160, 24)), item(note)], [candidate(0), candidate(1, order=1)]),
@@ -106,17 +153,30 @@ telling = {
          item(style(px(20), px(20), px(20), px(20), justify=(STRETCHED, 0), flags=2), (30, 30))],
         [candidate(k, order=k) for k in range(8)]),
     'refused': screen(opening(800, 480), [item(style(padding=(auto, none, none, none)))], [candidate(0)]),
+    'scrolled': screen(*scrolled(HIDDEN, SCROLL)),
+    'scrolled-arabic': screen(*mirrored(*scrolled(HIDDEN, SCROLL))),
+    'clipped': screen(*scrolled(CLIP, HIDDEN)),
+    'sixteenth': sixteenth(SCROLL, SCROLL),
 }
+# each with a mirror image that has the same verdicts
+IMAGES = {'incident': 'arabic', 'scrolled': 'scrolled-arabic', 'reach-touching': 'reach-touching-arabic'}
 
 ABOUT = {
-    'incident': 'a label, and the note that said why a restore was refused, with numbers made up. It ends 8 pixels left of the panel: x −328 pixels (`-2624`), width 320. The overflow holds the label alone: no scrolling goes there',
-    'arabic': 'its mirror image, right-to-left: the note begins 8 pixels right of the panel, at 808 (`6464`). In each row the two x and the width add up to 800',
+    'incident': 'a label, and the note that said why a restore was refused, with numbers made up. It ends 8 pixels left of the panel: x −328 pixels (`-2624`), width 320. The overflow holds the label alone: no scrolling goes there. The label is seen, the note unseen',
+    'arabic': 'its mirror image, right-to-left: the note begins 8 pixels right of the panel, at 808 (`6464`). In each row the two x and the width add up to 800. The verdicts are the same',
     'dialog': 'a dialog centered by auto margins, and one centered by alignment whose size its content gives',
     'labels': 'labels as large as the font says, one in an area of its own, one at the end edge',
     'keywords': 'min-content, max-content, stretch, fit-content in three forms, content, percentages, a ratio, a table',
     'refused': 'padding `auto`, which padding doesn\'t take: refusal 3',
+    'scrolled': 'a panel at 16, 40 of its window, hidden across and scroll down, so that both axes scroll ([picture](../docs/scrolled.svg)). A label and six notes: scrolling right brings up node 2, down node 6, both node 1; node 5 hangs over the left edge and is seen as it is; node 4 ends at that edge and node 3 above the panel: unseen. A further note is fixed, which this panel doesn\'t claim. Places are not nodes: they are hoisted as 2, 0, 4, 1, 6, 3, 5',
+    'scrolled-arabic': 'its mirror image, right-to-left: the same verdicts, and the same offsets, counted leftwards',
+    'clipped': 'the boxes of `scrolled` in a panel that clips across and is hidden down: node 6 is still brought up; what lies to the right is unseen, though the overflow holds it',
+    'sixteenth': 'box 0 is centered left of the panel and lies on a sixteenth of a pixel: its row is refused with 9. Scrolling brings up box 1, which is whole. So a refused box doesn\'t silence the others',
     'limits/list-largest': 'one box at the largest numbers that the list prints; the overflow\'s right is larger, and prints `*`',
     'limits/items-128-candidates-256': 'the longest screen, and the longest list: 256 rows',
+    'limits/reach-touching': 'ten boxes of a few eighths around a tiny panel: they end at an edge, hang over it by one eighth, begin at it or one eighth before it',
+    'limits/reach-far': 'the largest offsets that are printed, 9,999,998 eighths on each axis',
+    'limits/reach-rectangle-left': '`sixteenth` in a visible panel. There the overflow holds box 0, and its left edge is no whole eighth: both rows are refused with 9',
 }
 
 # ---- the limits
@@ -125,10 +185,6 @@ example_style = style(px(100), px(100), px(20), auto, margin=(auto, auto, none, 
 example = screen(opening(800, 480), [example_style + [0] * 6], [candidate(0)])
 HEADER = opening(800, 480) + [1, 1]
 CANDIDATE = candidate(0)
-
-
-def put(values, i, v):
-    return values[:i] + [v] + values[i + 1:]
 
 
 def one(header=HEADER, style=example_style, replies=(0,) * 6, candidate=CANDIDATE):
@@ -140,6 +196,16 @@ def many(n, m, nodes=lambda k, n: k % n if n else 0):
     items = [item(style(left=px(k), top=px(2 * k), width=px(k + 0.125), height=px(10)), (k, k)) for k in range(n)]
     return screen(opening(4000, 3000), items, [candidate(nodes(k, n), order=k) for k in range(m)])
 
+
+def tiny(boxes, o):
+    """boxes of a few eighths: x, y, width, height from the area's corner"""
+    return (o, [item(style([LENGTH, x], auto, [LENGTH, y], auto, width=[LENGTH, w], height=[LENGTH, h])) for x, y, w, h in boxes],
+            [candidate(k) for k in reversed(range(len(boxes)))])
+
+
+# around an area of 8 by 16 eighths: ends at its start edge, hangs over it by one eighth; begins one eighth before its far edge, begins there
+touching = [(-2, 3, 2, 5), (-2, 3, 3, 5), (7, 3, 2, 5), (8, 3, 2, 5), (3, -4, 2, 4), (3, -4, 2, 5), (3, 15, 2, 4), (3, 16, 2, 4), (-2, -2, 3, 3), (20, 40, 4, 6)]
+flat = [(0, 0, 0, 5), (0, 0, 5, 0), (10, 4, 0, 5), (2, 2, 1, 1), (60, 70, 1, 1)]
 
 limits = {
     'example': example,
@@ -183,6 +249,22 @@ limits = {
     'refusal-3-before-4': one(style=put(example_style, 56, 256), candidate=put(CANDIDATE, 0, 1)),
     'refusal-4-node': one(candidate=put(CANDIDATE, 0, 1)),
     'refusal-4-no-item': screen(opening(800, 480), [], [candidate(0)]),
+    'reach-touching': screen(*tiny(touching, opening(1, 2, x=3, y=-5, overflow=(SCROLL, HIDDEN)))),
+    'reach-touching-arabic': screen(*mirrored(*tiny(touching, opening(1, 2, x=3, y=-5, overflow=(SCROLL, HIDDEN))))),
+    'reach-still': screen(*tiny(touching, opening(1, 2, overflow=(VISIBLE, CLIP)))),
+    'reach-scroll-visible': screen(*scrolled(SCROLL, VISIBLE)),
+    'reach-flat-boxes': screen(*tiny(flat, opening(1, 2, overflow=(SCROLL, SCROLL)))),
+    'reach-negative-box': screen(
+        opening(1, 1, overflow=(SCROLL, SCROLL)),
+        [item(style(left=px(0), top=px(0), padding=(px(-9), none, none, none), width=px(-4), height=px(4)), overflow=(0, 50, 0, 60))], [candidate(0)]),
+    'reach-no-width': screen(*tiny(touching, opening(0, 2, overflow=(SCROLL, SCROLL)))),
+    'reach-negative-area': screen(*tiny(touching, opening(-1, -2, overflow=(SCROLL, SCROLL)))),
+    'reach-own-overflow': screen(
+        opening(100, 100, overflow=(SCROLL, SCROLL)),
+        [item(style(left=px(10), top=px(10), width=px(20), height=px(20)), overflow=(-50, 900, -50, 800)), item(style(left=px(-60), top=px(10), width=px(20), height=px(20)))],
+        [candidate(0), candidate(1)]),
+    'reach-far': screen(*tiny([(9999998, 9999998, 1, 1)], [1, 1, 0, 0, LTR, 3, SCROLL, SCROLL])),
+    'reach-rectangle-left': sixteenth(VISIBLE, VISIBLE),
     'refusal-8-before-1': one(put(HEADER, 4, 2), candidate=put(CANDIDATE, 12, b'x')),
 }
 
@@ -195,13 +277,19 @@ overflow       0    4000       0     960
 
 
 def files(lists):
-    """every file that this script writes, by its place; lists by name"""
+    """every file that this script writes, by its place; lists by name, None where there is none"""
     out = {}
     for name, text in {**telling, **limits}.items():
         out[place(name) + '.screen'] = text
         out[place(name) + '.list'] = lists[name]
+        out[place(name) + '.reach'] = lists[name] and reach_model.printed(text, lists[name])
+    for name, image in IMAGES.items():
+        assert out[place(name) + '.reach'] == out[place(image) + '.reach'], name
     out['crates/boxlist/stdin'] = telling['incident']
     out['crates/boxlist/stdout'] = lists['incident']
+    if os.path.isdir(os.path.join(root, 'crates/boxreach')):
+        out['crates/boxreach/stdin'] = telling['scrolled']
+        out['crates/boxreach/stdout'] = out[place('scrolled') + '.reach']
     out['screens/README.md'] = readme().encode()
     return out
 
@@ -213,11 +301,18 @@ def place(name):
 def readme():
     return """# Telling screens
 
-Each `NAME.screen` is a [screen file](../docs/SCREEN-FORMAT.md); `NAME.list` is what the published Rust makes of it or, where it is refused, the refusal by document 01's table. That is what `boxlist` prints, byte for byte:
+Each `NAME.screen` is a [screen file](../docs/SCREEN-FORMAT.md). Beside it stand what two programs print of it, byte for byte:
+
+- `NAME.list`, by `boxlist`: where each box goes. It is what the published Rust makes of the screen or, where it is refused, the refusal by document 01's table.
+- `NAME.reach`, by `boxreach`: [which boxes scrolling brings up](../docs/SCREEN-FORMAT.md#can-each-box-be-reached). It is worked out from the screen's first line and its list, by a search over the offsets (`tools/samples/reach_model.py`).
+
+Such as:
 
     target/bin/boxlist < screens/incident.screen
+    target/bin/boxreach < screens/incident.screen
+    tools/picture.py screens/incident.screen > incident.svg
 
-Numbers are eighths of a pixel. `tools/samples/boxlists.py` writes them; the gate runs each (`tools/run-boxlist`), and those at the limits of the format, which stand in `limits/`.
+Numbers are eighths of a pixel. `tools/samples/boxlists.py` writes all this; the gate runs both programs on each screen (`tools/run-screens`), also on those at the limits of the format, which stand in `limits/`.
 
 """ + ''.join('- `%s`: %s.\n' % (n, t) for n, t in ABOUT.items())
 
@@ -228,21 +323,35 @@ def stored(path):
     return open(path, 'rb').read() if os.path.exists(path) else None
 
 
+def left_over(made):
+    """files in screens/ that this script doesn't write"""
+    found = [os.path.join(folder, f) for folder in ('screens', 'screens/limits') for f in os.listdir(os.path.join(root, folder))]
+    return sorted(p for p in found if p not in made and os.path.isfile(os.path.join(root, p)))
+
+
 def main():
     assert {place(n) for n in telling} <= {'screens/' + n for n in ABOUT} <= {place(n) for n in {**telling, **limits}}
     assert not set(telling) & set(limits)
-    if sys.argv[1:] == ['--check']:
-        lists = {n: stored(place(n) + '.list') for n in {**telling, **limits}}
-        wrong = [p for p, text in files(lists).items() if text is None or stored(p) != text]
+    if len(sys.argv) != 2:
+        sys.exit(__doc__)
+    reach_model.tries()
+    texts = {**telling, **limits}
+    if sys.argv[1] in ('--check', '--reach'):
+        lists = {n: stored(place(n) + '.list') for n in texts}
+    else:
+        lists = {n: subprocess.run([sys.argv[1], 'screen'], input=t, stdout=subprocess.PIPE, check=True).stdout for n, t in texts.items()}
+    assert lists['example'] in (None, EXAMPLE)
+    made = files(lists)
+    if sys.argv[1] == '--check':
+        wrong = [p for p, text in made.items() if text is None or stored(p) != text] + left_over(made)
         for p in wrong:
             print(p, 'is not what tools/samples/boxlists.py writes')
         sys.exit(1 if wrong else 0)
-    lists = {n: subprocess.run([sys.argv[1], 'screen'], input=t, stdout=subprocess.PIPE, check=True).stdout for n, t in {**telling, **limits}.items()}
-    assert lists['example'] == EXAMPLE
-    for p, text in files(lists).items():
-        p = os.path.join(root, p)
-        os.makedirs(os.path.dirname(p), exist_ok=True)
-        open(p, 'wb').write(text)
+    for p, text in made.items():
+        if text is not None:
+            p = os.path.join(root, p)
+            os.makedirs(os.path.dirname(p), exist_ok=True)
+            open(p, 'wb').write(text)
 
 
 main()

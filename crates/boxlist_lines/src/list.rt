@@ -27,7 +27,8 @@ pub const OVERFLOW: usize = 5 * COLUMN + 1;
 
 pub const REFUSAL: usize = 2 * COLUMN + 1;
 
-fn put_bytes(out: &mut [u8], at: usize, bytes: &[u8])
+// Bytes as they are.
+pub fn put_bytes(out: &mut [u8], at: usize, bytes: &[u8])
     requires { ⌜ at + length (now bytes) ≤ length (now out) ⌝ }
     ensures { λ _. ⌜ now (out .exit) ≡ sets (now (out .entry)) at (now (bytes .entry)) ⌝ }
 {

@@ -22,16 +22,22 @@ use Rattle.run.specs.Refusals.{Verdict, accepted, refused}
 use Rattle.run.specs.Conditions.{places}
 use Rattle.run.proofs.Decides.{Decides, opposite, Says, then, no-more, isAccepted, refusalBy, refused-first, accepted-none}
 use Rattle.run.proofs.Conditions.{area-decided, style-decided, candidate-decided}
+use Rattle.run.specs.Call.{Lent}
+use Rattle.run.specs.declared.State.{State}
+use Rattle.boxreach_lines.specs.Lines.{verdictNames}
+use Rattle.boxlist_print.specs.declared.Listing.{Listing}
+use Rattle.boxlist_print.specs.declared.Listing.the-variants.{Boxes, Verdicts}
+use Rattle.boxlist_print.specs.Verdicts.{verdictsText}
 use Rattle.boxlist_print.specs.Printed.{openingOf}
-use Rattle.boxlist_print.specs.Laws.{verdictOf, Shows, list, line, programTests, RefusedExactly, IsList, ListedExactly}
-use Rattle.boxlist_print.proofs.Verdicts.{list-or-refusal}
+use Rattle.boxlist_print.specs.Laws.{verdictOf, Shows, list, verdicts, line, programTests, RefusedExactly, IsList, ListedExactly, ListsDiffer, NoListIsALine}
+use Rattle.boxlist_print.proofs.Tests.{list-or-refusal}
 
 -- ---- the tests
 
 screen-decided : (text : List ℕ) → Decides (isScreen text) (IsScreen text)
 screen-decided text = record { holds = screen-exactly text .0; fails = λ f s. no (screen-exactly text .1 s) f }
 
-program-says : (text : List ℕ) → Says (verdictOf text) (programTests text)
+pub program-says : (text : List ℕ) → Says (verdictOf text) (programTests text)
 unfolding verdictOf
 program-says text =
     then BadScreenLine (opposite (screen-decided text))
@@ -47,12 +53,33 @@ list-byte : (rows : List Row) (overflow : Rect) → getD (listText rows overflow
 unfolding listText headerText lineText joined wordText
 list-byte rows overflow = refl
 
+verdicts-byte : (s : State) (lent : Lent) → getD (verdictsText s lent) 1 0 ≡ 32
+unfolding verdictsText verdictNames lineText joined wordText
+verdicts-byte s lent = refl
+
 line-byte : (n : ℕ) → getD (refusalText n) 1 0 ≡ 114
 unfolding refusalText lineText joined wordText
 line-byte n = refl
 
-apart : {A : Type 0} (rows : List Row) (overflow : Rect) (n : ℕ) → listText rows overflow ≡ refusalText n → A
-apart rows overflow n e = absurd (let z = sym (list-byte rows overflow) ∙ ap (λ (t : List ℕ). getD t 1 0) e ∙ line-byte n in omega arith)
+apart : {A : Type 0} (text : List ℕ) (n : ℕ) → getD text 1 0 ≡ 32 → text ≡ refusalText n → A
+apart text n b e = absurd (let z = sym b ∙ ap (λ (t : List ℕ). getD t 1 0) e ∙ line-byte n in omega arith)
+
+pub no-list-is-a-line : NoListIsALine
+no-list-is-a-line Boxes text n l e = apart _ n (list-byte (l .0) (l .1)) (sym (l .2) ∙ e)
+no-list-is-a-line Verdicts text n l e = apart _ n (verdicts-byte (l .0) (l .1)) (sym (l .2) ∙ e)
+
+-- byte 3 tells a list of verdicts: `place` has a letter more than `node`
+boxes-third : (rows : List Row) (overflow : Rect) → getD (listText rows overflow) 3 0 ≡ 32
+unfolding listText headerText lineText joined wordText
+boxes-third rows overflow = refl
+
+verdicts-third : (s : State) (lent : Lent) → getD (verdictsText s lent) 3 0 ≡ 112
+unfolding verdictsText verdictNames lineText joined wordText
+verdicts-third s lent = refl
+
+pub lists-differ : ListsDiffer
+lists-differ s lent rows overflow e =
+    let z = sym (verdicts-third s lent) ∙ ap (λ (t : List ℕ). getD t 3 0) e ∙ boxes-third rows overflow in omega arith
 
 -- byte 15 tells the number
 abbrev numberIn : List ℕ → ℕ
@@ -75,16 +102,18 @@ same-line q r e = numbers-differ q r (sym (number-back q) ∙ ap numberIn e ∙ 
 
 -- ---- what is shown is the verdict
 
-line-shown : {v : Verdict} {text : List ℕ} (r : Refusal) → Shows v text → (text ≡ refusalText (numberOf r)) ↔ (v ≡ refused r)
-line-shown r (list rows overflow h) = (λ e. apart rows overflow (numberOf r) e, λ e. no {b = true} refl (ap isAccepted e))
+line-shown : {listing : Listing} {v : Verdict} {text : List ℕ} (r : Refusal) → Shows listing v text → (text ≡ refusalText (numberOf r)) ↔ (v ≡ refused r)
+line-shown r (list rows overflow h) = (λ e. apart _ (numberOf r) (list-byte rows overflow) e, λ e. no {b = true} refl (ap isAccepted e))
+line-shown r (verdicts s lent h) = (λ e. apart _ (numberOf r) (verdicts-byte s lent) e, λ e. no {b = true} refl (ap isAccepted e))
 line-shown r (line q) = (λ e. ap refused (same-line q r e), λ e. ap (λ (x : Refusal). refusalText (numberOf x)) (ap refusalBy e))
 
-list-shown : {v : Verdict} {text : List ℕ} → Shows v text → IsList text ↔ (v ≡ accepted)
-list-shown (list rows overflow h) = (λ l. refl, λ e. record { rows = rows; overflow = overflow; whole = refl })
-list-shown (line q) = (λ l. apart (l .rows) (l .overflow) (numberOf q) (sym (l .whole)), λ e. no {b = false} (ap isAccepted e) refl)
+list-shown : {listing : Listing} {v : Verdict} {text : List ℕ} → Shows listing v text → IsList listing text ↔ (v ≡ accepted)
+list-shown (list rows overflow h) = (λ l. refl, λ e. (rows, overflow, refl))
+list-shown (verdicts s lent h) = (λ l. refl, λ e. (s, lent, refl))
+list-shown (line {listing = listing} q) = (λ l. absurd (no-list-is-a-line listing _ (numberOf q) l refl), λ e. no {b = false} (ap isAccepted e) refl)
 
 pub refused-exactly : RefusedExactly
-refused-exactly text r = Iff·trans (line-shown r (list-or-refusal text)) (refused-first r (program-says text))
+refused-exactly listing text r = Iff·trans (line-shown r (list-or-refusal listing text)) (refused-first r (program-says text))
 
 pub listed-exactly : ListedExactly
-listed-exactly text = Iff·trans (list-shown (list-or-refusal text)) (accepted-none (program-says text))
+listed-exactly listing text = Iff·trans (list-shown (list-or-refusal listing text)) (accepted-none (program-says text))

@@ -18,12 +18,17 @@ use Rattle.screen.proofs.Laws.{screen-size}
 use Rattle.run.specs.declared.Opening.{Opening}
 use Rattle.run.specs.declared.Answer.{Answer}
 use Rattle.run.specs.declared.Answer.the-variants.{Ask, Finish, Refused}
-use Rattle.run.specs.Call.{Outcome}
+use Rattle.run.specs.declared.State.{State}
+use Rattle.run.specs.Call.{Lent, Outcome}
 use Rattle.script.specs.Script.{playedOut}
+use Rattle.geometry.specs.declared.Rect.{Rect}
+use Rattle.boxlist_print.specs.declared.Listing.{Listing}
+use Rattle.boxlist_print.specs.declared.Listing.the-variants.{Boxes, Verdicts}
 use Rattle.boxlist_print.specs.Rows.{Prints}
-use Rattle.boxlist_print.specs.Printed.{LIST-BYTES, listBy, listOf, listFrom, lentFor, openingOf, printed}
+use Rattle.boxlist_print.specs.Printed.{LIST-BYTES, finishedText, listBy, listOf, listFrom, lentFor, openingOf, printed}
 use Rattle.boxlist_print.specs.Laws.{PrintedFits, LongIsRefused, CutIsEnough}
 use Rattle.boxlist_print.proofs.Boxes.{rows-count}
+use Rattle.boxlist_print.proofs.Each.{verdicts-bytes}
 use Rattle.boxlist_print.proofs.Room.{room-kept}
 
 -- ---- how long
@@ -33,46 +38,54 @@ few-rows : (o : Opening) (replies candidates styles : List ℕ) (n : ℕ)
     → playedOut o replies candidates (lentFor styles n) .step .state .counts .filled .working ≤ MAX-CANDIDATES
 few-rows o replies candidates styles n = room-kept o replies candidates (lentFor styles n)
 
-list-fits : (o : Outcome) → o .step .state .counts .filled .working ≤ MAX-CANDIDATES → length (listOf o) ≤ LIST-BYTES
+finished-fits : (listing : Listing) (s : State) (overflow : Rect) (lent : Lent) → s .counts .filled .working ≤ MAX-CANDIDATES
+    → length (finishedText listing s overflow lent) ≤ LIST-BYTES
+finished-fits Boxes s overflow lent h = rw (list-bytes, rows-count) (omega arith)
+finished-fits Verdicts s overflow lent h = rw (verdicts-bytes s lent) (omega arith)
+
+list-fits : (listing : Listing) (styles : List ℕ) (o : Outcome) → o .step .state .counts .filled .working ≤ MAX-CANDIDATES
+    → length (listOf listing styles o) ≤ LIST-BYTES
 unfolding listOf
-list-fits o h = go (o .step .answer)
+list-fits listing styles o h = go (o .step .answer)
   where
-    go : (a : Answer) → length (listBy a o) ≤ LIST-BYTES
+    go : (a : Answer) → length (listBy listing styles a o) ≤ LIST-BYTES
     go (Ask q) = lit≤ tt
-    go (Finish f) = rw (list-bytes, rows-count) (omega arith)
+    go (Finish f) = finished-fits listing (o .step .state) (f .overflow) _ h
     go (Refused r) = rw (refusal-bytes (numberOf r)) (lit≤ tt)
 
 pub printed-fits : PrintedFits
 unfolding printed
-printed-fits text = go (isScreen text)
+printed-fits listing text = go (isScreen text)
   where
     go : (b : Bool)
-        → length (cond b (listFrom (headerOf text) (stylesOf text) (itemCount text) (repliesOf text) (candidatesOf text)) (refusalText (numberOf BadScreenLine)))
+        → length (cond b (listFrom listing (headerOf text) (stylesOf text) (itemCount text) (repliesOf text) (candidatesOf text)) (refusalText (numberOf BadScreenLine)))
         ≤ LIST-BYTES
-    go true = list-fits _ (few-rows (openingOf (headerOf text)) (repliesOf text) (candidatesOf text) (stylesOf text) (itemCount text))
+    go true = list-fits listing (stylesOf text) _ (few-rows (openingOf (headerOf text)) (repliesOf text) (candidatesOf text) (stylesOf text) (itemCount text))
     go false = rw (refusal-bytes (numberOf BadScreenLine)) (lit≤ tt)
 
 -- so the printed part of a buffer is there
-pub printed-there : (text before after : List ℕ) (r : ℕ) → LIST-BYTES ≤ length before → Prints r before after (printed text) → r ≤ length after
-printed-there text before after r h p = let k = printed-fits text in rw (p .size, p .bytes, length-sets before 0 (printed text)) (omega arith)
+pub printed-there : (listing : Listing) (text before after : List ℕ) (r : ℕ) → LIST-BYTES ≤ length before → Prints r before after (printed listing text)
+    → r ≤ length after
+printed-there listing text before after r h p =
+    let k = printed-fits listing text in rw (p .size, p .bytes, length-sets before 0 (printed listing text)) (omega arith)
 
 -- ---- a text that is too long
 
 pub long-is-refused : LongIsRefused
 unfolding printed
-long-is-refused text h = go (isScreen text) refl
+long-is-refused listing text h = go (isScreen text) refl
   where
     too-long : (n : ℕ) → 125807 < n → n ≤ 125807 → ⊥
     too-long n h k = omega arith
 
     go : (b : Bool) → isScreen text ≡ b
-        → cond b (listFrom (headerOf text) (stylesOf text) (itemCount text) (repliesOf text) (candidatesOf text)) (refusalText (numberOf BadScreenLine))
+        → cond b (listFrom listing (headerOf text) (stylesOf text) (itemCount text) (repliesOf text) (candidatesOf text)) (refusalText (numberOf BadScreenLine))
         ≡ refusalText 8
     go true e = absurd (too-long (length text) h (screen-size text e .3))
     go false e = refl
 
 pub cut-is-enough : CutIsEnough
-cut-is-enough text = go (leb (length text) 125808) refl
+cut-is-enough listing text = go (leb (length text) 125808) refl
   where
     long : (n : ℕ) → 125808 < n → 125807 < n
     long n h = omega arith
@@ -80,8 +93,8 @@ cut-is-enough text = go (leb (length text) 125808) refl
     cut : 125808 < length text → 125807 < length (take 125808 text)
     cut h = rw (length-take-le 125808 text (omega arith)) (omega arith)
 
-    go : (b : Bool) → leb (length text) 125808 ≡ b → printed (take 125808 text) ≡ printed text
-    go true e = ap printed (take-all 125808 text (leb-true (length text) 125808 e))
+    go : (b : Bool) → leb (length text) 125808 ≡ b → printed listing (take 125808 text) ≡ printed listing text
+    go true e = ap (printed listing) (take-all 125808 text (leb-true (length text) 125808 e))
     go false e =
         let h = leb-false (length text) 125808 e in
-        long-is-refused (take 125808 text) (cut h) ∙ sym (long-is-refused text (long (length text) h))
+        long-is-refused listing (take 125808 text) (cut h) ∙ sym (long-is-refused listing text (long (length text) h))

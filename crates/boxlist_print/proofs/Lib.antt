@@ -1,7 +1,9 @@
 pub mod Boxes
+pub mod Each
 pub mod Room
 pub mod Lists
 pub mod Whole
 pub mod Laws
-pub mod Verdicts
+pub mod Tests
 pub mod Exactly
+pub mod Listed

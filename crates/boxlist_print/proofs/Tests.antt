@@ -11,6 +11,7 @@ use borrow.Author.Tests.{le-leb, le-ltb, eq-eqb}
 use Rattle.util.proofs.Floats.{no}
 use Rattle.refusal.specs.declared.Refusal.{Refusal}
 use Rattle.refusal.specs.declared.Refusal.the-variants.{BadScreenLine}
+use Rattle.screen_fields.specs.Format.{MAX-CANDIDATES}
 use Rattle.screen.specs.Screen.{isScreen, itemCount, headerOf, stylesOf, repliesOf, candidatesOf}
 use Rattle.screen.proofs.Laws.{screen-size, screen-words}
 use Rattle.style.specs.declared.ContainingBlockClaims.{ContainingBlockClaims}
@@ -26,7 +27,7 @@ use Rattle.run.specs.declared.Counts.{Counts}
 use Rattle.run.specs.declared.Opened.{Opened}
 use Rattle.run.specs.declared.Answer.{Answer}
 use Rattle.run.specs.declared.Answer.the-variants.{Ask, Finish, Refused}
-use Rattle.run.specs.Call.{Outcome}
+use Rattle.run.specs.Call.{Outcome, lent}
 use Rattle.run.specs.Refusals.{Verdict, accepted, refused, _when_else_, ragged, badTable, badList, badSlices, listFull}
 use Rattle.run.specs.Run.{asking, finishing, proceeding, claimsOf, noneFilled, openingVerdict, begun, opened}
 use Rattle.run.specs.Theorems.{isRefused}
@@ -35,9 +36,11 @@ use Rattle.script.specs.Script.{playedOut}
 use Rattle.script.specs.Theorems.{isFinish}
 use Rattle.script.proofs.Ends.{refused-opening-stays}
 use Rattle.script.proofs.Finishes.{opened-finishes}
+use Rattle.boxlist_print.specs.declared.Listing.{Listing}
+use Rattle.boxlist_print.specs.declared.Listing.the-variants.{Boxes, Verdicts}
 use Rattle.boxlist_print.specs.Rows.{rowsAt}
-use Rattle.boxlist_print.specs.Printed.{listWords, listOf, lentFor, openingOf, printed}
-use Rattle.boxlist_print.specs.Laws.{verdictOf, Shows, list, line, ListOrRefusal}
+use Rattle.boxlist_print.specs.Printed.{listWords, finishedText, listOf, lentFor, openingOf, printed}
+use Rattle.boxlist_print.specs.Laws.{verdictOf, Shows, list, verdicts, line, ListOrRefusal}
 use Rattle.boxlist_print.proofs.Boxes.{rows-count}
 use Rattle.boxlist_print.proofs.Room.{room-kept}
 
@@ -100,7 +103,7 @@ module _ (candidates : List ℕ) (m : ℕ) (e : length candidates ≡ m * candid
 -- ---- so tests 1, 3 and 4 are left
 
 module _ (text : List ℕ) (e : isScreen text ≡ true) where
-  opening-tests : openingVerdict (openingOf (headerOf text)) (candidatesOf text) (lentFor (stylesOf text) (itemCount text)) ≡ verdictOf text
+  pub opening-tests : openingVerdict (openingOf (headerOf text)) (candidatesOf text) (lentFor (stylesOf text) (itemCount text)) ≡ verdictOf text
   unfolding openingVerdict verdictOf _when_else_
   opening-tests =
       let size = screen-size text e in
@@ -124,39 +127,43 @@ unrefused styles working run counts overflow = go (next-way styles working run c
 
 -- ---- a run's list, by the verdict of its opening
 
-module _ (o : Opening) (replies candidates styles : List ℕ) (n : ℕ) where
+module _ (listing : Listing) (o : Opening) (replies candidates styles : List ℕ) (n : ℕ) where
   turned-down : (r : Refusal) → openingVerdict o candidates (lentFor styles n) ≡ refused r
-      → Shows (refused r) (listOf (playedOut o replies candidates (lentFor styles n)))
+      → Shows listing (refused r) (listOf listing styles (playedOut o replies candidates (lentFor styles n)))
   unfolding opened listOf
   turned-down r e =
       rw (refused-opening-stays o replies candidates (lentFor styles n) r (rw e refl), e) (line r)
 
-  begins-unrefused : openingVerdict o candidates (lentFor styles n) ≡ accepted → isRefused (opened o candidates (lentFor styles n) .step .answer) ≡ false
+  pub begins-unrefused : openingVerdict o candidates (lentFor styles n) ≡ accepted → isRefused (opened o candidates (lentFor styles n) .step .answer) ≡ false
   unfolding opened begun
   begins-unrefused e = rw e (unrefused _ _ _ _ _)
 
   finished : (a : Answer) → playedOut o replies candidates (lentFor styles n) .step .answer ≡ a → isFinish a ≡ true
-      → Shows accepted (listOf (playedOut o replies candidates (lentFor styles n)))
+      → Shows listing accepted (listOf listing styles (playedOut o replies candidates (lentFor styles n)))
   unfolding listOf
   finished (Ask q) e h = no h refl
-  finished (Finish f) e h =
-      rw e
-      (list (rowsAt (end .working) (end .step .state .counts .filled .working) (end .layouts)) _
-      (rw rows-count (room-kept o replies candidates (lentFor styles n))))
+  finished (Finish f) e h = rw e (by listing)
     where
       end : Outcome
       end = playedOut o replies candidates (lentFor styles n)
+
+      few : end .step .state .counts .filled .working ≤ MAX-CANDIDATES
+      few = room-kept o replies candidates (lentFor styles n)
+
+      by : (listing : Listing) → Shows listing accepted (finishedText listing (end .step .state) (f .overflow) (lent styles (end .layouts) (end .working) (end .unclaimed)))
+      by Boxes = list (rowsAt (end .working) (end .step .state .counts .filled .working) (end .layouts)) _ (rw rows-count few)
+      by Verdicts = verdicts (end .step .state) _ few
   finished (Refused r) e h = no h refl
 
-  shown : (v : Verdict) → openingVerdict o candidates (lentFor styles n) ≡ v → Shows v (listOf (playedOut o replies candidates (lentFor styles n)))
+  shown : (v : Verdict) → openingVerdict o candidates (lentFor styles n) ≡ v → Shows listing v (listOf listing styles (playedOut o replies candidates (lentFor styles n)))
   shown accepted e = finished _ refl (opened-finishes o replies candidates (lentFor styles n) (begins-unrefused e))
   shown (refused r) e = turned-down r e
 
 pub list-or-refusal : ListOrRefusal
-list-or-refusal text = go (isScreen text) refl
+list-or-refusal listing text = go (isScreen text) refl
   where
-    go : (b : Bool) → isScreen text ≡ b → Shows (verdictOf text) (printed text)
+    go : (b : Bool) → isScreen text ≡ b → Shows listing (verdictOf text) (printed listing text)
     go true e =
         unfold printed in
-        rw e (shown (openingOf (headerOf text)) (repliesOf text) (candidatesOf text) (stylesOf text) (itemCount text) (verdictOf text) (opening-tests text e))
+        rw e (shown listing (openingOf (headerOf text)) (repliesOf text) (candidatesOf text) (stylesOf text) (itemCount text) (verdictOf text) (opening-tests text e))
     go false e = unfold printed verdictOf _when_else_ in rw e (line BadScreenLine)

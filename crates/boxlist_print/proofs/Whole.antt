@@ -17,6 +17,7 @@ use Rattle.screen.proofs.Laws.{screen-words}
 use Rattle.screen.proofs.Whole.{Told}
 use Rattle.style_record.specs.Record.{styleWords}
 use Rattle.tree_record.specs.Candidate.{candidateWidth}
+use Rattle.boxlist_print.specs.declared.Listing.{Listing}
 use Rattle.boxlist_print.specs.Rows.{Prints}
 use Rattle.boxlist_print.specs.Printed.{listFrom, printed}
 
@@ -43,8 +44,8 @@ full : (vs l : List ℕ) → length vs ≡ length l → sets l 0 vs ≡ vs
 full vs l e =
     sets-eq vs l 0 (rw (zero-add, e) (omega arith)) ∙ ap (λ (r : List ℕ). vs ++ r) (drop-of-length-le l {i = 0 + length vs} (rw (zero-add, e) (omega arith))) ∙ append-nil vs
 
-module _ (text : List ℕ) {r : ℕ} {before after : List ℕ} where
-  pub printed-bad : isScreen text ≡ false → Prints r before after (refusalText (numberOf BadScreenLine)) → Prints r before after (printed text)
+module _ (listing : Listing) (text : List ℕ) {r : ℕ} {before after : List ℕ} where
+  pub printed-bad : isScreen text ≡ false → Prints r before after (refusalText (numberOf BadScreenLine)) → Prints r before after (printed listing text)
   unfolding printed
   printed-bad e p = rw e p
 
@@ -53,16 +54,16 @@ module _ (text : List ℕ) {r : ℕ} {before after : List ℕ} where
       → styles ≡ written (isScreen text) (replicate (MAX-ITEMS * styleWords) 0) (stylesOf text)
       → replies ≡ written (isScreen text) (replicate (MAX-ITEMS * replyWidth) 0) (repliesOf text)
       → candidates ≡ written (isScreen text) (replicate (MAX-CANDIDATES * candidateWidth) 0) (candidatesOf text)
-      → Prints r before after (listFrom header (take (n * styleWords) styles) n (take (n * replyWidth) replies) (take (m * candidateWidth) candidates))
-      → Prints r before after (printed text)
+      → Prints r before after (listFrom listing header (take (n * styleWords) styles) n (take (n * replyWidth) replies) (take (m * candidateWidth) candidates))
+      → Prints r before after (printed listing text)
   unfolding printed written
   printed-read n m t header styles replies candidates h s q c p =
       rw (t .good)
       (rw (← t .items)
-      (subst (λ (x : List ℕ). Prints r before after (listFrom x (stylesOf text) n (repliesOf text) (candidatesOf text))) header-read
-      (subst (λ (x : List ℕ). Prints r before after (listFrom header x n (repliesOf text) (candidatesOf text))) styles-read
-      (subst (λ (x : List ℕ). Prints r before after (listFrom header (take (n * styleWords) styles) n x (candidatesOf text))) replies-read
-      (subst (λ (x : List ℕ). Prints r before after (listFrom header (take (n * styleWords) styles) n (take (n * replyWidth) replies) x)) candidates-read p)))))
+      (subst (λ (x : List ℕ). Prints r before after (listFrom listing x (stylesOf text) n (repliesOf text) (candidatesOf text))) header-read
+      (subst (λ (x : List ℕ). Prints r before after (listFrom listing header x n (repliesOf text) (candidatesOf text))) styles-read
+      (subst (λ (x : List ℕ). Prints r before after (listFrom listing header (take (n * styleWords) styles) n x (candidatesOf text))) replies-read
+      (subst (λ (x : List ℕ). Prints r before after (listFrom listing header (take (n * styleWords) styles) n (take (n * replyWidth) replies) x)) candidates-read p)))))
     where
       header-read : header ≡ headerOf text
       header-read = h ∙ rw (t .good) (full (headerOf text) (replicate 10 0) (header-length text))

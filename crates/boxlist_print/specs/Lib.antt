@@ -1,3 +1,4 @@
 pub mod Rows
+pub mod Verdicts
 pub mod Printed
 pub mod Laws

@@ -1,4 +1,5 @@
-// What `boxlist` prints for a screen's bytes: the list of the run that the screen scripts, or one line for a refusal.
+// What `boxlist` and `boxreach` print for a screen's bytes: of the run that the screen scripts the boxes or their verdicts, or one line for a
+// refusal.
 ghost use mathlib.Core.Path.{_≡_};
 ghost use Prim.Native.Nat.{_*_, _≤_};
 ghost use lib.ListN.{length, take};
@@ -9,15 +10,17 @@ ghost use Rattle.tree_record.specs.Layout.{layoutWidth};
 ghost use Rattle.run.specs.Call.{lent, atEntry};
 ghost use Rattle.script.specs.Script.{playedOut};
 ghost use Rattle.boxlist_print.specs.Rows.{Prints};
-ghost use Rattle.boxlist_print.specs.Printed.{LIST-BYTES, listOf, openingOf, listWords, listFrom, printed};
+ghost use Rattle.boxlist_print.specs.Printed.{LIST-BYTES, finishedText, listOf, openingOf, listWords, listFrom, printed};
 use boxlist_lines::list;
 use geometry::Point;
+use geometry::Rect;
 use geometry::Size;
 use refusal::Refusal;
 use rows::float_at;
 use rows::word_at;
 use run::Answer;
 use run::Opening;
+use run::State;
 use screen::Screen;
 use screen_fields::format;
 use style_record::words::STYLE_WORDS;
@@ -26,6 +29,13 @@ use tree_record::candidate::CANDIDATE_WORDS;
 use tree_record::layout::LAYOUT_WORDS;
 
 mod rows;
+mod verdicts;
+
+// What is listed of each box: its place, size and margins, or whether scrolling brings it up.
+pub enum Listing {
+    Boxes,
+    Verdicts,
+}
 
 // The bytes of the longest list: the names, a row for each candidate, the overflow rectangle.
 pub const LIST_BYTES: usize = (1 + format::MAX_CANDIDATES) * list::ROW + list::OVERFLOW;
@@ -60,8 +70,31 @@ fn opening_of(header: &[u32]) -> Opening
     }
 }
 
+// The list of a finished run.
+fn put_finished(
+    listing: Listing,
+    out: &mut [u8],
+    s: State,
+    overflow: Rect,
+    styles: &[u32],
+    layouts: &[u32],
+    working: &[u32],
+    unclaimed: &[u32],
+) -> usize
+    requires { ⌜ s .counts .filled .working ≤ MAX-CANDIDATES ⌝ }
+    requires { ⌜ LIST-BYTES ≤ length (now out) ⌝ }
+    ensures { λ r. ⌜ Prints r (now (out .entry)) (now (out .exit)) (finishedText listing s overflow (atEntry styles layouts working unclaimed)) ⌝ }
+{
+    let n = s.counts.filled.working;
+    match listing {
+        Listing::Boxes => rows::put_list(out, working, n, layouts, overflow),
+        Listing::Verdicts => verdicts::put_verdicts(out, s, styles, layouts, working, unclaimed),
+    }
+}
+
 // Plays a run out, and prints its list or its refusal.
 fn list_run(
+    listing: Listing,
     o: Opening,
     replies: &[u32],
     styles: &[u32],
@@ -73,17 +106,25 @@ fn list_run(
 ) -> usize
     requires { ⌜ length (now working) ≡ listWords ⌝ }
     requires { ⌜ LIST-BYTES ≤ length (now out) ⌝ }
-    ensures { λ r. ⌜ Prints r (now (out .entry)) (now (out .exit)) (listOf (playedOut o (now (replies .entry)) (now (candidates .entry)) (atEntry styles layouts working unclaimed))) ⌝ }
+    ensures { λ r. ⌜ Prints r (now (out .entry)) (now (out .exit)) (listOf listing (now (styles .entry)) (playedOut o (now (replies .entry)) (now (candidates .entry)) (atEntry styles layouts working unclaimed))) ⌝ }
 {
     let step = script::play_out(o, replies, styles, candidates, layouts, working, unclaimed);
-    let counts = step.state.counts;
-    let n = counts.filled.working;
+    let state = step.state;
     let answer = step.answer;
     match answer {
         Answer::Ask(_) => 0,
         Answer::Finish(finish) => {
             let overflow = finish.overflow;
-            rows::put_list(out, &working[..], n, &layouts[..], overflow)
+            put_finished(
+                listing,
+                out,
+                state,
+                overflow,
+                styles,
+                &layouts[..],
+                &working[..],
+                &unclaimed[..],
+            )
         }
         Answer::Refused(refusal) => rows::put_refused(out, refusal.number()),
     }
@@ -91,6 +132,7 @@ fn list_run(
 
 // The same of the front of each slice: n items and m candidates.
 fn list_parts(
+    listing: Listing,
     n: usize,
     m: usize,
     header: &[u32],
@@ -104,13 +146,14 @@ fn list_parts(
 ) -> usize
     requires { ⌜ (n * styleWords ≤ length (now styles)) × (n * replyWidth ≤ length (now replies)) × (m * candidateWidth ≤ length (now candidates)) × (n * layoutWidth ≤ length (now layouts)) ⌝ }
     requires { ⌜ (length (now working) ≡ listWords) × (LIST-BYTES ≤ length (now out)) ⌝ }
-    ensures { λ r. ⌜ Prints r (now (out .entry)) (now (out .exit)) (listOf (playedOut (openingOf (now (header .entry))) (take (n * replyWidth) (now (replies .entry))) (take (m * candidateWidth) (now (candidates .entry))) (lent (take (n * styleWords) (now (styles .entry))) (take (n * layoutWidth) (now (layouts .entry))) (now (working .entry)) (now (unclaimed .entry))))) ⌝ }
+    ensures { λ r. ⌜ Prints r (now (out .entry)) (now (out .exit)) (listOf listing (take (n * styleWords) (now (styles .entry))) (playedOut (openingOf (now (header .entry))) (take (n * replyWidth) (now (replies .entry))) (take (m * candidateWidth) (now (candidates .entry))) (lent (take (n * styleWords) (now (styles .entry))) (take (n * layoutWidth) (now (layouts .entry))) (now (working .entry)) (now (unclaimed .entry))))) ⌝ }
 {
     let styles_end = n * STYLE_WORDS;
     let replies_end = n * format::REPLY_WORDS;
     let candidates_end = m * CANDIDATE_WORDS;
     let layouts_end = n * LAYOUT_WORDS;
     list_run(
+        listing,
         opening_of(header),
         &replies[..replies_end],
         &styles[..styles_end],
@@ -124,6 +167,7 @@ fn list_parts(
 
 // Prints the list of a screen's words, with zeros to write layouts and lists into.
 fn list_words(
+    listing: Listing,
     n: usize,
     m: usize,
     header: &[u32; format::HEADER_WORDS],
@@ -133,12 +177,13 @@ fn list_words(
     out: &mut [u8; LIST_BYTES],
 ) -> usize
     requires { ⌜ (n ≤ MAX-ITEMS) × (m ≤ MAX-CANDIDATES) ⌝ }
-    ensures { λ r. ⌜ Prints r (now (out .entry)) (now (out .exit)) (listFrom (now (header .entry)) (take (n * styleWords) (now (styles .entry))) n (take (n * replyWidth) (now (replies .entry))) (take (m * candidateWidth) (now (candidates .entry)))) ⌝ }
+    ensures { λ r. ⌜ Prints r (now (out .entry)) (now (out .exit)) (listFrom listing (now (header .entry)) (take (n * styleWords) (now (styles .entry))) n (take (n * replyWidth) (now (replies .entry))) (take (m * candidateWidth) (now (candidates .entry)))) ⌝ }
 {
     let mut layouts = [0u32; ALL_LAYOUTS];
     let mut working = [0u32; LIST_WORDS];
     let mut unclaimed = [0u32; LIST_WORDS];
     list_parts(
+        listing,
         n,
         m,
         header,
@@ -152,9 +197,9 @@ fn list_words(
     )
 }
 
-// Prints what `boxlist` prints for a text, and answers how many bytes it has.
-pub fn list_screen(text: &[u8], out: &mut [u8; LIST_BYTES]) -> usize
-    ensures { λ r. ⌜ Prints r (now (out .entry)) (now (out .exit)) (printed (now (text .entry))) ⌝ }
+// Prints what is printed for a text, and answers how many bytes it has.
+pub fn list_screen(listing: Listing, text: &[u8], out: &mut [u8; LIST_BYTES]) -> usize
+    ensures { λ r. ⌜ Prints r (now (out .entry)) (now (out .exit)) (printed listing (now (text .entry))) ⌝ }
 {
     let mut header = [0u32; format::HEADER_WORDS];
     let mut styles = [0u32; format::MAX_ITEMS * STYLE_WORDS];
@@ -169,6 +214,15 @@ pub fn list_screen(text: &[u8], out: &mut [u8; LIST_BYTES]) -> usize
     );
     match answer {
         Screen::BadLine => rows::put_refused(out, Refusal::BadScreenLine.number()),
-        Screen::Read(n, m) => list_words(n, m, &header, &styles, &replies, &candidates, out),
+        Screen::Read(n, m) => list_words(
+            listing,
+            n,
+            m,
+            &header,
+            &styles,
+            &replies,
+            &candidates,
+            out,
+        ),
     }
 }

@@ -22,6 +22,7 @@ use Rattle.oof_box.specs.declared.question.Reply.the-variants.{LaidOut}
 use Rattle.oof_box.specs.Cut.{layoutAfter}
 use Rattle.oof_box.proofs.Floor.{size-law as box-size-law}
 use Rattle.run.specs.declared.Opening.{Opening}
+use Rattle.run.specs.declared.Progress.the-variants.{Finished}
 use Rattle.run.specs.declared.State.{State}
 use Rattle.run.specs.declared.Step.{Step}
 use Rattle.run.specs.Call.{Lent, Outcome, outcome}
@@ -30,6 +31,14 @@ use Rattle.run.specs.Run.{extentsOf, boxAtHand, opened, replied, takenBy, laidO
 use Rattle.run.proofs.Refusals.{refused-reply-keeps, refused-opening-keeps, saying, turn-refused}
 use Rattle.run.proofs.Exactly.{opening-refused-exactly, opening-accepted-exactly, reply-refused-exactly, reply-accepted-exactly, unresolved-exactly}
 use Rattle.boxlist_print.proofs.Exactly.{refused-exactly, listed-exactly}
+use Rattle.reach.specs.Laws.{IsAnswer}
+use Rattle.reach.specs.Reach.{reached}
+use Rattle.reach_laws.specs.Laws.{toldOf}
+use Rattle.reach_laws.proofs.Runs.{mirrored-verdict}
+use Rattle.reach_laws.proofs.Answered.{quarters-are-answered as all-answered}
+use Rattle.reach.specs.declared.Reached.{Reached}
+use Rattle.reach.proofs.Exactly as reach
+use Rattle.boxlist_print.specs.declared.Listing.{Listing}
 use Rattle.boxlist_print.specs.Rows.{Prints}
 use Rattle.boxlist_print.specs.Printed.{printed}
 use Rattle.run.proofs.Ways.{ReplyWay, measures, laysOut, reply-way, never-kept}
@@ -44,8 +53,8 @@ use Rattle.mirror_run.specs.Runs.{Message, runNext, imageNext, Fair, AllFair, M
 use Rattle.pixels_laws.specs.Laws.{HasEdges}
 use Rattle.pixels_laws.proofs.Run.{run-has-edges}
 use Rattle.pixels_laws.proofs.Tests.{refused-first, edges-first}
-use Rattle.demands.specs.Entries.{Opens, RepliesTo, AnyCalls, Takes, Run, RefusedSince, BothRuns}
-use Rattle.demands.specs.Demands.{OpeningDemands, ReplyDemands, AlignmentDemands, PixelsDemands, ScreenDemands, ThreeQuestionsEach, EqualsStraightRun, SizedLayout, SizeLaw, LaidOutAsAsked, MirrorImage, QuartersHaveEdges}
+use Rattle.demands.specs.Entries.{Opens, RepliesTo, AnyCalls, Takes, Run, RefusedSince, BothRuns, AfterEach}
+use Rattle.demands.specs.Demands.{OpeningDemands, ReplyDemands, AlignmentDemands, PixelsDemands, ReachDemands, ScreenDemands, ThreeQuestionsEach, EqualsStraightRun, SizedLayout, SizeLaw, LaidOutAsAsked, MirrorImage, MirroredReach, QuartersHaveEdges, QuartersAreAnswered}
 
 -- ---- one call
 
@@ -67,8 +76,14 @@ pub pixels-demands : (layout : Layout) (offset : Point) {r : Pixels} → r ≡ p
 pixels-demands layout offset c =
     subst (PixelsDemands layout offset) (sym c) (record { call = refl; refused = refused-first layout offset; accepted = edges-first layout offset })
 
-pub screen-demands : (text : List ℕ) {r : ℕ} {before after : List ℕ} → Prints r before after (printed text) → ScreenDemands text r before after
-screen-demands text c = record { call = c; refused = refused-exactly text; listed = listed-exactly text }
+pub reach-demands : (place : ℕ) (s : State) (lent : Lent) {r : Reached} → r ≡ reached place s lent → ReachDemands place s lent r
+reach-demands place s lent c =
+    subst (ReachDemands place s lent) (sym c)
+    (record { call = refl; refused = reach.refused-exactly place s lent; answered = reach.answered-exactly place s lent })
+
+pub screen-demands : (listing : Listing) (text : List ℕ) {r : ℕ} {before after : List ℕ} → Prints r before after (printed listing text)
+    → ScreenDemands listing text r before after
+screen-demands listing text c = record { call = c; refused = refused-exactly listing text; listed = listed-exactly listing text }
 
 -- ---- at most three questions
 
@@ -136,6 +151,13 @@ quarters-have-edges o candidates lent turns has area table quarter calls heard =
     subst (λ (x : Outcome). (i : ℕ) → i < laidSoFar x → HasEdges (layoutOfBox x i) (o .area .offset))
     (sym (run-is o candidates lent calls))
     (run-has-edges o candidates lent turns area table quarter (run-opened o candidates lent calls) (run-lends o candidates lent calls) heard)
+
+pub quarters-are-answered : QuartersAreAnswered
+quarters-are-answered o candidates lent turns has area table quarter calls heard =
+    subst
+    (λ (x : Outcome). x .step .state .progress ≡ Finished → (place : ℕ) → place < x .step .state .counts .filled .working → IsAnswer (toldOf place (lent .styles) x))
+    (sym (run-is o candidates lent calls))
+    (λ finished place filled. all-answered o candidates lent turns place area table quarter (run-opened o candidates lent calls) (run-lends o candidates lent calls) heard finished filled)
 
 -- ---- the size law
 
@@ -238,10 +260,31 @@ at-the-end o candidates lent lent' {messages} {has} {has'} area table quarter st
     (mirror o candidates lent lent' messages [] area table quarter styles same
     (subst (AllFair (lent .styles) (opened o candidates lent)) (sym (append-nil messages)) (both-fair o candidates lent lent' both))))
 
+-- what is told at the end of a list
+told-at-the-end : (o : Opening) (candidates : List ℕ) (lent lent' : Lent) {messages : List Message} {has has' : Outcome}
+    → QuarterArea (o .area) → QuarterTable (lent .styles) → QuarterCandidates candidates
+    → lent' .styles ≡ imageStyles (lent .styles) → extentsOf lent ≡ extentsOf lent'
+    → BothRuns o candidates lent lent' messages has has'
+    → (place : ℕ) → toldOf place (lent .styles) has ≡ toldOf place (lent' .styles) has'
+unfolding image
+told-at-the-end o candidates lent lent' {messages} area table quarter styles same both place =
+    ap (toldOf place (lent .styles)) (run-of o candidates lent lent' both)
+    ∙ mirrored-verdict o candidates lent lent' messages place area table quarter styles same (both-fair o candidates lent lent' both)
+    ∙ sym (ap (toldOf place (lent' .styles)) (image-of o candidates lent lent' both))
+
+-- what holds at the end of every list holds after each of its replies
+module _ {o : Opening} {candidates : List ℕ} {lent lent' : Lent} (P : Outcome → Outcome → Type 0)
+    (end : (messages : List Message) (has has' : Outcome) → BothRuns o candidates lent lent' messages has has' → P has has') where
+  after-each : {messages : List Message} {has has' : Outcome} (both : BothRuns o candidates lent lent' messages has has') → AfterEach P both
+  after-each (BothRuns.opening c c') = end _ _ _ (BothRuns.opening c c')
+  after-each (BothRuns.reply m earlier c c' fair) = (after-each earlier, end _ _ _ (BothRuns.reply m earlier c c' fair))
+
 pub mirror-image : MirrorImage
-mirror-image o candidates lent lent' messages has has' area table quarter styles same (BothRuns.opening c c') =
-    at-the-end o candidates lent lent' area table quarter styles same (BothRuns.opening c c')
-mirror-image o candidates lent lent' messages has has' area table quarter styles same (BothRuns.reply m earlier c c' fair) = (
-  mirror-image o candidates lent lent' _ _ _ area table quarter styles same earlier,
-  at-the-end o candidates lent lent' area table quarter styles same (BothRuns.reply m earlier c c' fair),
-)
+mirror-image o candidates lent lent' messages has has' area table quarter styles same both =
+    after-each (MirroredRuns (o .area) (unclaimedAtOpening o candidates lent)) (λ _ _ _ b. at-the-end o candidates lent lent' area table quarter styles same b) both
+
+pub mirrored-reach : MirroredReach
+mirrored-reach o candidates lent lent' messages has has' area table quarter styles same both =
+    after-each (λ (has has' : Outcome). (place : ℕ) → toldOf place (lent .styles) has ≡ toldOf place (lent' .styles) has')
+    (λ _ _ _ b. told-at-the-end o candidates lent lent' area table quarter styles same b)
+    both

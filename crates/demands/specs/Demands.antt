@@ -1,5 +1,5 @@
--- The three demands, of every entry. Refusals 1 to 6 are those of `open` and `reply`, 7 of `from_alignment`, 8 of the program, 9 of
--- `pixel_edges`. The demands of the C entries stand in demands_c/specs. No entry asks anything of its caller, and a proved function ends,
+-- The three demands, of every entry. Refusals 1 to 6 are those of `open` and `reply`, 7 of `from_alignment`, 8 of the programs, 9 of
+-- `pixel_edges`; `reach` has 2, 6, 4 and 9. The demands of the C entries stand in demands_c/specs. No entry asks anything of its caller, and a proved function ends,
 -- without a panic: so each of these holds for any bits in any number and slices of any length. `proofs/Demands.antt` proves each, under its
 -- name in small letters.
 -- What document 01 leaves free is fixed by the definition all the same: what is asked and written where words were rewritten between calls or
@@ -36,6 +36,7 @@ use Rattle.oof_box.specs.declared.question.Question.the-variants.{LayOut}
 use Rattle.oof_box.specs.declared.question.Reply.{Reply}
 use Rattle.oof_box.specs.declared.question.Reply.the-variants.{LaidOut}
 use Rattle.run.specs.declared.Opening.{Opening}
+use Rattle.run.specs.declared.Progress.the-variants.{Finished}
 use Rattle.run.specs.declared.State.{State}
 use Rattle.run.specs.declared.Answer.the-variants.{Ask, Refused}
 use Rattle.run.specs.Call.{Lent, Outcome, unwritten}
@@ -47,6 +48,13 @@ use Rattle.mirror_run.specs.Quarter.{AreaInQuarters, QuarterArea, QuarterTable,
 use Rattle.mirror_run.specs.Runs.{Message, MirroredRuns, unclaimedAtOpening, layoutOfBox}
 use Rattle.pixels_laws.specs.Laws.{HasEdges, All, QuarterHeard}
 use Rattle.boxlist_lines.specs.Lines.{refusalText}
+use Rattle.reach_laws.specs.Laws.{toldOf}
+use Rattle.reach.specs.Conditions.{reachTests}
+use Rattle.reach.specs.Laws.{IsAnswer}
+use Rattle.reach.specs.Reach.{reached}
+use Rattle.reach.specs.declared.Reached.{Reached}
+use Rattle.reach.specs.declared.Reached.the-variants as reach
+use Rattle.boxlist_print.specs.declared.Listing.{Listing}
 use Rattle.boxlist_print.specs.Rows.{Prints}
 use Rattle.boxlist_print.specs.Printed.{printed}
 use Rattle.boxlist_print.specs.Laws.{programTests, IsList}
@@ -55,7 +63,8 @@ use Rattle.demands.specs.Entries.{Opens, RepliesTo, AnyCalls, Takes, Run
 -- ---- Demand 1. "Whoever calls an entry, with any bits in any number and slices of any length, gets its answer (in a run, a question or
 -- finish) or one of document 01's refusals 1 to 8, each exactly under its stated condition. A refusal writes no lent word and returns the
 -- state as it came." The conditions, in document 01's words and order, stand in run/specs/Conditions.antt. By request #101 the refusals
--- are 1 to 9, and each later number joins them; the condition of 9 stands in pixels/specs/Conditions.antt.
+-- are 1 to 9, and each later number joins them; the condition of 9 stands in pixels/specs/Conditions.antt. A part that reads a finished run
+-- (request #102) tests 2, 6 and 4 as finished/specs/Conditions.antt says, then its own.
 
 -- an opening. It has no state that came: refused, it returns that of a finished run with all counts 0
 pub record OpeningDemands (o : Opening) (candidates : List ℕ) (lent : Lent) (has : Outcome) : Type 0 where
@@ -95,11 +104,17 @@ pub record PixelsDemands (layout : Layout) (offset : Point) (r : Pixels) : Type 
   pub refused : (q : Refusal) → (r ≡ pixels.Refused q) ↔ FirstIs (pixelTests layout offset) (numberOf q)
   pub accepted : ((edges : PixelRect) × (r ≡ Edges edges)) ↔ NoneHolds (pixelTests layout offset)
 
--- the program: 8, then 1, 3 and 4 of the run that the screen scripts. It prints the refusal's line, or a list
-pub record ScreenDemands (text : List ℕ) (r : ℕ) (before after : List ℕ) : Type 0 where
-  pub call : Prints r before after (printed text)
-  pub refused : (q : Refusal) → (printed text ≡ refusalText (numberOf q)) ↔ FirstIs (programTests text) (numberOf q)
-  pub listed : IsList (printed text) ↔ NoneHolds (programTests text)
+-- `reach`: 2, 6, 4, 9. It is lent slices that it can't write, and returns no state
+pub record ReachDemands (place : ℕ) (s : State) (lent : Lent) (r : Reached) : Type 0 where
+  pub call : r ≡ reached place s lent
+  pub refused : (q : Refusal) → (r ≡ reach.Refused q) ↔ FirstIs (reachTests place s lent) (numberOf q)
+  pub answered : IsAnswer r ↔ NoneHolds (reachTests place s lent)
+
+-- the programs: 8, then 1, 3 and 4 of the run that the screen scripts. Each prints the refusal's line, or its list: of boxes or of verdicts
+pub record ScreenDemands (listing : Listing) (text : List ℕ) (r : ℕ) (before after : List ℕ) : Type 0 where
+  pub call : Prints r before after (printed listing text)
+  pub refused : (q : Refusal) → (printed listing text ≡ refusalText (numberOf q)) ↔ FirstIs (programTests text) (numberOf q)
+  pub listed : IsList listing (printed listing text) ↔ NoneHolds (programTests text)
 
 -- "A run asks at most three questions for each box hoisted", whatever words the host rewrites between calls: at most three for each box, none
 -- for one that isn't hoisted, and no others
@@ -137,17 +152,26 @@ LaidOutAsAsked =
 -- the same question, finish or refusal .." (mirror_run/specs/Quarter.antt has what is asked of area, styles and candidates,
 -- mirror_run/specs/Runs.antt what is asked of a reply and what the two then have in common)
 
-abbrev pub MirrorImage : Type 0
-MirrorImage =
+-- P holds of what the host has of a run and of its image, after the opening and after each reply
+abbrev pub OfImages : (Opening → List ℕ → Lent → Lent → Outcome → Outcome → Type 0) → Type 0
+OfImages P =
     (o : Opening) (candidates : List ℕ) (lent lent' : Lent) (messages : List Message) (has has' : Outcome)
     → QuarterArea (o .area) → QuarterTable (lent .styles) → QuarterCandidates candidates
     -- the image's slices are as long; but for its styles they may hold any words
     → lent' .styles ≡ imageStyles (lent .styles) → extentsOf lent ≡ extentsOf lent'
     → (both : BothRuns o candidates lent lent' messages has has')
-    → AfterEach (MirroredRuns (o .area) (unclaimedAtOpening o candidates lent)) both
+    → AfterEach (P o candidates lent lent') both
+
+abbrev pub MirrorImage : Type 0
+MirrorImage = OfImages (λ o candidates lent lent' has has'. MirroredRuns (o .area) (unclaimedAtOpening o candidates lent) has has')
+
+-- request #102: so is what is told of reaching a box. At every place both are seen at the same offsets, or unseen, or refused with the same
+-- number
+abbrev pub MirroredReach : Type 0
+MirroredReach = OfImages (λ o candidates lent lent' has has'. (place : ℕ) → toldOf place (lent .styles) has ≡ toldOf place (lent' .styles) has')
 
 -- ---- Beyond the demands: under what demand 3 asks of area, styles, candidates and replies, but that the area's width may be 0, no box
--- meets refusal 9 (pixels_laws/specs)
+-- meets refusal 9 (pixels_laws/specs, reach_laws/specs)
 
 abbrev pub QuartersHaveEdges : Type 0
 QuartersHaveEdges =
@@ -157,7 +181,17 @@ QuartersHaveEdges =
     → All (QuarterHeard (claimsOf o)) (heededIn o candidates lent turns)
     → (i : ℕ) → i < laidSoFar has → HasEdges (layoutOfBox has i) (o .area .offset)
 
--- ---- What is demanded of runs, and the theorem beyond: the function `demanded` of src/lib.rt ensures these, so that a crate without a proof of each is not proved.
+-- nor where it is asked whether scrolling brings it up, in a finished run
+abbrev pub QuartersAreAnswered : Type 0
+QuartersAreAnswered =
+    (o : Opening) (candidates : List ℕ) (lent : Lent) (turns : List Turn) (has : Outcome)
+    → AreaInQuarters (o .area) → QuarterTable (lent .styles) → QuarterCandidates candidates
+    → Run o candidates lent turns has
+    → All (QuarterHeard (claimsOf o)) (heededIn o candidates lent turns)
+    → has .step .state .progress ≡ Finished
+    → (place : ℕ) → place < has .step .state .counts .filled .working → IsAnswer (toldOf place (lent .styles) has)
+
+-- ---- What is demanded of runs, and the theorems beyond: the function `demanded` of src/lib.rt ensures these, so that a crate without a proof of each is not proved.
 
 pub record Demanded : Type 0 where
   pub three-questions-each : ThreeQuestionsEach
@@ -166,4 +200,6 @@ pub record Demanded : Type 0 where
   pub equals-straight-run : EqualsStraightRun
   pub laid-out-as-asked : LaidOutAsAsked
   pub mirror-image : MirrorImage
+  pub mirrored-reach : MirroredReach
   pub quarters-have-edges : QuartersHaveEdges
+  pub quarters-are-answered : QuartersAreAnswered

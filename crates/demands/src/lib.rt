@@ -4,14 +4,16 @@
 ghost use mathlib.Core.Path.{_≡_};
 ghost use Rattle.oof_axis.specs.StaticOffset.{staticOffset};
 ghost use Rattle.run.specs.Call.{atEntry, atExit};
-ghost use Rattle.demands.specs.Demands.{OpeningDemands, ReplyDemands, AlignmentDemands, PixelsDemands, ScreenDemands, Demanded};
+ghost use Rattle.demands.specs.Demands.{OpeningDemands, ReplyDemands, AlignmentDemands, PixelsDemands, ReachDemands, ScreenDemands, Demanded};
 use boxlist_print::LIST_BYTES;
+use boxlist_print::Listing;
 use geometry::Line;
 use geometry::Point;
 use geometry::Rect;
 use geometry::Size;
 use oof_box::question::Reply;
 use pixels::Pixels;
+use reach::Reached;
 use run::Opening;
 use run::State;
 use run::Step;
@@ -60,6 +62,19 @@ pub fn pixel_edges(layout: Layout, offset: Point) -> Pixels
     pixels::pixel_edges(layout, offset)
 }
 
+pub fn reach(
+    place: usize,
+    s: State,
+    styles: &[u32],
+    layouts: &[u32],
+    working: &[u32],
+    unclaimed: &[u32],
+) -> Reached
+    ensures { λ r. ⌜ ReachDemands place s (atEntry styles layouts working unclaimed) r ⌝ }
+{
+    reach::reach(place, s, styles, layouts, working, unclaimed)
+}
+
 // It refuses nothing.
 pub fn resolve_static_offset(place: StaticPosition, size: Size, margin: Rect) -> Point
     ensures { λ r. ⌜ r ≡ staticOffset place size margin ⌝ }
@@ -67,11 +82,11 @@ pub fn resolve_static_offset(place: StaticPosition, size: Size, margin: Rect) ->
     oof_axis::resolve_static_offset(place, size, margin)
 }
 
-// What `boxlist` prints.
-pub fn list_screen(text: &[u8], out: &mut [u8; LIST_BYTES]) -> usize
-    ensures { λ r. ⌜ ScreenDemands (now (text .entry)) r (now (out .entry)) (now (out .exit)) ⌝ }
+// What `boxlist` and `boxreach` print.
+pub fn list_screen(listing: Listing, text: &[u8], out: &mut [u8; LIST_BYTES]) -> usize
+    ensures { λ r. ⌜ ScreenDemands listing (now (text .entry)) r (now (out .entry)) (now (out .exit)) ⌝ }
 {
-    boxlist_print::list_screen(text, out)
+    boxlist_print::list_screen(listing, text, out)
 }
 
 // No code: what is ensured are the theorems over runs.

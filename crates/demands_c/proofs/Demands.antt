@@ -50,8 +50,17 @@ use Rattle.oof_c_words.proofs.Laws.{accepted-is-zero, refused-is-not, refused-o
 use Rattle.oof_c_words.proofs.Kept.{opening-is-kept, reply-is-kept}
 use Rattle.pixels_laws.proofs.Run.{run-has-edges}
 use Rattle.pixels_laws.proofs.Tests.{refused-first, edges-first}
+use Rattle.reach.specs.Conditions.{reachTests}
+use Rattle.reach.specs.Laws.{IsAnswer}
+use Rattle.reach.specs.Reach.{reached}
+use Rattle.reach.specs.Told.{ReachReturned, verdictTold}
+use Rattle.reach.specs.declared.Reached.{Reached}
+use Rattle.reach.specs.declared.Reached.the-variants as reach
+use Rattle.reach.proofs.Exactly as exactly
+use Rattle.reach_laws.proofs.Answered.{quarters-are-answered as all-answered}
+use Rattle.oof_c.specs.ReachWords.{reachInWords}
 use Rattle.demands_c.specs.Calls.{Opens, RepliesTo, FitsOpening, askedFor, AnyCalls, Takes, Lends, Run}
-use Rattle.demands_c.specs.Demands.{OpeningDemands, ReplyDemands, PixelsDemands, ThreeQuestionsEach, StandsInWords, EqualsStraightRun, QuartersHaveEdges}
+use Rattle.demands_c.specs.Demands.{OpeningDemands, ReplyDemands, PixelsDemands, VerdictIn, ReachDemands, ThreeQuestionsEach, StandsInWords, EqualsStraightRun, QuartersHaveEdges, QuartersAreAnswered}
 
 -- ---- the result is the number of the first condition that holds
 
@@ -156,6 +165,45 @@ pixels-demands layout offset before c =
     let by = edges-by (pixelTests l offset) p before (refused-first l offset) (edges-first l offset) in
     subst (PixelsDemands layout offset before) (sym c)
     (record { call = refl; refused = numbered by; accepted = zeroed by; kept = edges-kept before p; written = edges-written before p })
+
+-- ---- what is told of reaching a box
+
+module _ (before : List ℕ) where
+  verdict-by : (tests : List (ℕ × Type 0)) (v : Reached) → ((r : Refusal) → (v ≡ reach.Refused r) ↔ FirstIs tests (numberOf r)) → IsAnswer v ↔ NoneHolds tests
+      → ResultBy tests (verdictTold v before .result)
+  unfolding verdictTold
+  verdict-by tests (reach.Seen x y) f g = noneHolds (g .0 tt)
+  verdict-by tests reach.Unseen f g = noneHolds (g .0 tt)
+  verdict-by tests (reach.Refused r) f g = firstHolds r (f r .0 refl)
+
+  verdict-kept : (v : Reached) → verdictTold v before .result ≢ 0 → verdictTold v before .verdict ≡ before
+  unfolding verdictTold
+  verdict-kept (reach.Seen x y) h = absurd (h refl)
+  verdict-kept reach.Unseen h = absurd (h refl)
+  verdict-kept (reach.Refused r) h = refl
+
+  verdict-written : (v : Reached) → verdictTold v before .result ≡ 0 → VerdictIn v (verdictTold v before .verdict)
+  unfolding verdictTold
+  verdict-written (reach.Seen x y) h = refl
+  verdict-written reach.Unseen h = refl
+  verdict-written (reach.Refused r) h = absurd (refused-is-not r h)
+
+  answer-is-zero : (v : Reached) → IsAnswer v → verdictTold v before .result ≡ 0
+  unfolding verdictTold
+  answer-is-zero (reach.Seen x y) h = refl
+  answer-is-zero reach.Unseen h = refl
+  answer-is-zero (reach.Refused r) h = absurd h
+
+pub reach-demands :
+    (place : ℕ) (lent : Lent) (state before : List ℕ) {has : ReachReturned} → has ≡ reachInWords place lent state before
+    → ReachDemands place lent state before has
+unfolding reachInWords
+reach-demands place lent state before c =
+    let s = stateOf state in
+    let v = reached place s lent in
+    let by = verdict-by before (reachTests place s lent) v (exactly.refused-exactly place s lent) (exactly.answered-exactly place s lent) in
+    subst (ReachDemands place lent state before) (sym c)
+    (record { call = refl; refused = numbered by; accepted = zeroed by; kept = verdict-kept before v; written = verdict-written before v })
 
 -- ---- at most three questions for each box
 
@@ -451,3 +499,12 @@ quarters-have-edges o candidates styles before turns has area table quarter call
     let r = ran o candidates styles before calls in
     let e = run-has-edges o candidates (lentIn styles before) turns area table quarter (r .accepted) (r .lent) heard i (subst (λ (s : State). i < laidCount (s .progress) (s .counts .begun)) (r .now .state) h) in
     rw (r .now .layouts, r .now .working, e .1) refl
+
+pub quarters-are-answered : QuartersAreAnswered
+unfolding reachInWords
+quarters-are-answered o candidates styles before turns has area table quarter calls heard finished place filled verdict =
+    let r = ran o candidates styles before calls in
+    let e =
+    all-answered o candidates (lentIn styles before) turns place area table quarter (r .accepted) (r .lent) heard (sym (ap (λ (s : State). s .progress) (r .now .state)) ∙ finished)
+    (subst (λ (s : State). place < s .counts .filled .working) (r .now .state) filled) in
+    rw (r .now .state, r .now .layouts, r .now .working, r .now .unclaimed) (answer-is-zero verdict _ e)

@@ -21,17 +21,30 @@ use Rattle.run.specs.Run.{closed, claimsOf}
 use Rattle.run.specs.Straight.{Course}
 use Rattle.run.specs.Theorems.{Turn, Stands, saidAfter, heededIn, courseOf, laidCount}
 use Rattle.run.specs.declared.Opening.{Opening}
+use Rattle.run.specs.declared.Progress.the-variants.{Finished}
 use Rattle.mirror_run.specs.Quarter.{AreaInQuarters, QuarterTable, QuarterCandidates}
 use Rattle.pixels_laws.specs.Laws.{All, QuarterHeard}
 use Rattle.oof_c_words.specs.StateWords.{at, stateOf, stateWords}
 use Rattle.oof_c_words.specs.Entry.{Words, words, Returned, lentIn, answerLeft}
 use Rattle.pixels.specs.Told.{PixelsReturned}
+use Rattle.reach.specs.Conditions.{reachTests}
+use Rattle.reach.specs.Reach.{reached}
+use Rattle.reach.specs.Told.{ReachReturned}
+use Rattle.reach.specs.declared.Reached.{Reached}
+use Rattle.reach.specs.declared.Reached.the-variants.{Seen, Unseen, Refused}
+use Rattle.oof_c.specs.ReachWords.{reachInWords}
 use Rattle.oof_c_words.specs.PixelWords.{pixelsInWords}
 use Rattle.demands_c.specs.Calls.{Opens, RepliesTo, AnyCalls, Run}
 
 -- ---- Demand 1. "Whoever calls an entry, with any bits in any number and slices of any length, gets its answer .. or one of document 01's
 -- refusals .., each exactly under its stated condition. A refusal writes no lent word and returns the state as it came." The conditions, in
--- document 01's words and order, stand in run/specs/Conditions.antt, and that of request #101 in pixels/specs/Conditions.antt.
+-- document 01's words and order, stand in run/specs/Conditions.antt, that of request #101 in pixels/specs/Conditions.antt, those of #102 in finished/specs and reach/specs.
+
+-- the words of a verdict
+abbrev pub VerdictIn : Reached → List ℕ → Type 0
+VerdictIn (Seen x y) words = words ≡ 1 ∷ x ∷ y ∷ []
+VerdictIn Unseen words = words ≡ 0 ∷ 0 ∷ 0 ∷ []
+VerdictIn (Refused r) words = ⊥
 
 -- an opening. It has no state that came: refused, it returns that of a finished run with all counts 0
 pub record OpeningDemands (o : Opening) (candidates styles : List ℕ) (before : Words) (has : Returned) : Type 0 where
@@ -58,6 +71,14 @@ pub record PixelsDemands (layout : List ℕ) (offset : Point) (before : List ℤ
   pub kept : has .result ≢ 0 → has .edges ≡ before
   pub written : has .result ≡ 0 → (p : PixelRect) × (pixelEdges (layoutOf layout) offset ≡ Edges p) × (has .edges ≡ p .left ∷ p .right ∷ p .top ∷ p .bottom ∷ [])
 
+-- `oof_reach`, whatever words stand for its state: 2, 6, 4, 9. The slices and the state are lent to be read only
+pub record ReachDemands (place : ℕ) (lent : Lent) (state before : List ℕ) (has : ReachReturned) : Type 0 where
+  pub call : has ≡ reachInWords place lent state before
+  pub refused : (n : ℕ) → n ≢ 0 → (has .result ≡ n) ↔ FirstIs (reachTests place (stateOf state) lent) n
+  pub accepted : (has .result ≡ 0) ↔ NoneHolds (reachTests place (stateOf state) lent)
+  pub kept : has .result ≢ 0 → has .verdict ≡ before
+  pub written : has .result ≡ 0 → VerdictIn (reached place (stateOf state) lent) (has .verdict)
+
 -- "A run asks at most three questions for each box hoisted", whatever words the host rewrites between calls: at most three for each box,
 -- and none for one that isn't hoisted, which the state's word 7 tells
 abbrev pub ThreeQuestionsEach : Type 0
@@ -82,7 +103,7 @@ EqualsStraightRun =
     → StandsInWords (lentIn styles before) (length (heededIn o candidates (lentIn styles before) turns)) has (courseOf o candidates (lentIn styles before) turns)
 
 -- ---- Beyond the demands: under what demand 3 asks of area, styles, candidates and replies, but that the area's width may be 0, no box
--- meets refusal 9 (pixels_laws/specs)
+-- meets refusal 9 (pixels_laws/specs, reach_laws/specs)
 
 -- the layout's words of box i, record i of the working list: they stand at its node's place, where a node claimed twice has its last layout
 abbrev pub wordsOfBox : Words → ℕ → List ℕ
@@ -98,9 +119,22 @@ QuartersHaveEdges =
     (i : ℕ) → i < laidCount (state .progress) (state .counts .begun)
     → (edges : List ℤ) → pixelsInWords (wordsOfBox (has .words) i) (o .area .offset) edges .result ≡ 0
 
--- ---- What is demanded of runs, and the theorem beyond: the function `demanded` of src/lib.rt ensures these, so that a crate without a proof of each is not proved.
+-- nor where it is asked whether scrolling brings it up, in a finished run
+abbrev pub QuartersAreAnswered : Type 0
+QuartersAreAnswered =
+    (o : Opening) (candidates styles : List ℕ) (before : Words) (turns : List Turn) (has : Returned)
+    → AreaInQuarters (o .area) → QuarterTable styles → QuarterCandidates candidates
+    → Run o candidates styles before turns has
+    → All (QuarterHeard (claimsOf o)) (heededIn o candidates (lentIn styles before) turns)
+    → let state = stateOf (has .words .state) in
+    state .progress ≡ Finished
+    → (place : ℕ) → place < state .counts .filled .working
+    → (verdict : List ℕ) → reachInWords place (lentIn styles (has .words)) (has .words .state) verdict .result ≡ 0
+
+-- ---- What is demanded of runs, and the theorems beyond: the function `demanded` of src/lib.rt ensures these, so that a crate without a proof of each is not proved.
 
 pub record Demanded : Type 0 where
   pub three-questions-each : ThreeQuestionsEach
   pub equals-straight-run : EqualsStraightRun
   pub quarters-have-edges : QuartersHaveEdges
+  pub quarters-are-answered : QuartersAreAnswered

@@ -3,7 +3,9 @@
 ghost use mathlib.Core.List.{[]};
 ghost use Rattle.oof_c_words.specs.Entry.{came, before, returned, openingOf};
 ghost use Rattle.oof_c_words.specs.PixelWords.{pixelsReturned};
-ghost use Rattle.demands_c.specs.Demands.{OpeningDemands, ReplyDemands, PixelsDemands, Demanded};
+ghost use Rattle.run.specs.Call.{atEntry};
+ghost use Rattle.oof_c.specs.ReachWords.{reachReturned};
+ghost use Rattle.demands_c.specs.Demands.{OpeningDemands, ReplyDemands, PixelsDemands, ReachDemands, Demanded};
 use oof_box::question::Reply;
 
 pub fn open(
@@ -130,6 +132,20 @@ pub fn pixels(layout: &[u32; 23], x: f32, y: f32, edges: &mut [i32; 4]) -> u32
     ensures { λ r. ⌜ PixelsDemands (came layout) (record { x = x; y = y }) (now (edges .entry)) (pixelsReturned r edges) ⌝ }
 {
     oof_c::oof_pixels(layout, x, y, edges)
+}
+
+pub fn reach(
+    place: usize,
+    styles: &[u32],
+    layouts: &[u32],
+    working: &[u32],
+    unclaimed: &[u32],
+    state: &[u32; 27],
+    verdict: &mut [u32; 3],
+) -> u32
+    ensures { λ r. ⌜ ReachDemands place (atEntry styles layouts working unclaimed) (came state) (now (verdict .entry)) (reachReturned r verdict) ⌝ }
+{
+    oof_c::oof_reach(place, styles, layouts, working, unclaimed, state, verdict)
 }
 
 // No code: what is ensured are the theorems over runs.

@@ -1,5 +1,6 @@
 -- No scripted reply is refused, so a run that is opened comes to its finish. The reply's kind is its question's; the slices have the
--- opening's lengths, the styles its words; the working list holds the candidates that it checked; nothing is surfaced. Assumes nothing.
+-- opening's lengths, the styles its words; the working list holds the candidates that it checked; nothing is surfaced. And so the words of a
+-- finished run pass the tests of what reads it. Assumes nothing.
 use Prim.Native.Nat.{ℕ, zero, suc, _+_, _*_, _/_, _≤_}
 use native.Mathlib.Omega.{arith}
 use native.Mathlib.Nat.{add-zero, zero-add, mul-le-mul-left, mul-div-le, le-trans}
@@ -39,14 +40,15 @@ use Rattle.oof_box.specs.declared.question.Taken.the-variants.{Wrong, Kept, Lai
 use Rattle.run.specs.declared.Opening.{Opening}
 use Rattle.run.specs.declared.State.{State}
 use Rattle.run.specs.declared.Progress.{Progress}
-use Rattle.run.specs.declared.Progress.the-variants.{Asking}
+use Rattle.run.specs.declared.Progress.the-variants.{Asking, Finished}
 use Rattle.run.specs.declared.Opened.{Opened}
 use Rattle.run.specs.declared.Counts.{Counts}
 use Rattle.run.specs.declared.Step.{Step}
 use Rattle.run.specs.declared.Answer.{Answer}
 use Rattle.run.specs.declared.Answer.the-variants.{Ask, Finish, Refused}
 use Rattle.run.specs.Call.{Lent, Outcome}
-use Rattle.run.specs.Refusals.{Verdict, accepted, _when_else_, ragged, badTable, badList, badSlices, otherLengths, lentBy, badStyle, badCandidate, badCandidates, listFull, wrongCounts}
+use Rattle.run.specs.Call as call
+use Rattle.run.specs.Refusals.{Verdict, accepted, _when_else_, ragged, badTable, badList, badSlices, otherLengths, badLent, lentBy, badStyle, badCandidate, badCandidates, listFull, aboveLists, wrongCounts}
 use Rattle.run.specs.Run.{boxAtHand, asking, finishing, proceeding, claimsOf, containerOf, extentsOf, openingVerdict, begun, opened, takenBy, isWrong, replyVerdict, measuredOn, laidOut, replied}
 use Rattle.run.specs.Theorems.{askedAtOpening, oneIfAsked, isRefused, next}
 use Rattle.run.proofs.Ways.{NextWay, asks, ends, next-way, OpeningWay, begins, opening-way, passed, neither}
@@ -126,6 +128,15 @@ module _ (o : Opening) (candidates : List ℕ) (lent : Lent) where
             (items (lent .styles))
             (keep-below _ (claimsOf o) true (candidatesIn candidates) (good-below _ candidates _ (not-false _ (candidate .0)))));
       }
+
+-- ---- a finished run, by its state and the words that it left: the tests of what reads it
+
+pub record Passes (styles : List ℕ) (x : Outcome) : Type 0 where
+  pub finish : isFinish (x .step .answer) ≡ true
+  pub slices : badLent (x .step .state .opened .extents) (call.lent styles (x .layouts) (x .working) (x .unclaimed)) ≡ false
+  pub progress : x .step .state .progress ≡ Finished
+  pub counts : aboveLists (x .working) (x .unclaimed) (x .step .state .counts .filled) ≡ false
+  pub listed : badCandidate styles (x .working) (x .step .state .counts .filled .working) ≡ false
 
 -- ---- between two calls
 
@@ -238,9 +249,45 @@ module _ (replies : List ℕ) (o : Opening) (candidates : List ℕ) (lent : Lent
     most : counts .begun ≤ filled .working
     reached : Reached (askedAtOpening o candidates lent) x (counts .answered + 1)
 
+  -- no box is left
+  record Ended (x : Outcome) : Type 0 where
+    counts : Counts
+    overflow : Rect
+    step : x .step ≡ finishing run counts overflow
+    layouts : length (x .layouts) ≡ length (lent .layouts)
+    lists : (x .working ≡ working) × (x .unclaimed ≡ unclaimed)
+    held : counts .filled ≡ filled
+
   data Alive (x : Outcome) : Type 0 where
     going : Going x → Alive x
-    ended : isFinish (x .step .answer) ≡ true → Alive x
+    ended : Ended x → Alive x
+
+  ended-finish : (x : Outcome) → Ended x → isFinish (x .step .answer) ≡ true
+  unfolding finishing
+  ended-finish x e = ap (λ (s : Step). isFinish (s .answer)) (e .step)
+
+  ended-passes : (x : Outcome) → Ended x → Passes (lent .styles) x
+  unfolding finishing
+  ended-passes x e =
+      let long = lengths (x .layouts) (e .layouts) in
+      record {
+        finish = ended-finish x e;
+        slices = rw (e .step, e .lists .0, e .lists .1) (neither-of (slices-good (x .layouts) (e .layouts)) (lengths-kept (x .layouts) (e .layouts)));
+        progress = ap (λ (s : Step). s .state .progress) (e .step);
+        counts =
+            rw (
+              e .step,
+              e .lists .0,
+              e .lists .1,
+              e .held,
+              long .0,
+              long .1,
+              le-ltb (length (lent .working) / candidateWidth) (filled .working) (c .working),
+              le-ltb (length (lent .unclaimed) / candidateWidth) (filled .unclaimed) (c .unclaimed),
+            )
+            refl;
+        listed = rw (e .step, e .lists .0, e .held) (c .listed);
+      }
 
   -- the next box, or the finish
   proceeds : (x : Outcome) (counts : Counts) (overflow : Rect) → x .step ≡ proceeding (lent .styles) working run counts overflow
@@ -266,7 +313,7 @@ module _ (replies : List ℕ) (o : Opening) (candidates : List ℕ) (lent : Lent
             most = omega (arith, h, ap (λ (f : Filled). f .working) held);
             reached = reached (ap (λ (s : Step). oneIfAsked (s .answer)) (step ∙ e));
           })
-      go (ends h e) = ended (ap (λ (s : Step). isFinish (s .answer)) (step ∙ e))
+      go (ends h e) = ended (record { counts = counts; overflow = overflow; step = step ∙ e; layouts = layouts; lists = lists; held = held })
 
   -- one scripted reply
   module _ (x : Outcome) (g : Going x) where
@@ -358,7 +405,7 @@ module _ (replies : List ℕ) (o : Opening) (candidates : List ℕ) (lent : Lent
   unfolding played
   alive zero x a = a
   alive (suc n) x (going g) = alive n (playedOn replies (lent .styles) x) (goes-on x g)
-  alive (suc n) x (ended e) = alive n (playedOn replies (lent .styles) x) (subst Alive (sym (stays replies (lent .styles) x (finish-stays x e))) (ended e))
+  alive (suc n) x (ended e) = alive n (playedOn replies (lent .styles) x) (subst Alive (sym (stays replies (lent .styles) x (finish-stays x (ended-finish x e)))) (ended e))
 
   opened-alive : opened o candidates lent ≡ begun o candidates lent → Alive (opened o candidates lent)
   unfolding begun askedAtOpening
@@ -370,17 +417,21 @@ module _ (replies : List ℕ) (o : Opening) (candidates : List ℕ) (lent : Lent
 
 -- ---- a run that is opened finishes
 
-pub opened-finishes : OpenedFinishes
+pub opened-passes : (o : Opening) (replies candidates : List ℕ) (lent : Lent) → isRefused (opened o candidates lent .step .answer) ≡ false
+    → Passes (lent .styles) (playedOut o replies candidates lent)
 unfolding playedOut asking
-opened-finishes o replies candidates lent e = go (opening-way o candidates lent)
+opened-passes o replies candidates lent e = go (opening-way o candidates lent)
   where
-    go : OpeningWay o candidates lent → isFinish (playedOut o replies candidates lent .step .answer) ≡ true
+    go : OpeningWay o candidates lent → Passes (lent .styles) (playedOut o replies candidates lent)
     go (OpeningWay.turnedDown r d) = no (ap (λ (x : Outcome). isRefused (x .step .answer)) d) e
     go (begins v d) = at-end (alive replies o candidates lent c _ (opened o candidates lent) (opened-alive replies o candidates lent c d))
       where
         c : Checked o candidates lent
         c = checked o candidates lent v
 
-        at-end : Alive replies o candidates lent c (playedOut o replies candidates lent) → isFinish (playedOut o replies candidates lent .step .answer) ≡ true
+        at-end : Alive replies o candidates lent c (playedOut o replies candidates lent) → Passes (lent .styles) (playedOut o replies candidates lent)
         at-end (going g) = absurd (run-ends o replies candidates lent _ (ap (λ (t : Step). t .answer) (g .step)))
-        at-end (ended f) = f
+        at-end (ended f) = ended-passes replies o candidates lent c (playedOut o replies candidates lent) f
+
+pub opened-finishes : OpenedFinishes
+opened-finishes o replies candidates lent e = opened-passes o replies candidates lent e .finish

@@ -1,12 +1,12 @@
 -- Generated skeleton (tools/proof/write-skeletons), answers by hand.
-use Rattle.run.specs.Call.{lent}
-use Rattle.boxlist_print.proofs.Lists.{list-asked, list-finished, list-refused, list-fits}
 use borrow.Author.Needs.{needs}
+use Rattle.run.specs.Call.{lent}
+use Rattle.boxlist_print.proofs.Lists.{list-asked, list-finished, list-refused, few-boxes}
 use Rattle.boxlist_print.proofs.list_run.Statement.{statement}
 use Rattle.boxlist_print.proofs.list_run.Tie as tie
 use Rattle.boxlist_print.proofs.list_run.Reads as reads
 use Rattle.boxlist_print.proofs.list_run.Lts as lts
-use Rattle.boxlist_print.proofs.rows.put_list.Reads as put-list-reads
+use Rattle.boxlist_print.proofs.put_finished.Reads as put-finished-reads
 use Rattle.boxlist_print.proofs.rows.put_refused.Reads as put-refused-reads
 use Rattle.refusal.proofs.Refusal.number.Reads as number-reads
 use Rattle.script.proofs.play_out.Reads as play-out-reads
@@ -20,12 +20,12 @@ enum-told c = search needs
 enum-known-answer : tie.Need-enum-known-answer
 enum-known-answer c = search needs
 
-put-list-requires : tie.Need-put-list-requires
-put-list-requires c κs =
-    let p = c .before .before .before .before .before .before .before .before .before .before .before .before .before .before .play-out .ensures in
-    let d = c .before .before .before .before .before .before .before .before .before .before .before .before .before .before .before .before .before .before .before .before .before .before .before .before .before in
+put-finished-requires : tie.Need-put-finished-requires
+put-finished-requires c κs =
+    let p = c .before .before .before .before .before .before .before .before .before .before .before .before .before .before .before .play-out .ensures in
+    let d = c .before .before .before .before .before .before .before .before .before .before .before .before .before .before .before .before .before .before .before .before .before .before .before .before .before .before in
     let a = d .args in
-    list-fits (a .o) (a .replies .now) (a .candidates .now) (lent (a .styles .now) (a .layouts .now) (a .working .now) (a .unclaimed .now)) _ _ _ _ _ p (d .pre .0) (d .pre .1)
+    (few-boxes (a .o) (a .replies .now) (a .candidates .now) (lent (a .styles .now) (a .layouts .now) (a .working .now) (a .unclaimed .now)) _ _ _ _ p (d .pre .0), d .pre .1)
 
 enum-known-answer-2 : tie.Need-enum-known-answer-2
 enum-known-answer-2 c = search needs
@@ -46,7 +46,7 @@ same-length-3 : tie.Need-same-length-3
 same-length-3 c = search needs
 
 returns : tie.Need-returns
-returns c = list-asked _ _ _ _ _ (c .before .before .before .before .before .before .before .before .before .play-out .ensures) _ (c .enum-told .given .1)
+returns c = list-asked _ _ _ _ _ _ _ (c .before .before .before .before .before .before .before .before .before .play-out .ensures) _ (c .enum-told .given .1)
 
 same-length-4 : tie.Need-same-length-4
 same-length-4 c = search needs
@@ -61,7 +61,7 @@ same-length-7 : tie.Need-same-length-7
 same-length-7 c = search needs
 
 returns-2 : tie.Need-returns-2
-returns-2 c = list-finished _ _ _ _ _ (c .before .before .before .before .before .before .before .before .before .before .before .before .before .before .before .before .before .play-out .ensures) _ (c .before .before .before .before .before .before .before .before .answer .given .1) (c .before .before .put-list .ensures)
+returns-2 c = list-finished _ _ _ _ _ _ _ (c .before .before .before .before .before .before .before .before .before .before .before .before .before .before .before .before .before .before .play-out .ensures) _ (c .before .before .before .before .before .before .before .before .before .answer .given .1) (c .before .before .put-finished .ensures)
 
 same-length-8 : tie.Need-same-length-8
 same-length-8 c = search needs
@@ -76,7 +76,7 @@ same-length-11 : tie.Need-same-length-11
 same-length-11 c = search needs
 
 returns-3 : tie.Need-returns-3
-returns-3 c = list-refused _ _ _ _ _ (c .before .before .before .before .before .before .before .before .before .before .before .before .before .before .before .play-out .ensures) _ (c .before .before .before .before .before .before .answer2 .given .1) (c .before .before .before .number .ensures) (c .before .before .put-refused .ensures)
+returns-3 c = list-refused _ _ _ _ _ _ _ (c .before .before .before .before .before .before .before .before .before .before .before .before .before .before .before .play-out .ensures) _ (c .before .before .before .before .before .before .answer2 .given .1) (c .before .before .before .number .ensures) (c .before .before .put-refused .ensures)
 
 pub list-run-spec : {M : Type 1} → statement M
 list-run-spec =
@@ -85,7 +85,7 @@ list-run-spec =
     play-out-requires
     enum-told
     enum-known-answer
-    put-list-requires
+    put-finished-requires
     enum-known-answer-2
     number-requires
     put-refused-requires

@@ -35,14 +35,14 @@ list-words-requires c κs =
 returns : tie.Need-returns
 returns c =
     let text = c .before .before .before .before .before .before .before .before .before .before .before .args .text .now in
-    printed-bad text (bad-told text (sym (c .before .before .before .enum-told .given .1) ∙ c .before .before .before .before .before .read-screen .ensures .answer)) (rw (c .before .number .ensures) at (c .put-refused .ensures))
+    printed-bad (c .before .before .before .before .before .before .before .before .before .before .before .args .listing) text (bad-told text (sym (c .before .before .before .enum-told .given .1) ∙ c .before .before .before .before .before .read-screen .ensures .answer)) (rw (c .before .number .ensures) at (c .put-refused .ensures))
 
 returns-2 : tie.Need-returns-2
 returns-2 c =
     let text = c .before .before .before .before .before .before .before .before .before .before .before .before .before .before .before .args .text .now in
     let read = c .before .before .before .before .before .before .before .before .before .read-screen .ensures in
     let t = read-told text _ _ (sym (c .before .before .before .before .before .before .before .answer .given .1) ∙ read .answer) in
-    printed-read text _ _ t _ _ _ _ (read .header) (read .styles) (read .replies) (read .candidates) (c .list-words .ensures)
+    printed-read (c .before .before .before .before .before .before .before .before .before .before .before .before .before .before .before .args .listing) text _ _ t _ _ _ _ (read .header) (read .styles) (read .replies) (read .candidates) (c .list-words .ensures)
 
 pub list-screen-spec : {M : Type 1} → statement M
 list-screen-spec =

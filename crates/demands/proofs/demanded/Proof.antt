@@ -1,5 +1,5 @@
 -- Generated skeleton (tools/proof/write-skeletons), answers by hand.
-use Rattle.demands.proofs.Demands.{three-questions-each, equals-straight-run, laid-out-as-asked, mirror-image, quarters-have-edges}
+use Rattle.demands.proofs.Demands.{three-questions-each, equals-straight-run, laid-out-as-asked, mirror-image, mirrored-reach, quarters-have-edges, quarters-are-answered}
 use Rattle.run.proofs.EachQuestion.{stage-tells-kind}
 use Rattle.demands.proofs.demanded.Statement.{statement}
 use Rattle.demands.proofs.demanded.Tie as tie
@@ -12,7 +12,9 @@ returns c =
       equals-straight-run = equals-straight-run;
       laid-out-as-asked = laid-out-as-asked;
       mirror-image = mirror-image;
+      mirrored-reach = mirrored-reach;
       quarters-have-edges = quarters-have-edges;
+      quarters-are-answered = quarters-are-answered;
     }
 
 pub demanded-spec : {M : Type 1} → statement M

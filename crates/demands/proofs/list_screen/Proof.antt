@@ -11,7 +11,7 @@ list-screen-requires : tie.Need-list-screen-requires
 list-screen-requires c κs = search needs
 
 returns : tie.Need-returns
-returns c = screen-demands _ (c .list-screen .ensures)
+returns c = screen-demands _ _ (c .list-screen .ensures)
 
 pub list-screen-spec : {M : Type 1} → statement M
 list-screen-spec = tie.close (tie.spec list-screen-requires returns)

@@ -1,34 +1,27 @@
 -- Generated skeleton (tools/proof/write-skeletons), answers by hand.
+use borrow.Author.Needs.{needs}
 use mathlib.Core.Path.{sym}
 use lib.Dec.{lit≤}
 use lib.Seq.{length-take-le}
 use Rattle.boxlist_print.proofs.Laws.{printed-there}
-use borrow.Author.Needs.{needs}
-use Rattle.boxlist.proofs.print_list.Statement.{statement}
-use Rattle.boxlist.proofs.print_list.Tie as tie
-use Rattle.boxlist.proofs.print_list.Reads as reads
-use Rattle.boxlist.proofs.print_list.Lts as lts
-use Rattle.io.proofs.write_all.Reads as write-all-reads
+use Rattle.screen_program.proofs.print_list.Statement.{statement}
+use Rattle.screen_program.proofs.print_list.Tie as tie
+use Rattle.screen_program.proofs.print_list.Reads as reads
+use Rattle.screen_program.proofs.print_list.Lts as lts
 use Rattle.boxlist_print.proofs.list_screen.Reads as list-screen-reads
-use Rattle.os.proofs.fail.Reads as fail-reads
+use Rattle.io.proofs.write_all.Reads as write-all-reads
 
 list-screen-requires : tie.Need-list-screen-requires
 list-screen-requires c κs = search needs
 
 array-share-prefix-out : tie.Need-array-share-prefix-out
-array-share-prefix-out c = printed-there _ _ _ _ (lit≤ tt) (c .list-screen .ensures)
+array-share-prefix-out c = printed-there _ _ _ _ _ (lit≤ tt) (c .list-screen .ensures)
 
 slice-aggregate-write-all : tie.Need-slice-aggregate-write-all
-slice-aggregate-write-all c = sym (length-take-le _ _ (printed-there _ _ _ _ (lit≤ tt) (c .before .list-screen .ensures)))
+slice-aggregate-write-all c = sym (length-take-le _ _ (printed-there _ _ _ _ _ (lit≤ tt) (c .before .list-screen .ensures)))
 
 write-all-requires : tie.Need-write-all-requires
 write-all-requires c κs = search needs
-
-slice-aggregate-fail : tie.Need-slice-aggregate-fail
-slice-aggregate-fail c = search needs
-
-fail-requires : tie.Need-fail-requires
-fail-requires c κs = search needs
 
 returns : tie.Need-returns
 returns c = search needs
@@ -44,7 +37,5 @@ print-list-spec =
     array-share-prefix-out
     slice-aggregate-write-all
     write-all-requires
-    slice-aggregate-fail
-    fail-requires
     returns
     returns-2)

@@ -3,10 +3,10 @@ use Prim.Native.Nat.{_-_, _≤_}
 use mathlib.Core.Path.{_≡_}
 use lib.ListN.{length}
 use borrow.Author.Needs.{needs}
-use Rattle.boxlist.proofs.read_input.Statement.{statement}
-use Rattle.boxlist.proofs.read_input.Tie as tie
-use Rattle.boxlist.proofs.read_input.Reads as reads
-use Rattle.boxlist.proofs.read_input.Lts as lts
+use Rattle.screen_program.proofs.read_input.Statement.{statement}
+use Rattle.screen_program.proofs.read_input.Tie as tie
+use Rattle.screen_program.proofs.read_input.Reads as reads
+use Rattle.screen_program.proofs.read_input.Lts as lts
 use Rattle.io.proofs.count.Reads as count-reads
 use Rattle.libc.proofs.read.Reads as read-reads
 

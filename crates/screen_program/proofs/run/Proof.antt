@@ -1,15 +1,14 @@
 -- Generated skeleton (tools/proof/write-skeletons), answers by hand.
+use borrow.Author.Needs.{needs}
 use mathlib.Core.Path.{sym}
 use lib.Seq.{length-take-le}
-use borrow.Author.Needs.{needs}
-use Rattle.boxlist.proofs.main.Statement.{statement}
-use Rattle.boxlist.proofs.main.Tie as tie
-use Rattle.boxlist.proofs.main.Reads as reads
-use Rattle.boxlist.proofs.main.Lts as lts
-use Rattle.boxlist.proofs.print_list.Reads as print-list-reads
-use Rattle.boxlist.proofs.read_input.Reads as read-input-reads
-use Rattle.boxlist.proofs.room.Reads as room-reads
-use Rattle.os.proofs.fail.Reads as fail-reads
+use Rattle.screen_program.proofs.run.Statement.{statement}
+use Rattle.screen_program.proofs.run.Tie as tie
+use Rattle.screen_program.proofs.run.Reads as reads
+use Rattle.screen_program.proofs.run.Lts as lts
+use Rattle.screen_program.proofs.print_list.Reads as print-list-reads
+use Rattle.screen_program.proofs.read_input.Reads as read-input-reads
+use Rattle.screen_program.proofs.room.Reads as room-reads
 
 room-requires : tie.Need-room-requires
 room-requires c κs = search needs
@@ -22,12 +21,6 @@ read-input-requires c κs = search needs
 
 enum-told : tie.Need-enum-told
 enum-told c = search needs
-
-slice-aggregate-fail : tie.Need-slice-aggregate-fail
-slice-aggregate-fail c = search needs
-
-fail-requires : tie.Need-fail-requires
-fail-requires c κs = search needs
 
 enum-known-input : tie.Need-enum-known-input
 enum-known-input c = search needs
@@ -47,16 +40,14 @@ returns c = search needs
 returns-2 : tie.Need-returns-2
 returns-2 c = search needs
 
-pub main-spec : {M : Type 1} → statement M
-main-spec =
+pub run-spec : {M : Type 1} → statement M
+run-spec =
     tie.close
     (tie.spec
     room-requires
     slice-aggregate-read-input
     read-input-requires
     enum-told
-    slice-aggregate-fail
-    fail-requires
     enum-known-input
     array-share-prefix-text
     slice-aggregate-print-list
