@@ -46,7 +46,7 @@ RESOLVE = "style/specs/Resolve.antt"
 RECORD, DECODE = "style_record/specs/Record.antt", "style_record/specs/Decode.antt"
 CANDIDATE, LAYOUT = "tree_record/specs/Candidate.antt", "tree_record/specs/Layout.antt"
 STATE, ANSWER = "oof_c_words/specs/StateWords.antt", "oof_c_words/specs/AnswerWords.antt"
-PIXELS = "pixels/specs/Told.antt"
+PIXELS, REACH = "pixels/specs/Told.antt", "reach/specs/Told.antt"
 SIDES = ["LEFT", "RIGHT", "TOP", "BOTTOM"]
 known = {}
 for name in ("lengthWords", "lengths", "codeWords", "afterLengths", "styleWords"):
@@ -162,6 +162,15 @@ def pixels():
     return {"PIXEL_" + side.removeprefix("p .").upper(): k for k, side in enumerate(sides)} | {"PIXEL_EDGES": len(sides)}
 
 
+def reach():
+    """The verdict's words by their turn in the lists of a clause for `(Seen x y)` and of one for `Unseen`."""
+    x, y, seen = re.search(r"\(Seen (\w+) (\w+)\).*?= .*?((?:\w+ ∷ )+)\[\]", text(REACH)).groups()
+    unseen = re.search(r"\bUnseen\b.*?= .*?((?:\w+ ∷ )+)\[\]", text(REACH))[1]
+    seen, unseen = seen.split(" ∷ ")[:-1], unseen.split(" ∷ ")[:-1]
+    assert len(seen) == len(unseen) and set(unseen[1:]) == {"0"}, (seen, unseen)
+    return {"REACH_KIND": 0, "REACH_X": seen.index(x), "REACH_Y": seen.index(y), "REACH_WORDS": len(seen), "SEEN": int(seen[0]), "UNSEEN": int(unseen[0])}
+
+
 def tags():
     """By what each comes to in a size."""
     names = {"Length value": "PX", "autoIn f": "AUTO", "Length (basis ⊗ value)": "PERCENT", "Absent": "CONTENT",
@@ -175,7 +184,7 @@ def tags():
 
 
 def wanted():
-    out = style() | candidate() | layout() | state() | answer() | pixels() | tags()
+    out = style() | candidate() | layout() | state() | answer() | pixels() | reach() | tags()
     out |= {"STYLE_WORDS": known["styleWords"], "CANDIDATE_WORDS": number(CANDIDATE, "candidateWidth"), "LAYOUT_WORDS": number(LAYOUT, "layoutWidth")}
     out |= {"STATE_WORDS": count("stateWords"), "ANSWER_WORDS": count("finishWords")}
     assert count("measureWords") == count("layOutWords") == count("finishWords")

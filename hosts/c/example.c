@@ -1,6 +1,7 @@
 /* An English panel and its Arabic mirror image, placed by callbacks and printed side by side. A label stands 20 pixels from
- * the start edge and 12 from the top of an 800 by 480 panel, which stands at 100, 40 of its window; its size is what the
- * font says. Then the note of the incident (README.md at the root of the repository), in the panel's pixels. */
+ * the start edge and 12 from the top of an 800 by 480 panel, which scrolls and stands at 100, 40 of its window; its size is
+ * what the font says. Then the note of the incident (README.md at the root of the repository), in the panel's pixels. Of both
+ * it is said whether scrolling can bring them into view. */
 #include <stdio.h>
 #include <stdlib.h>
 #include "oof.h"
@@ -35,9 +36,10 @@ typedef struct {
 } panel;
 
 /* the words that every call is lent */
-#define LENT(p)                                                                                                       \
+#define SLICES(p)                                                                                                     \
     (p)->styles, OOF_STYLE_WORDS, (p)->layouts, OOF_LAYOUT_WORDS, (p)->working, OOF_CANDIDATE_WORDS, (p)->unclaimed,   \
-        OOF_CANDIDATE_WORDS, (p)->state, (p)->answer
+        OOF_CANDIDATE_WORDS, (p)->state
+#define LENT(p) SLICES(p), (p)->answer
 
 static const float panel_x = 100, panel_y = 40, panel_width = 800, panel_height = 480;
 
@@ -185,7 +187,7 @@ static uint32_t place(panel *p)
 {
     const host toolkit = {p, measure_label, lay_out_label};
     uint32_t result = oof_open(panel_width, panel_height, panel_x, panel_y, p->direction, OOF_CLAIMS_ABSOLUTE,
-                               OOF_OVERFLOW_VISIBLE, OOF_OVERFLOW_VISIBLE, p->styles, OOF_STYLE_WORDS, p->candidates,
+                               OOF_OVERFLOW_SCROLL, OOF_OVERFLOW_SCROLL, p->styles, OOF_STYLE_WORDS, p->candidates,
                                OOF_CANDIDATE_WORDS, p->layouts, OOF_LAYOUT_WORDS, p->working, OOF_CANDIDATE_WORDS,
                                p->unclaimed, OOF_CANDIDATE_WORDS, p->state, p->answer);
     while (result == OOF_ACCEPTED && p->answer[OOF_ANSWER_KIND] != OOF_FINISH)
@@ -240,10 +242,24 @@ static const char *pixels(const panel *p, char *text, size_t room)
     return text;
 }
 
-static void print_pixels(const char *what, const panel *e, const panel *a)
+/* whether scrolling can bring the box into view, and the least offsets that do, in pixels */
+static const char *reach(const panel *p, char *text, size_t room)
+{
+    uint32_t verdict[OOF_REACH_WORDS];
+    uint32_t result = oof_reach(0, SLICES(p), verdict);
+    if (result != OOF_ACCEPTED)
+        return oof_refusal_name(result);
+    if (verdict[OOF_REACH_KIND] == OOF_UNSEEN)
+        return "unseen";
+    snprintf(text, room, "seen at %g, %g", verdict[OOF_REACH_X] / 8.0, verdict[OOF_REACH_Y] / 8.0);
+    return text;
+}
+
+static void print_pixels_and_reach(const char *pixels_of, const char *reach_of, const panel *e, const panel *a)
 {
     char text[2][COLUMN];
-    row(what, pixels(e, text[0], COLUMN), pixels(a, text[1], COLUMN));
+    row(pixels_of, pixels(e, text[0], COLUMN), pixels(a, text[1], COLUMN));
+    row(reach_of, reach(e, text[0], COLUMN), reach(a, text[1], COLUMN));
 }
 
 /* a reply that no question waits for: refused, and no word is written */
@@ -268,8 +284,8 @@ int main(void)
         }
     }
     print_both(&e, &a);
-    print_pixels("  pixels", &e, &a);
-    print_pixels("note, pixels", &note_e, &note_a);
+    print_pixels_and_reach("  pixels", "  verdict", &e, &a);
+    print_pixels_and_reach("note, pixels", "note, verdict", &note_e, &note_a);
     float x = layout(&e, OOF_LAYOUT_X), image = layout(&a, OOF_LAYOUT_X), width = layout(&e, OOF_LAYOUT_WIDTH);
     int mirrored = x + image + width == 2 * panel_x + panel_width;
     printf("%g + %g + %g is %g: %s\n", x, image, width, x + image + width, mirrored ? "mirrored" : "NOT MIRRORED");

@@ -1,19 +1,21 @@
 /* Out-of-flow placement for C: places absolutely positioned boxes by a dialogue between a run and its host.
  *
  * A host opens a run with oof_open, reads the question that stands in the answer's words, and replies with the entry of
- * that question's kind, until the answer is a finish. Then the layouts hold each placed box. oof_pixels rounds a layout to
- * whole pixels; it belongs to no run.
+ * that question's kind, until the answer is a finish. Then the layouts hold each placed box. oof_reach says of each whether
+ * scrolling can bring it into view. oof_pixels rounds a layout to whole pixels; it belongs to no run.
  *
  *     result = oof_open(.., state, answer);
  *     while (result == 0 && answer[OOF_ANSWER_KIND] != OOF_FINISH)
  *         result = oof_reply_..(.., state, answer);
  *     if (result == 0)
  *         result = oof_pixels(layouts + OOF_LAYOUT_WORDS * node, x, y, edges);
+ *     if (result == 0)
+ *         result = oof_reach(place, .., state, verdict);
  *
- * RESULT. 0: the call was accepted, and the answer's words say what comes next (of oof_pixels: the edges are written).
- * 1 to 6, in a run, and 9, of oof_pixels alone: it was refused, for the reason of that number (enum oof_refusal), and NO
- * LENT WORD WAS WRITTEN: layouts, lists, answer and edges keep every bit. 7 and 8 are refusals of parts that have no entry
- * here. What stands in the state's words after a refusal:
+ * RESULT. 0: the call was accepted, and the answer's words say what comes next (of oof_pixels: the edges are written; of
+ * oof_reach: the verdict). 1 to 6, and 9, of oof_pixels and oof_reach alone: it was refused, for the reason of that number
+ * (enum oof_refusal), and NO LENT WORD WAS WRITTEN: layouts, lists, answer, edges and verdict keep every bit. 7 and 8 are
+ * refusals of parts that have no entry here. What stands in the state's words after a refusal:
  *   - after a refused reply, what stood there before, bit for bit, so the reply can be mended and made again;
  *   - after a refused opening, a finished run with all counts 0, so that no reply is taken until an opening is accepted.
  *     A run that stood in these words before is given up by any opening.
@@ -21,9 +23,9 @@
  * POINTERS. Each slice is a pointer, then its length in 32-bit words. What a host owes:
  *   - every pointer is aligned for uint32_t and points at so many words that may be read (and written, where it isn't
  *     const); `state` at OOF_STATE_WORDS of them, `answer` at OOF_ANSWER_WORDS, `layout` at OOF_LAYOUT_WORDS, `edges` at
- *     OOF_PIXEL_EDGES;
+ *     OOF_PIXEL_EDGES, `verdict` at OOF_REACH_WORDS;
  *   - no pointer is null, also where the length is 0;
- *   - no two slices of a call overlap, state, answer, layout and edges included;
+ *   - no two slices of a call overlap, state, answer, layout, edges and verdict included;
  *   - nobody else writes the words during a call.
  * The words themselves may be any: whatever bits they hold, the call does what is defined, or is refused as defined.
  * No pointer is kept after a call, nothing is allocated and there are no globals: runs over different words may go on
@@ -51,6 +53,7 @@ enum {
     OOF_STATE_WORDS = 27,
     OOF_ANSWER_WORDS = 10,
     OOF_PIXEL_EDGES = 4,
+    OOF_REACH_WORDS = 3,
     OOF_MOST_ITEMS = 1024,  /* of a table of styles */
     OOF_MOST_RECORDS = 4096 /* of a working or an unclaimed list */
 };
@@ -60,12 +63,15 @@ enum {
 enum oof_refusal {
     OOF_ACCEPTED = 0,
     OOF_BAD_AREA = 1,      /* an opening's direction, claims or overflow code is outside its list */
-    OOF_BAD_EXTENT = 2,    /* a slice isn't whole records, is too long, or has another length than at the opening */
+    OOF_BAD_EXTENT = 2,    /* a slice isn't whole records, is too long, or has another length than at the opening; or, of
+                              oof_reach, no box has that place */
     OOF_BAD_STYLE = 3,     /* a tag or code that its field doesn't take, in any item of the table */
     OOF_BAD_CANDIDATE = 4, /* a node outside the table, or a code outside its list */
     OOF_LIST_FULL = 5,     /* the claimed or the unclaimed records would exceed their list */
-    OOF_WRONG_REPLY = 6,   /* not the open question's kind, no question open, or a state whose counts don't fit */
-    OOF_NOT_IN_EIGHTHS = 9 /* of oof_pixels: a number that isn't a whole eighth, or above 9,999,999 eighths in size */
+    OOF_WRONG_REPLY = 6,   /* not the open question's kind, no question open, or a state whose counts don't fit; of
+                              oof_reach, a question open, or such counts */
+    OOF_NOT_IN_EIGHTHS = 9 /* of oof_pixels and oof_reach: a number that isn't a whole eighth, or is above 9,999,999 eighths
+                              in size */
 };
 
 static inline const char *oof_refusal_name(uint32_t result)
@@ -235,6 +241,11 @@ enum {
 
 enum { OOF_PIXEL_LEFT = 0, OOF_PIXEL_RIGHT = 1, OOF_PIXEL_TOP = 2, OOF_PIXEL_BOTTOM = 3 };
 
+/* ---- the verdict on a box, 3 words: seen or unseen, then the offsets across and down in eighths of a pixel, 0 if unseen */
+
+enum { OOF_REACH_KIND = 0, OOF_REACH_X = 1, OOF_REACH_Y = 2 };
+enum { OOF_UNSEEN = 0, OOF_SEEN = 1 };
+
 /* ---- the answer, 10 words */
 
 enum { OOF_ANSWER_KIND = 0 };
@@ -360,6 +371,54 @@ uint32_t oof_reply_laid_out(float left, float right, float top, float bottom,
                             uint32_t *working, size_t working_len,
                             uint32_t *unclaimed, size_t unclaimed_len,
                             uint32_t *state, uint32_t *answer);
+
+/* ---- boxes that no scrolling brings up */
+
+/* Whether scrolling can bring a box of a finished run into view, and by how little.
+ *   place       of the box in the hoisted order, from 0: below state[OOF_STATE_WORKING]
+ *   styles, layouts, working, unclaimed, state   as the run's last call left them; only read. Of styles the length counts, of
+ *               unclaimed the length and how many records are filled
+ *   verdict     written on 0 only
+ * OOF_SEEN: there are scroll offsets, across and down, at which box and area share a patch of positive width and height. The
+ * verdict has the least on each axis; these two together are such offsets. OOF_UNSEEN: there are none. Each axis is worked out
+ * by itself, by exact sums:
+ *   - The box is counted from the area's start edge: down from the top, across from the left, in a right-to-left container
+ *     leftwards from the right.
+ *   - An axis that scrolls (OOF_OVERFLOW_HIDDEN or OOF_OVERFLOW_SCROLL, by its own code) has the offsets 0, 1, 2 and so on,
+ *     in eighths of a pixel, up to the overflow rectangle's far edge less the area's size, or 0 alone if that is negative. The
+ *     far edges are the finish's right and bottom, in both directions. An axis that doesn't scroll has 0 alone.
+ *   - Nothing scrolls before 0: a box that ends at or before the start edge of an axis is unseen.
+ *   - To touch is not to share. A box or an area whose width or height is 0 or negative shares nothing.
+ * In an area of 8 eighths that scrolls, with a far edge of 24, a box from 20 to 24 is seen at 13; at 12 it touches. With a far
+ * edge of 20 the last offset is 12, and the box is unseen.
+ * An offset is at most 9,999,998, so that offset / 8.0f is exact. It counts in scroll direction, away from the start edge: a
+ * browser's scrollLeft in a right-to-left element is its negative.
+ * Refuses with 2, 6, 4, 9, tested in this order:
+ *   2   A slice is one that a reply refuses: not whole records, too long, or of another length than at the opening. Or no box
+ *       has that place; a run without boxes, and the state of a refused opening, have a box at no place. Lend the run's own
+ *       slices, and ask for places below state[OOF_STATE_WORKING].
+ *   6   The run isn't finished, or the state counts more filled records than a list has. Answer the open question first, and
+ *       lend the state as it came. Its counts of boxes begun and questions answered aren't looked at.
+ *   4   A filled record of the working list, this box's or another's, has a node outside the table or a code outside its list.
+ *       The run left none such: somebody else wrote there. Records of the unclaimed list aren't looked at.
+ *   9   A number isn't one that oof_pixels accepts: the area's width, height, x or y, this box's x, y, width or height, or the
+ *       overflow rectangle's left, right, top or bottom, needed or not. Nothing is known of this box then. If the number is
+ *       the box's own, other boxes may have answers; if it is the area's or the rectangle's, none has. One box that stands half
+ *       an eighth off (see oof_pixels) and reaches farthest is enough for that. A finished run of whole quarter pixels, as
+ *       oof_pixels asks for them, has an answer for every box.
+ * What it doesn't promise:
+ *   - That a seen box has a pixel in view. The patch may be an eighth wide: oof_pixels gives 3 to 4 eighths a pixel, and 4 to 5
+ *     eighths none.
+ *   - That an unseen box is nowhere on the screen. Visible counts as clip: what is painted outside a visible area isn't seen.
+ *   - That nothing covers a seen box, or that the area itself is in view.
+ * The words are read as they are: a layout that somebody wrote after the finish counts. A node that was claimed twice has its
+ * last layout at both places. */
+uint32_t oof_reach(size_t place,
+                   const uint32_t *styles, size_t styles_len,
+                   const uint32_t *layouts, size_t layouts_len,
+                   const uint32_t *working, size_t working_len,
+                   const uint32_t *unclaimed, size_t unclaimed_len,
+                   const uint32_t *state, uint32_t *verdict);
 
 /* ---- whole pixels */
 

@@ -1,4 +1,5 @@
-/* What the header says of offsets, of refused calls and of pixels, tried. Prints one line; exits with 1 at the first that isn't so. */
+/* What the header says of offsets, of refused calls, of pixels and of boxes that no scrolling brings up, tried. Prints one
+ * line; exits with 1 at the first that isn't so. */
 #include <stdio.h>
 #include <stdlib.h>
 #include "oof.h"
@@ -32,21 +33,27 @@ static int tried;
         }                                                                                                             \
     } while (0)
 
+/* a style whose lengths are auto or 0 */
+static void plain_style(uint32_t *style)
+{
+    memset(style, 0, OOF_STYLE_WORDS * sizeof *style);
+    for (size_t at = OOF_STYLE_INSET_LEFT; at <= OOF_STYLE_INSET_BOTTOM; at += 2)
+        oof_set_length(style, at, OOF_TAG_AUTO, 0);
+    for (size_t at = OOF_STYLE_MARGIN_LEFT; at <= OOF_STYLE_BORDER_BOTTOM; at += 2)
+        oof_set_length(style, at, OOF_TAG_PX, 0);
+    for (size_t at = OOF_STYLE_WIDTH; at <= OOF_STYLE_MAX_HEIGHT; at += 2)
+        oof_set_length(style, at, OOF_TAG_AUTO, 0);
+    style[OOF_STYLE_JUSTIFY] = style[OOF_STYLE_ALIGN] = OOF_ALIGN_ABSENT;
+}
+
 /* a box of 120 by 18 without insets, at one point of a 200 by 100 area; what is to be written holds noise */
 static words box_at(float x, float y, float static_x, float static_y)
 {
     words w;
     memset(&w, 0x5A, sizeof w);
-    memset(w.styles, 0, sizeof w.styles);
     memset(w.candidates, 0, sizeof w.candidates);
     w.width = 200, w.height = 100, w.x = x, w.y = y, w.direction = OOF_DIRECTION_LTR;
-    for (size_t at = OOF_STYLE_INSET_LEFT; at <= OOF_STYLE_INSET_BOTTOM; at += 2)
-        oof_set_length(w.styles, at, OOF_TAG_AUTO, 0);
-    for (size_t at = OOF_STYLE_MARGIN_LEFT; at <= OOF_STYLE_BORDER_BOTTOM; at += 2)
-        oof_set_length(w.styles, at, OOF_TAG_PX, 0);
-    for (size_t at = OOF_STYLE_WIDTH; at <= OOF_STYLE_MAX_HEIGHT; at += 2)
-        oof_set_length(w.styles, at, OOF_TAG_AUTO, 0);
-    w.styles[OOF_STYLE_JUSTIFY] = w.styles[OOF_STYLE_ALIGN] = OOF_ALIGN_ABSENT;
+    plain_style(w.styles);
     w.candidates[OOF_CANDIDATE_POSITION] = OOF_POSITION_ABSOLUTE;
     w.candidates[OOF_CANDIDATE_X_START] = w.candidates[OOF_CANDIDATE_X_END] = oof_word(static_x);
     w.candidates[OOF_CANDIDATE_Y_START] = w.candidates[OOF_CANDIDATE_Y_END] = oof_word(static_y);
@@ -233,6 +240,591 @@ static void not_quarters(void)
     MUST(oof_pixels(w.layouts, 0, 0, edges) == OOF_NOT_IN_EIGHTHS);
 }
 
+/* ---- reach: what a call is lent, made up word by word or by a run */
+
+enum { ITEMS = 2, RECORDS = 2 };
+enum { STYLES = 0, LAYOUTS = 1, WORKING = 2, UNCLAIMED = 3 }; /* the four slices, in their order */
+
+typedef struct {
+    uint32_t styles[ITEMS * OOF_STYLE_WORDS];
+    uint32_t layouts[ITEMS * OOF_LAYOUT_WORDS];
+    uint32_t working[RECORDS * OOF_CANDIDATE_WORDS];
+    uint32_t unclaimed[RECORDS * OOF_CANDIDATE_WORDS];
+    uint32_t state[OOF_STATE_WORDS];
+    uint32_t lengths[4]; /* lent, at most those of the four slices */
+} ended;
+
+static const uint32_t all_lengths[4] = {ITEMS * OOF_STYLE_WORDS, ITEMS * OOF_LAYOUT_WORDS, RECORDS * OOF_CANDIDATE_WORDS,
+                                        RECORDS * OOF_CANDIDATE_WORDS};
+
+/* so many words lent, and that many at the opening */
+static void lend(ended *e, int slice, uint32_t length)
+{
+    e->lengths[slice] = e->state[OOF_STATE_LENGTHS + slice] = length;
+}
+
+enum { WROTE = 99 };
+
+/* the call's result, or WROTE if it wrote a word that it may only read, or one of the verdict though it was refused */
+static uint32_t reach(const ended *e, size_t place, uint32_t *verdict)
+{
+    const ended before = *e;
+    const uint32_t noise[OOF_REACH_WORDS] = {0x5A5A5A5A, 0xFFFFFFFF, 0x7FC00000};
+    memcpy(verdict, noise, sizeof noise);
+    uint32_t result = oof_reach(place, e->styles, e->lengths[STYLES], e->layouts, e->lengths[LAYOUTS], e->working,
+                                e->lengths[WORKING], e->unclaimed, e->lengths[UNCLAIMED], e->state, verdict);
+    if (memcmp(&before, e, sizeof before) != 0 || (result != OOF_ACCEPTED && memcmp(verdict, noise, sizeof noise) != 0))
+        return WROTE;
+    return result;
+}
+
+static int refused(const ended *e, size_t place, uint32_t number)
+{
+    uint32_t verdict[OOF_REACH_WORDS];
+    return reach(e, place, verdict) == number;
+}
+
+static int seen(const ended *e, size_t place, uint32_t x, uint32_t y)
+{
+    uint32_t verdict[OOF_REACH_WORDS];
+    return reach(e, place, verdict) == OOF_ACCEPTED && verdict[OOF_REACH_KIND] == OOF_SEEN && verdict[OOF_REACH_X] == x &&
+           verdict[OOF_REACH_Y] == y;
+}
+
+static int unseen(const ended *e, size_t place)
+{
+    uint32_t verdict[OOF_REACH_WORDS];
+    return reach(e, place, verdict) == OOF_ACCEPTED && verdict[OOF_REACH_KIND] == OOF_UNSEEN &&
+           verdict[OOF_REACH_X] == 0 && verdict[OOF_REACH_Y] == 0;
+}
+
+/* one axis, in eighths: the area's size, the box from the area's left or top edge, its size, the rectangle's far edge; and the
+ * overflow code */
+typedef struct {
+    int area, at, size, far;
+    uint32_t overflow;
+} axis;
+
+static uint32_t eighths(int n)
+{
+    return oof_word((float)n / 8);
+}
+
+/* where the area is, in eighths */
+enum { AREA_X = 800, AREA_Y = -320 };
+
+static void put_box(ended *e, int node, const axis *across, const axis *down)
+{
+    uint32_t *layout = e->layouts + node * OOF_LAYOUT_WORDS;
+    layout[OOF_LAYOUT_X] = eighths(AREA_X + across->at), layout[OOF_LAYOUT_WIDTH] = eighths(across->size);
+    layout[OOF_LAYOUT_Y] = eighths(AREA_Y + down->at), layout[OOF_LAYOUT_HEIGHT] = eighths(down->size);
+}
+
+/* a finished run whose hoisted order is nodes 1 and 0. The box of node 1, at place 0, is as the axes say. Every word that isn't to
+ * be read is noise, which is a NaN in the layouts, no style, and a bad record in the unclaimed list. */
+static ended ended_with(uint32_t direction, axis across, axis down)
+{
+    ended e;
+    memset(&e, 0xFF, sizeof e);
+    memset(e.working, 0, sizeof e.working);
+    e.working[OOF_CANDIDATE_NODE] = 1;
+    put_box(&e, 1, &across, &down);
+    e.state[OOF_STATE_PROGRESS] = 0;
+    e.state[OOF_STATE_WORKING] = 2, e.state[OOF_STATE_UNCLAIMED] = 1;
+    e.state[OOF_STATE_BEGUN] = 2, e.state[OOF_STATE_ANSWERED] = 2;
+    e.state[OOF_STATE_OVERFLOW] = eighths(-80), e.state[OOF_STATE_OVERFLOW + 1] = eighths(across.far);
+    e.state[OOF_STATE_OVERFLOW + 2] = eighths(-80), e.state[OOF_STATE_OVERFLOW + 3] = eighths(down.far);
+    e.state[OOF_STATE_AREA] = eighths(across.area), e.state[OOF_STATE_AREA + 1] = eighths(down.area);
+    e.state[OOF_STATE_AREA + 2] = eighths(AREA_X), e.state[OOF_STATE_AREA + 3] = eighths(AREA_Y);
+    e.state[OOF_STATE_DIRECTION] = direction;
+    e.state[OOF_STATE_OVERFLOW_X] = across.overflow, e.state[OOF_STATE_OVERFLOW_Y] = down.overflow;
+    for (int slice = 0; slice < 4; slice++)
+        lend(&e, slice, all_lengths[slice]);
+    return e;
+}
+
+/* in view without scrolling */
+static const axis in_view = {24, 4, 8, 0, OOF_OVERFLOW_VISIBLE};
+
+/* seen at 13 across and at 0 down */
+static ended scrolled(void)
+{
+    return ended_with(OOF_DIRECTION_LTR, (axis){8, 20, 4, 24, OOF_OVERFLOW_SCROLL}, in_view);
+}
+
+/* One axis: the box from its start edge. Tried across, as the mirror image in a right-to-left area, and down: the offset, -1 if
+ * the box is unseen, -2 if the three differ or are refused. */
+static int along(int area, int start, int size, int far, uint32_t overflow)
+{
+    const axis a = {area, start, size, far, overflow}, image = {area, area - start - size, size, far, overflow};
+    const ended three[3] = {ended_with(OOF_DIRECTION_LTR, a, in_view), ended_with(OOF_DIRECTION_RTL, image, in_view),
+                            ended_with(OOF_DIRECTION_LTR, in_view, a)};
+    uint32_t verdict[3][OOF_REACH_WORDS];
+    for (int k = 0; k < 3; k++)
+        if (reach(&three[k], 0, verdict[k]) != OOF_ACCEPTED || verdict[k][OOF_REACH_KIND] != verdict[0][OOF_REACH_KIND] ||
+            verdict[k][k < 2 ? OOF_REACH_X : OOF_REACH_Y] != verdict[0][OOF_REACH_X] ||
+            verdict[k][k < 2 ? OOF_REACH_Y : OOF_REACH_X] != 0)
+            return -2;
+    return verdict[0][OOF_REACH_KIND] == OOF_SEEN ? (int)verdict[0][OOF_REACH_X] : -1;
+}
+
+static void one_axis(void)
+{
+    const uint32_t VISIBLE = OOF_OVERFLOW_VISIBLE, CLIP = OOF_OVERFLOW_CLIP;
+    const uint32_t HIDDEN = OOF_OVERFLOW_HIDDEN, SCROLL = OOF_OVERFLOW_SCROLL;
+    MUST(along(8, 20, 4, 24, SCROLL) == 13); /* not 12, where they touch, nor 16, where the whole box is in view */
+    MUST(along(8, 20, 4, 21, SCROLL) == 13); /* the last offset */
+    MUST(along(8, 20, 4, 20, SCROLL) == -1); /* which is 12 here */
+    MUST(along(8, 20, 4, 24, HIDDEN) == 13 && along(8, 20, 4, 24, CLIP) == -1 && along(8, 20, 4, 24, VISIBLE) == -1);
+    MUST(along(8, 7, 2, 4, SCROLL) == 0 && along(8, 8, 2, 4, SCROLL) == -1); /* 0 alone, the far edge being less than the area */
+    MUST(along(8, 8, 2, 8, SCROLL) == -1 && along(8, 8, 2, 9, SCROLL) == 1); /* without "less the area's size" both scroll */
+    MUST(along(8, 7, 2, 0, VISIBLE) == 0 && along(8, 8, 2, 0, VISIBLE) == -1);
+    MUST(along(8, -2, 3, 0, VISIBLE) == 0 && along(8, -2, 2, 0, VISIBLE) == -1);
+    MUST(along(8, -20, 10, 800, SCROLL) == -1); /* the rectangle's near edge is -80, but nothing scrolls before 0 */
+    MUST(along(8, -4, 100, 96, SCROLL) == 0);
+    MUST(along(8, 2, 0, 40, SCROLL) == -1 && along(8, 2, -2, 40, SCROLL) == -1);
+    MUST(along(0, -2, 20, 40, SCROLL) == -1 && along(-8, -20, 40, 40, SCROLL) == -1);
+    MUST(along(1, 0, 1, 0, CLIP) == 0 && along(1, 1, 1, 2, SCROLL) == 1);
+}
+
+static void both_axes(void)
+{
+    const axis behind = {8, 20, 4, 24, OOF_OVERFLOW_SCROLL}, below = {16, 30, 2, 40, OOF_OVERFLOW_HIDDEN};
+    const axis still = {16, 30, 2, 40, OOF_OVERFLOW_CLIP};
+    ended e = ended_with(OOF_DIRECTION_LTR, behind, below);
+    MUST(seen(&e, 0, 13, 15));
+    e.state[OOF_STATE_DIRECTION] = OOF_DIRECTION_RTL;
+    MUST(unseen(&e, 0)); /* it begins 16 before the right edge */
+    e = ended_with(OOF_DIRECTION_LTR, behind, still);
+    MUST(unseen(&e, 0));
+    e = ended_with(OOF_DIRECTION_LTR, still, behind); /* each axis by its own code */
+    MUST(unseen(&e, 0));
+    e.state[OOF_STATE_OVERFLOW_X] = OOF_OVERFLOW_SCROLL, e.state[OOF_STATE_OVERFLOW_Y] = OOF_OVERFLOW_VISIBLE;
+    MUST(unseen(&e, 0));
+    e.state[OOF_STATE_OVERFLOW_Y] = OOF_OVERFLOW_HIDDEN;
+    MUST(seen(&e, 0, 15, 13));
+    e.state[OOF_STATE_OVERFLOW_X] = 4, e.state[OOF_STATE_OVERFLOW_Y] = 0xFFFFFFFF; /* above the list is scroll */
+    MUST(seen(&e, 0, 15, 13));
+
+    axis first = {8, 6, 2, 0, OOF_OVERFLOW_VISIBLE}, far_left = {8, -12, 4, 20, OOF_OVERFLOW_SCROLL};
+    e = ended_with(OOF_DIRECTION_RTL, first, in_view);
+    MUST(seen(&e, 0, 0, 0));
+    first.at = 8;
+    e = ended_with(OOF_DIRECTION_RTL, first, in_view);
+    MUST(unseen(&e, 0)); /* it ends at the start edge */
+    e = ended_with(OOF_DIRECTION_RTL, far_left, in_view);
+    MUST(seen(&e, 0, 9, 0));
+    e.state[OOF_STATE_DIRECTION] = 7; /* above 0 is right-to-left */
+    MUST(seen(&e, 0, 9, 0));
+    e.state[OOF_STATE_OVERFLOW] = eighths(-20), e.state[OOF_STATE_OVERFLOW + 1] = 0;
+    MUST(unseen(&e, 0)); /* the rectangle's left edge isn't the far one */
+}
+
+/* at the largest numbers; as floats x - offset would be an eighth more, and the box unseen */
+static void largest(void)
+{
+    ended e = ended_with(OOF_DIRECTION_LTR, (axis){1, 0, 1, LARGEST, OOF_OVERFLOW_SCROLL}, in_view);
+    uint32_t *layout = e.layouts + OOF_LAYOUT_WORDS, *area_x = &e.state[OOF_STATE_AREA + 2];
+    layout[OOF_LAYOUT_X] = eighths(LARGEST - 1), *area_x = eighths(0);
+    MUST(seen(&e, 0, 9999998, 0));
+    layout[OOF_LAYOUT_X] = eighths(LARGEST);
+    MUST(unseen(&e, 0));
+    layout[OOF_LAYOUT_X] = eighths(LARGEST), *area_x = eighths(-LARGEST);
+    MUST(unseen(&e, 0));
+
+    e = ended_with(OOF_DIRECTION_RTL, (axis){8, 0, LARGEST, 6777229, OOF_OVERFLOW_SCROLL}, in_view);
+    layout[OOF_LAYOUT_X] = eighths(-LARGEST), *area_x = eighths(6777220);
+    MUST(seen(&e, 0, 6777221, 0));
+}
+
+/* ---- refused */
+
+/* the slices, and places without a box */
+static void bad_extents(void)
+{
+    ended e = scrolled();
+    MUST(refused(&e, 2, OOF_BAD_EXTENT) && refused(&e, SIZE_MAX, OOF_BAD_EXTENT));
+    MUST(refused(&e, (size_t)1 << 32, OOF_BAD_EXTENT)); /* not place 0 */
+    e.state[OOF_STATE_WORKING] = 0;
+    MUST(refused(&e, 0, OOF_BAD_EXTENT));
+    e.state[OOF_STATE_PROGRESS] = 5;
+    MUST(refused(&e, 0, OOF_BAD_EXTENT)); /* unfinished, nothing filled */
+
+    for (int slice = 0; slice < 4; slice++) {
+        e = scrolled(); /* another length than at the opening */
+        e.lengths[slice] = 0;
+        MUST(refused(&e, 0, OOF_BAD_EXTENT));
+        e = scrolled();
+        e.state[OOF_STATE_LENGTHS + slice]++;
+        MUST(refused(&e, 0, OOF_BAD_EXTENT));
+        e = scrolled(); /* not whole records, at the opening too */
+        lend(&e, slice, all_lengths[slice] - 1);
+        MUST(refused(&e, 0, OOF_BAD_EXTENT));
+    }
+    e = scrolled();
+    lend(&e, STYLES, OOF_STYLE_WORDS + 1), lend(&e, LAYOUTS, OOF_LAYOUT_WORDS);
+    MUST(refused(&e, 0, OOF_BAD_EXTENT));
+    lend(&e, STYLES, OOF_STYLE_WORDS), lend(&e, LAYOUTS, ITEMS * OOF_LAYOUT_WORDS);
+    MUST(refused(&e, 0, OOF_BAD_EXTENT));
+    lend(&e, LAYOUTS, OOF_LAYOUT_WORDS);
+    MUST(refused(&e, 0, OOF_BAD_CANDIDATE)); /* node 1 of one item */
+
+    memset(&e, 0, sizeof e); /* zeros are a finished run over no words */
+    MUST(refused(&e, 0, OOF_BAD_EXTENT));
+    e.lengths[UNCLAIMED] = OOF_CANDIDATE_WORDS;
+    MUST(refused(&e, 0, OOF_BAD_EXTENT));
+}
+
+/* as long as slices may be, and one record longer */
+static void longest(void)
+{
+    enum { STYLE_ROOM = (OOF_MOST_ITEMS + 1) * OOF_STYLE_WORDS, LAYOUT_ROOM = (OOF_MOST_ITEMS + 1) * OOF_LAYOUT_WORDS };
+    enum { LIST_ROOM = (OOF_MOST_RECORDS + 1) * OOF_CANDIDATE_WORDS };
+    static uint32_t styles[STYLE_ROOM], layouts[LAYOUT_ROOM], lists[2][LIST_ROOM];
+    for (int longer = -1; longer < 3; longer++) {
+        ended e = scrolled();
+        uint32_t items = OOF_MOST_ITEMS + (longer == 0), *lengths = e.state + OOF_STATE_LENGTHS;
+        uint32_t verdict[OOF_REACH_WORDS];
+        memcpy(lists[0], e.working, sizeof e.working);
+        lists[0][OOF_CANDIDATE_NODE] = OOF_MOST_ITEMS - 1;
+        memcpy(layouts + (OOF_MOST_ITEMS - 1) * OOF_LAYOUT_WORDS, e.layouts + OOF_LAYOUT_WORDS,
+               OOF_LAYOUT_WORDS * sizeof *layouts);
+        lengths[STYLES] = items * OOF_STYLE_WORDS, lengths[LAYOUTS] = items * OOF_LAYOUT_WORDS;
+        lengths[WORKING] = (OOF_MOST_RECORDS + (longer == 1)) * OOF_CANDIDATE_WORDS;
+        lengths[UNCLAIMED] = (OOF_MOST_RECORDS + (longer == 2)) * OOF_CANDIDATE_WORDS;
+        uint32_t result = oof_reach(0, styles, lengths[STYLES], layouts, lengths[LAYOUTS], lists[0], lengths[WORKING], lists[1],
+                                    lengths[UNCLAIMED], e.state, verdict);
+        MUST(longer < 0 ? result == OOF_ACCEPTED && verdict[OOF_REACH_X] == 13 : result == OOF_BAD_EXTENT);
+    }
+}
+
+/* an unfinished run, or counts above the lists; no other count is looked at */
+static void wrong_states(void)
+{
+    ended e;
+    for (uint32_t progress = 1; progress <= 5; progress++) {
+        e = scrolled();
+        e.state[OOF_STATE_PROGRESS] = progress;
+        MUST(refused(&e, 0, OOF_WRONG_REPLY) && refused(&e, 2, OOF_BAD_EXTENT));
+    }
+    e.state[OOF_STATE_PROGRESS] = 6; /* above the list is finished */
+    MUST(seen(&e, 0, 13, 0));
+
+    e = scrolled();
+    lend(&e, WORKING, OOF_CANDIDATE_WORDS); /* one record, of which two are filled */
+    MUST(refused(&e, 1, OOF_WRONG_REPLY) && refused(&e, 0, OOF_WRONG_REPLY) && refused(&e, 2, OOF_BAD_EXTENT));
+    e.state[OOF_STATE_WORKING] = 0xFFFFFFFF;
+    MUST(refused(&e, 0xFFFFFFFE, OOF_WRONG_REPLY) && refused(&e, 0xFFFFFFFF, OOF_BAD_EXTENT));
+    e.state[OOF_STATE_WORKING] = 1;
+    MUST(seen(&e, 0, 13, 0));
+    e.state[OOF_STATE_UNCLAIMED] = 2;
+    MUST(seen(&e, 0, 13, 0));
+    e.state[OOF_STATE_UNCLAIMED] = 3;
+    MUST(refused(&e, 0, OOF_WRONG_REPLY));
+
+    e = scrolled();
+    e.state[OOF_STATE_BEGUN] = 0;
+    MUST(seen(&e, 0, 13, 0));
+    e.state[OOF_STATE_BEGUN] = 7, e.state[OOF_STATE_ANSWERED] = 99;
+    MUST(seen(&e, 0, 13, 0));
+}
+
+/* any filled working record, and no other */
+static void bad_records(void)
+{
+    const int codes[7] = {OOF_CANDIDATE_POSITION, OOF_CANDIDATE_X_EDGE, OOF_CANDIDATE_X_SAFETY, OOF_CANDIDATE_X_FALLBACK,
+                          OOF_CANDIDATE_Y_EDGE, OOF_CANDIDATE_Y_SAFETY, OOF_CANDIDATE_Y_FALLBACK};
+    for (int record = 0; record < RECORDS; record++) {
+        ended e = scrolled();
+        uint32_t *words = e.working + record * OOF_CANDIDATE_WORDS;
+        for (int k = 0; k < 7; k++) {
+            words[codes[k]] = k ? 3 : 5;
+            MUST(refused(&e, 0, OOF_BAD_CANDIDATE));
+            words[codes[k]] = k ? 2 : 4;
+            MUST(seen(&e, 0, 13, 0));
+        }
+        words[OOF_CANDIDATE_ORDER] = words[OOF_CANDIDATE_X_START] = words[OOF_CANDIDATE_Y_END] = 0xFFFFFFFF; /* no codes */
+        MUST(seen(&e, 0, 13, 0));
+        words[OOF_CANDIDATE_NODE] = ITEMS;
+        MUST(refused(&e, 0, OOF_BAD_CANDIDATE) && refused(&e, 1, OOF_BAD_CANDIDATE));
+        e.state[OOF_STATE_WORKING] = 1;
+        MUST(record == 0 ? refused(&e, 0, OOF_BAD_CANDIDATE) : seen(&e, 0, 13, 0));
+    }
+}
+
+/* the twelve numbers, needed or not */
+static void not_accepted(void)
+{
+    const uint32_t bad[8] = {oof_word(0.0625f), oof_word(-0.1f), oof_word(1250000), oof_word(-1250000), 1, 0x7F800000,
+                             0xFF800000, 0xFFC00000};
+    const uint32_t good[4] = {eighths(LARGEST), eighths(-LARGEST), eighths(1), 0x80000000};
+    uint32_t verdict[OOF_REACH_WORDS];
+    for (int number = 0; number < 12; number++) {
+        const int of_box[4] = {OOF_LAYOUT_X, OOF_LAYOUT_Y, OOF_LAYOUT_WIDTH, OOF_LAYOUT_HEIGHT};
+        ended e = scrolled();
+        uint32_t *word = number < 4   ? &e.state[OOF_STATE_AREA + number]
+                         : number < 8 ? &e.state[OOF_STATE_OVERFLOW + number - 4]
+                                      : &e.layouts[OOF_LAYOUT_WORDS + of_box[number - 8]];
+        for (int k = 0; k < 8; k++) {
+            *word = bad[k];
+            MUST(refused(&e, 0, OOF_NOT_IN_EIGHTHS));
+        }
+        for (int k = 0; k < 4; k++) {
+            *word = good[k];
+            MUST(reach(&e, 0, verdict) == OOF_ACCEPTED);
+        }
+    }
+    ended e = scrolled();
+    MUST(refused(&e, 1, OOF_NOT_IN_EIGHTHS)); /* the other box's numbers are NaNs, which place 0 doesn't mind */
+    e.layouts[OOF_LAYOUT_WORDS + OOF_LAYOUT_PADDING] = 0x7FC00000;
+    MUST(seen(&e, 0, 13, 0));
+    e.state[OOF_STATE_OVERFLOW + 2] = 0x80000000;
+    e.layouts[OOF_LAYOUT_WORDS + OOF_LAYOUT_Y] = 0x80000000, e.state[OOF_STATE_AREA + 3] = 0; /* -0 is 0 */
+    MUST(seen(&e, 0, 13, 0));
+}
+
+/* 2 before 6 before 4 before 9 */
+static void tested_in_order(void)
+{
+    ended e = scrolled();
+    e.state[OOF_STATE_AREA] = 0x7FC00000;
+    MUST(refused(&e, 0, OOF_NOT_IN_EIGHTHS));
+    e.working[OOF_CANDIDATE_WORDS + OOF_CANDIDATE_POSITION] = 5;
+    MUST(refused(&e, 0, OOF_BAD_CANDIDATE));
+    e.state[OOF_STATE_PROGRESS] = 4;
+    MUST(refused(&e, 0, OOF_WRONG_REPLY));
+    e.state[OOF_STATE_PROGRESS] = 0, e.state[OOF_STATE_UNCLAIMED] = 3;
+    MUST(refused(&e, 0, OOF_WRONG_REPLY));
+    MUST(refused(&e, 2, OOF_BAD_EXTENT));
+    e.lengths[UNCLAIMED] = 0;
+    MUST(refused(&e, 0, OOF_BAD_EXTENT));
+}
+
+/* ---- boxes of runs, in an area of 800 by 480 at 100, 40 */
+
+/* two candidates, lent with the words of the styles; all else may be noise */
+static uint32_t run_opened(ended *e, uint32_t direction, uint32_t claims, uint32_t overflow, const uint32_t *candidates,
+                           uint32_t *answer)
+{
+    memcpy(e->lengths, all_lengths, sizeof all_lengths);
+    return oof_open(800, 480, 100, 40, direction, claims, overflow, overflow, e->styles, e->lengths[STYLES], candidates,
+                    2 * OOF_CANDIDATE_WORDS, e->layouts, e->lengths[LAYOUTS], e->working, e->lengths[WORKING], e->unclaimed,
+                    e->lengths[UNCLAIMED], e->state, answer);
+}
+
+/* every box's size is given, so that there is nothing to measure */
+static int run_finished(ended *e, uint32_t *answer)
+{
+    uint32_t result = OOF_ACCEPTED;
+    while (result == OOF_ACCEPTED && answer[OOF_ANSWER_KIND] == OOF_LAY_OUT)
+        result = oof_reply_laid_out(0, 0, 0, 0, answer, 0, e->styles, e->lengths[STYLES], e->layouts, e->lengths[LAYOUTS],
+                                    e->working, e->lengths[WORKING], e->unclaimed, e->lengths[UNCLAIMED], e->state, answer);
+    return result == OOF_ACCEPTED && answer[OOF_ANSWER_KIND] == OOF_FINISH;
+}
+
+static uint32_t *box_style(ended *e, int node, float width, float height)
+{
+    uint32_t *style = e->styles + node * OOF_STYLE_WORDS;
+    plain_style(style);
+    oof_set_length(style, OOF_STYLE_WIDTH, OOF_TAG_PX, width);
+    oof_set_length(style, OOF_STYLE_HEIGHT, OOF_TAG_PX, height);
+    return style;
+}
+
+/* the label, and the note that ends 8 pixels before the start edge */
+static ended incident(uint32_t direction)
+{
+    ended e;
+    int ltr = direction == OOF_DIRECTION_LTR;
+    memset(&e, 0xFF, sizeof e);
+    uint32_t *label = box_style(&e, 0, 160, 24), *note = box_style(&e, 1, 320, 96);
+    label[OOF_STYLE_DIRECTION] = note[OOF_STYLE_DIRECTION] = direction;
+    oof_set_length(label, ltr ? OOF_STYLE_INSET_LEFT : OOF_STYLE_INSET_RIGHT, OOF_TAG_PX, 24);
+    oof_set_length(label, OOF_STYLE_INSET_TOP, OOF_TAG_PX, 16);
+    oof_set_length(note, ltr ? OOF_STYLE_INSET_RIGHT : OOF_STYLE_INSET_LEFT, OOF_TAG_PX, 800);
+    oof_set_length(note, ltr ? OOF_STYLE_MARGIN_RIGHT : OOF_STYLE_MARGIN_LEFT, OOF_TAG_PX, 8);
+    oof_set_length(note, OOF_STYLE_INSET_TOP, OOF_TAG_PX, 200);
+    return e;
+}
+
+static void boxes_of_runs(void)
+{
+    uint32_t answer[OOF_ANSWER_WORDS], candidates[2 * OOF_CANDIDATE_WORDS] = {0};
+    candidates[OOF_CANDIDATE_POSITION] = candidates[OOF_CANDIDATE_WORDS + OOF_CANDIDATE_POSITION] = OOF_POSITION_ABSOLUTE;
+    candidates[OOF_CANDIDATE_WORDS + OOF_CANDIDATE_NODE] = 1;
+    for (uint32_t direction = OOF_DIRECTION_LTR; direction <= OOF_DIRECTION_RTL; direction++)
+        for (uint32_t overflow = OOF_OVERFLOW_VISIBLE; overflow <= OOF_OVERFLOW_SCROLL; overflow++) {
+            ended e = incident(direction);
+            MUST(run_opened(&e, direction, OOF_CLAIMS_ABSOLUTE, overflow, candidates, answer) == OOF_ACCEPTED);
+            MUST(refused(&e, 0, OOF_WRONG_REPLY) && refused(&e, 2, OOF_BAD_EXTENT)); /* unfinished */
+            MUST(run_finished(&e, answer));
+            MUST(seen(&e, 0, 0, 0) && unseen(&e, 1) && refused(&e, 2, OOF_BAD_EXTENT));
+            e.styles[OOF_STYLE_PADDING_LEFT] = 2; /* no tag: styles are no longer read */
+            MUST(seen(&e, 0, 0, 0) && unseen(&e, 1));
+
+            e = incident(direction); /* the note 900 from the start edge, 500 from the top */
+            uint32_t *note = e.styles + OOF_STYLE_WORDS;
+            int start = direction == OOF_DIRECTION_LTR ? OOF_STYLE_INSET_LEFT : OOF_STYLE_INSET_RIGHT;
+            for (size_t at = OOF_STYLE_INSET_LEFT; at <= OOF_STYLE_INSET_BOTTOM; at += 2)
+                oof_set_length(note, at, OOF_TAG_AUTO, 0);
+            oof_set_length(note, start, OOF_TAG_PX, 900);
+            oof_set_length(note, OOF_STYLE_INSET_TOP, OOF_TAG_PX, 500);
+            MUST(run_opened(&e, direction, OOF_CLAIMS_ABSOLUTE, overflow, candidates, answer) == OOF_ACCEPTED);
+            MUST(run_finished(&e, answer) && seen(&e, 0, 0, 0));
+            MUST(overflow >= OOF_OVERFLOW_HIDDEN ? seen(&e, 1, 8 * 100 + 1, 8 * 20 + 1) : unseen(&e, 1));
+        }
+}
+
+/* openings that leave no box, a node that is claimed twice, and a box on a sixteenth whose end is the rectangle's far edge */
+static void odd_runs(void)
+{
+    uint32_t answer[OOF_ANSWER_WORDS], candidates[2 * OOF_CANDIDATE_WORDS] = {0};
+    uint32_t *second = candidates + OOF_CANDIDATE_WORDS;
+    candidates[OOF_CANDIDATE_POSITION] = second[OOF_CANDIDATE_POSITION] = OOF_POSITION_ABSOLUTE;
+    ended e = incident(OOF_DIRECTION_LTR);
+    MUST(run_opened(&e, OOF_DIRECTION_LTR, OOF_CLAIMS_FIXED, OOF_OVERFLOW_SCROLL, candidates, answer) == OOF_ACCEPTED);
+    MUST(answer[OOF_ANSWER_KIND] == OOF_FINISH && e.state[OOF_STATE_UNCLAIMED] == 2);
+    MUST(refused(&e, 0, OOF_BAD_EXTENT) && refused(&e, 1, OOF_BAD_EXTENT));
+    MUST(run_opened(&e, 2, OOF_CLAIMS_ABSOLUTE, OOF_OVERFLOW_SCROLL, candidates, answer) == OOF_BAD_AREA);
+    MUST(refused(&e, 0, OOF_BAD_EXTENT) && refused(&e, 1, OOF_BAD_EXTENT));
+
+    box_style(&e, 0, 160, 24); /* node 0, first at the area's corner, then 900 from it */
+    for (int at = OOF_CANDIDATE_X_START; at <= OOF_CANDIDATE_X_END; at++)
+        candidates[at] = oof_word(100), second[at] = oof_word(1000);
+    for (int at = OOF_CANDIDATE_Y_START; at <= OOF_CANDIDATE_Y_END; at++)
+        candidates[at] = second[at] = oof_word(40);
+    MUST(run_opened(&e, OOF_DIRECTION_LTR, OOF_CLAIMS_ABSOLUTE, OOF_OVERFLOW_SCROLL, candidates, answer) == OOF_ACCEPTED);
+    MUST(run_finished(&e, answer) && seen(&e, 0, 8 * 100 + 1, 0) && seen(&e, 1, 8 * 100 + 1, 0));
+
+    box_style(&e, 1, 160, 24);
+    second[OOF_CANDIDATE_NODE] = 1;
+    second[OOF_CANDIDATE_X_START] = second[OOF_CANDIDATE_X_END] = oof_word(1000.0625f);
+    MUST(run_opened(&e, OOF_DIRECTION_LTR, OOF_CLAIMS_ABSOLUTE, OOF_OVERFLOW_SCROLL, candidates, answer) == OOF_ACCEPTED);
+    MUST(run_finished(&e, answer) && refused(&e, 0, OOF_NOT_IN_EIGHTHS) && refused(&e, 1, OOF_NOT_IN_EIGHTHS));
+}
+
+/* ---- random words, beside a search over all offsets */
+
+static uint32_t below(uint32_t count)
+{
+    static uint32_t seed = 102;
+    seed ^= seed << 13, seed ^= seed >> 17, seed ^= seed << 5;
+    return seed % count;
+}
+
+static int between(int low, int high)
+{
+    return low + (int)below((uint32_t)(high - low + 1));
+}
+
+static axis any_axis(void)
+{
+    const axis a = {between(-1, 12), between(-30, 30), between(-1, 12), between(-5, 40), below(5)};
+    return a;
+}
+
+/* the first offset that shows the box, or -1. The view moves over the panel, leftwards if it is right-to-left. */
+static int searched(int area, int at, int size, int far, int scrolls, int leftwards)
+{
+    int last = scrolls && far > area ? far - area : 0;
+    for (int offset = 0; offset <= last; offset++) {
+        int view = leftwards ? -offset : offset;
+        int from = at > view ? at : view, to = at + size < view + area ? at + size : view + area;
+        if (from < to)
+            return offset;
+    }
+    return -1;
+}
+
+static int in_eighths(uint32_t word, int *count)
+{
+    double n = 8.0 * (double)oof_float(word);
+    if (!(n >= -LARGEST && n <= LARGEST))
+        return 0;
+    *count = (int)n;
+    return *count == n;
+}
+
+static int bad_record(const uint32_t *record, uint32_t items)
+{
+    int bad = record[OOF_CANDIDATE_NODE] >= items || record[OOF_CANDIDATE_POSITION] > OOF_POSITION_STICKY;
+    for (int k = OOF_CANDIDATE_X_EDGE; k <= OOF_CANDIDATE_X_FALLBACK; k++)
+        bad |= record[k] > 2 || record[k + OOF_CANDIDATE_Y_EDGE - OOF_CANDIDATE_X_EDGE] > 2;
+    return bad;
+}
+
+static uint32_t modelled(const ended *e, size_t place, uint32_t *verdict)
+{
+    const uint32_t *s = e->state, *lengths = e->lengths, items = lengths[STYLES] / OOF_STYLE_WORDS;
+    if (lengths[STYLES] % OOF_STYLE_WORDS || lengths[LAYOUTS] != items * OOF_LAYOUT_WORDS ||
+        lengths[WORKING] % OOF_CANDIDATE_WORDS || lengths[UNCLAIMED] % OOF_CANDIDATE_WORDS ||
+        memcmp(lengths, s + OOF_STATE_LENGTHS, 4 * sizeof *lengths) || place >= s[OOF_STATE_WORKING])
+        return OOF_BAD_EXTENT;
+    if ((s[OOF_STATE_PROGRESS] >= 1 && s[OOF_STATE_PROGRESS] <= 5) ||
+        s[OOF_STATE_WORKING] > lengths[WORKING] / OOF_CANDIDATE_WORDS ||
+        s[OOF_STATE_UNCLAIMED] > lengths[UNCLAIMED] / OOF_CANDIDATE_WORDS)
+        return OOF_WRONG_REPLY;
+    for (uint32_t k = 0; k < s[OOF_STATE_WORKING]; k++)
+        if (bad_record(e->working + k * OOF_CANDIDATE_WORDS, items))
+            return OOF_BAD_CANDIDATE;
+    const uint32_t *layout = e->layouts + e->working[place * OOF_CANDIDATE_WORDS] * OOF_LAYOUT_WORDS;
+    int area[4], edge[4], box[4], good = 1;
+    for (int k = 0; k < 4; k++) {
+        const int of_box[4] = {OOF_LAYOUT_WIDTH, OOF_LAYOUT_HEIGHT, OOF_LAYOUT_X, OOF_LAYOUT_Y};
+        good &= in_eighths(s[OOF_STATE_AREA + k], &area[k]) && in_eighths(s[OOF_STATE_OVERFLOW + k], &edge[k]) &&
+                in_eighths(layout[of_box[k]], &box[k]);
+    }
+    if (!good)
+        return OOF_NOT_IN_EIGHTHS;
+    int x = searched(area[0], box[2] - area[2], box[0], edge[1], s[OOF_STATE_OVERFLOW_X] >= OOF_OVERFLOW_HIDDEN,
+                     s[OOF_STATE_DIRECTION] != OOF_DIRECTION_LTR);
+    int y = searched(area[1], box[3] - area[3], box[1], edge[3], s[OOF_STATE_OVERFLOW_Y] >= OOF_OVERFLOW_HIDDEN, 0);
+    int both = x >= 0 && y >= 0;
+    verdict[OOF_REACH_KIND] = both ? OOF_SEEN : OOF_UNSEEN;
+    verdict[OOF_REACH_X] = both ? (uint32_t)x : 0, verdict[OOF_REACH_Y] = both ? (uint32_t)y : 0;
+    return OOF_ACCEPTED;
+}
+
+/* one word, or one length, to be refused or not to matter */
+static void damage(ended *e)
+{
+    int slice = (int)below(4);
+    switch (below(8)) {
+    case 0: e->lengths[slice] -= below(2) ? 1 : all_lengths[slice] / 2; break;
+    case 1: lend(e, slice, all_lengths[slice] / 2); break;
+    case 2: lend(e, STYLES, OOF_STYLE_WORDS), lend(e, LAYOUTS, OOF_LAYOUT_WORDS); break;
+    case 3: e->state[OOF_STATE_PROGRESS] = below(8); break;
+    case 4: e->state[OOF_STATE_WORKING + slice] = below(4); break; /* of the four counts */
+    case 5: e->working[below(RECORDS * OOF_CANDIDATE_WORDS)] = below(7); break;
+    case 6: e->layouts[below(ITEMS * OOF_LAYOUT_WORDS)] = oof_word(0.0625f * (float)between(-3, 3)); break;
+    default: e->state[OOF_STATE_OVERFLOW + below(8)] = oof_word(0.0625f * (float)between(-3, 3)); break;
+    }
+}
+
+static void random_words(void)
+{
+    enum { CALLS = 200000, SEEN = 10, SCROLLED = 11, UNSEEN = 12, KINDS = 13 };
+    int wrong = 0, told[KINDS] = {0};
+    for (int call = 0; call < CALLS; call++) {
+        const axis across = any_axis(), down = any_axis(), other_across = any_axis(), other_down = any_axis();
+        ended e = ended_with(below(3), across, down);
+        uint32_t expected[OOF_REACH_WORDS], verdict[OOF_REACH_WORDS];
+        put_box(&e, 0, &other_across, &other_down);
+        e.working[OOF_CANDIDATE_NODE] = below(ITEMS), e.working[OOF_CANDIDATE_WORDS + OOF_CANDIDATE_NODE] = below(ITEMS);
+        for (uint32_t k = below(4); k > 1; k--) /* none in half of the calls */
+            damage(&e);
+        size_t place = below(16) ? below(2) : below(4);
+        uint32_t result = modelled(&e, place, expected);
+        if (reach(&e, place, verdict) != result || (result == OOF_ACCEPTED && memcmp(expected, verdict, sizeof expected)))
+            wrong++;
+        int scrolls = result == OOF_ACCEPTED && expected[OOF_REACH_X] + expected[OOF_REACH_Y] > 0;
+        told[result != OOF_ACCEPTED ? (int)result : expected[OOF_REACH_KIND] == OOF_UNSEEN ? UNSEEN : scrolls ? SCROLLED : SEEN]++;
+    }
+    MUST(wrong == 0);
+    MUST(told[OOF_BAD_EXTENT] > 1000 && told[OOF_WRONG_REPLY] > 1000 && told[OOF_BAD_CANDIDATE] > 1000);
+    MUST(told[OOF_NOT_IN_EIGHTHS] > 1000 && told[SEEN] > 1000 && told[SCROLLED] > 1000 && told[UNSEEN] > 1000);
+}
+
 int main(void)
 {
     offsets();
@@ -241,6 +833,18 @@ int main(void)
     whole_pixels();
     centered();
     not_quarters();
+    one_axis();
+    both_axes();
+    largest();
+    bad_extents();
+    longest();
+    wrong_states();
+    bad_records();
+    not_accepted();
+    tested_in_order();
+    boxes_of_runs();
+    odd_runs();
+    random_words();
     printf("hosts/c: %d tests passed\n", tried);
     return EXIT_SUCCESS;
 }

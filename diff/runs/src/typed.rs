@@ -77,7 +77,7 @@ pub fn compare(case: &Case, setting: &Setting, rust: &Transcript) -> Result<(), 
         Room { working: rust.working.len() + setting.spare[0], unclaimed: rust.unclaimed.len() + setting.spare[1] };
     let placed = compute_oof_layout_with(&mut host, &area(&case.area), &styles, &candidates, room);
     let placed = placed.map_err(|refusal| format!("the Rust host is refused: {refusal}"))?;
-    let Placed { layouts, hoisted, unclaimed, overflow: o, questions } = placed;
+    let Placed { layouts, hoisted, unclaimed, overflow: o, questions, .. } = placed;
 
     let layouts: Vec<Option<Vec<u32>>> = layouts.iter().map(|l| l.map(|l| l.to_words().to_vec())).collect();
     let wanted: Vec<Option<Vec<u32>>> = rust.layouts.iter().map(|l| l.map(|l| l.to_vec())).collect();

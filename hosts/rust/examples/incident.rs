@@ -1,6 +1,6 @@
 //! The panel of the incident and its Arabic mirror image, in whole pixels: a label, and the note that said why a restore was refused.
-//! The note was to end 8 pixels before what it speaks of, and that stands in the panel's first column. The panel stands at 100, 40 of
-//! its window; the edges are counted from the panel's corner.
+//! The note was to end 8 pixels before what it speaks of, and that stands in the panel's first column. The panel scrolls, and stands at
+//! 100, 40 of its window; the edges are counted from the panel's corner. Under each box: whether scrolling can bring it into view.
 use oof::*;
 
 struct Font;
@@ -18,7 +18,8 @@ fn sides<T>(direction: Direction, start: T, end: T) -> (T, T) {
     }
 }
 
-fn place(direction: Direction) -> Vec<Option<Result<Rect<i32>, Refusal>>> {
+/// Each box in hoisted order: its pixel edges, and the verdict
+fn place(direction: Direction) -> Vec<[String; 2]> {
     let (auto, px) = (LengthPercentageAuto::Auto, LengthPercentageAuto::Length);
     let label = {
         let (left, right) = sides(direction, px(24.0), auto);
@@ -33,20 +34,29 @@ fn place(direction: Direction) -> Vec<Option<Result<Rect<i32>, Refusal>>> {
         Style { inset, margin, size, direction, ..Style::default() }
     };
     let (size, offset) = (Size { width: 800.0, height: 480.0 }, Point { x: 100.0, y: 40.0 });
-    let panel = Area { size, offset, direction, ..Area::default() };
+    let overflow = Point { x: Overflow::Scroll, y: Overflow::Scroll };
+    let panel = Area { size, offset, direction, overflow, ..Area::default() };
     let candidates = [0, 1].map(|node| Candidate { node, ..Candidate::default() });
     let placed = compute_oof_layout_for_area(&mut Font, &panel, &[label, note], &candidates);
-    placed.expect("nothing here is refused").pixels(&panel)
+    let placed = placed.expect("nothing here is refused");
+    let edges = placed.pixels(&panel);
+    let said = |(place, &node): (usize, &NodeId)| {
+        let Rect { left, right, top, bottom } = edges[node as usize].expect("it was placed").expect("it is in eighths");
+        let verdict = match placed.reach(place).expect("so is all of it").offset() {
+            Some(Point { x, y }) => format!("seen at {x}, {y}"),
+            None => "unseen".to_string(),
+        };
+        [format!("{left} to {right}, {top} to {bottom}"), verdict]
+    };
+    placed.hoisted.iter().enumerate().map(said).collect()
 }
 
 fn main() {
     let panels = [Direction::Ltr, Direction::Rtl].map(place);
     println!("{:<6}  {:<24}  Arabic panel", "", "English panel");
-    for (node, name) in ["label", "note"].into_iter().enumerate() {
-        let [english, arabic] = panels.each_ref().map(|boxes| {
-            let Rect { left, right, top, bottom } = boxes[node].expect("it was placed").expect("it is in eighths");
-            format!("{left} to {right}, {top} to {bottom}")
-        });
-        println!("{name:<6}  {english:<24}  {arabic}");
+    for (place, name) in ["label", "note"].into_iter().enumerate() {
+        let [english, arabic] = panels.each_ref().map(|boxes| &boxes[place]);
+        println!("{name:<6}  {:<24}  {}", english[0], arabic[0]);
+        println!("{:<6}  {:<24}  {}", "", english[1], arabic[1]);
     }
 }

@@ -1,4 +1,4 @@
-//! The six entries of the static library `oof_c`, over words. This is the only module with `unsafe`.
+//! The seven entries of the static library `oof_c`, over words. This is the only module with `unsafe`.
 //!
 //! Every entry takes any words in any number, and a call that it refuses writes no lent word. So the functions here are safe:
 //! the slices are Rust's, and two of which one may be written don't overlap.
@@ -14,6 +14,8 @@ pub const STATE: usize = 27;
 pub const ANSWER: usize = 10;
 /// Pixel edges of a box: left, right, top, bottom
 pub const EDGES: usize = 4;
+/// Words of a verdict: 1 seen or 0 unseen, then the offsets x and y in eighths of a pixel, 0 if unseen
+pub const VERDICT: usize = 3;
 
 /// Places of a state's words.
 pub mod state {
@@ -41,7 +43,7 @@ pub mod state {
     pub const LENGTHS: usize = 23;
 }
 
-/// What every call lends.
+/// What every call of a run lends.
 pub struct Lent<'a> {
     /// Whole styles, 57 words each
     pub styles: &'a [u32],
@@ -55,6 +57,21 @@ pub struct Lent<'a> {
     pub state: &'a mut [u32; STATE],
     /// The next question, or the finish. Written when a call is accepted
     pub answer: &'a mut [u32; ANSWER],
+}
+
+/// What a call lends that reads a finished run: its words, as the last call left them.
+#[derive(Copy, Clone)]
+pub struct Finished<'a> {
+    /// As many words as at the opening; which ones doesn't count
+    pub styles: &'a [u32],
+    /// The layouts
+    pub layouts: &'a [u32],
+    /// The working list, whose filled records are the hoisted order
+    pub working: &'a [u32],
+    /// The unclaimed list
+    pub unclaimed: &'a [u32],
+    /// The state
+    pub state: &'a [u32; STATE],
 }
 
 /// A reply, by kind.
@@ -152,6 +169,19 @@ mod c {
             state: *mut u32,
             answer: *mut u32,
         ) -> u32;
+        pub fn oof_reach(
+            place: usize,
+            styles: *const u32,
+            styles_len: usize,
+            layouts: *const u32,
+            layouts_len: usize,
+            working: *const u32,
+            working_len: usize,
+            unclaimed: *const u32,
+            unclaimed_len: usize,
+            state: *const u32,
+            verdict: *mut u32,
+        ) -> u32;
         pub fn oof_pixels(layout: *const u32, x: f32, y: f32, edges: *mut i32) -> u32;
     }
 }
@@ -210,6 +240,28 @@ pub fn reply(reply: Reply, surfaced: &[u32], lent: &mut Lent) -> u32 {
         Reply::LaidOut([left, right, top, bottom]) => {
             call!(oof_reply_laid_out, lent, left, right, top, bottom, surfaced.as_ptr(), surfaced.len(), styles, length)
         }
+    }
+}
+
+/// Whether scrolling can bring the box at a place of the hoisted order into view. The verdict is written when the call is accepted.
+/// The result is 0, or the number of a refusal.
+pub fn reach(place: usize, run: Finished, verdict: &mut [u32; VERDICT]) -> u32 {
+    // SAFETY: pointers and lengths come from Rust slices that live through the call; the entry only reads them and the state's 27
+    // words, and writes the verdict's 3, which are borrowed uniquely
+    unsafe {
+        c::oof_reach(
+            place,
+            run.styles.as_ptr(),
+            run.styles.len(),
+            run.layouts.as_ptr(),
+            run.layouts.len(),
+            run.working.as_ptr(),
+            run.working.len(),
+            run.unclaimed.as_ptr(),
+            run.unclaimed.len(),
+            run.state.as_ptr(),
+            verdict.as_mut_ptr(),
+        )
     }
 }
 

@@ -2,8 +2,8 @@
 //!
 //! [`compute_oof_layout_for_area`] reads like the function of that name in taffy 0.15.1: it takes an area, a table of styles
 //! and a list of candidates, calls the [`Host`] back to measure and to lay out, and returns where the boxes stand. Under it is
-//! the library's dialogue of questions and replies over lent words; [`ffi`] has its six entries, with slices checked by Rust.
-//! [`Layout::pixels`] rounds a box to whole pixels.
+//! the library's dialogue of questions and replies over lent words; [`ffi`] has its seven entries, with slices checked by
+//! Rust. [`Layout::pixels`] rounds a box to whole pixels, and [`Placed::reach`] says whether scrolling can bring it into view.
 //!
 //! ```
 //! use oof::*;
@@ -25,12 +25,14 @@
 //! let layout = placed.layouts[0].unwrap();
 //! assert_eq!(layout.location, Point { x: 120.0, y: 52.0 });
 //! assert_eq!(layout.pixels(offset), Ok(Rect { left: 20, right: 140, top: 12, bottom: 30 }));
+//! assert_eq!(placed.reach(0), Ok(Reach::Seen { x_eighths: 0, y_eighths: 0 }));
 //! ```
 #![deny(unsafe_code, missing_docs)]
 
 pub mod ffi;
 mod geometry;
 mod pixels;
+mod reach;
 mod refusal;
 mod run;
 mod style;
@@ -38,6 +40,7 @@ mod tree;
 pub mod words;
 
 pub use geometry::{Line, Point, Rect, Size};
+pub use reach::Reach;
 pub use refusal::Refusal;
 pub use run::{compute_oof_layout, compute_oof_layout_for_area, compute_oof_layout_with, Host, LaidOut, Placed, Room};
 pub use style::{

@@ -4,14 +4,16 @@ use std::fmt;
 /// Why a call was turned down. Such a call has written no lent word.
 ///
 /// From [`compute_oof_layout_for_area`](crate::compute_oof_layout_for_area) come only `BadExtent`, `BadCandidate` and
-/// `ListFull`: its types have no bad codes, and it replies what it was asked. `NotInEighths` comes from
-/// [`Layout::pixels`](crate::Layout::pixels) alone. 7 and 8 are refusals of parts that the library hasn't.
+/// `ListFull`: its types have no bad codes, and it replies what it was asked. From [`Placed::reach`](crate::Placed::reach) come
+/// only `BadExtent`, for a place without a box, and `NotInEighths`, which [`Layout::pixels`](crate::Layout::pixels) has too. 7 and 8
+/// are refusals of parts that the library hasn't.
 #[derive(Copy, Clone, Debug, PartialEq, Eq, Hash)]
 #[non_exhaustive]
 pub enum Refusal {
     /// A code of direction, claims or overflow is outside its list
     BadArea = 1,
-    /// A slice isn't whole records, is too long, or (in a reply) has another length than at the opening
+    /// A slice isn't whole records, is too long, or (after the opening) has another length than at the opening; or no box has the
+    /// place that is asked for
     BadExtent = 2,
     /// A code or tag isn't allowed in its field of a style
     BadStyle = 3,
@@ -19,7 +21,7 @@ pub enum Refusal {
     BadCandidate = 4,
     /// The claimed or the unclaimed candidates would exceed their list
     ListFull = 5,
-    /// The reply doesn't answer the open question, or the state is none that a run can have
+    /// The reply doesn't answer the open question, the run to be read isn't finished, or the state is none that a run can have
     WrongReply = 6,
     /// A number isn't a whole eighth of a pixel, or is above 9,999,999 eighths in size
     NotInEighths = 9,

@@ -1,7 +1,8 @@
 //! The placement: the library's dialogue, turned into callbacks.
-use crate::ffi::{self, state, Lent, Reply};
+use crate::ffi::{self, state, Finished, Lent, Reply};
 use crate::words::{Answer, CANDIDATE, LAYOUT};
 use crate::{Area, AvailableSpace, Candidate, Layout, NodeId, Rect, Refusal, Size, Style};
+use std::fmt;
 
 /// What laying a box out came to. `Default`: no overflow, nothing surfaced.
 #[derive(Clone, Debug, Default, PartialEq)]
@@ -44,7 +45,8 @@ pub trait Host {
     }
 }
 
-/// What a placement came to.
+/// What a placement came to. It keeps the words of its run, for [`reach`](Placed::reach): a field that is changed afterwards changes
+/// nothing there. Two are equal if their fields are, and the size, offset, direction and overflow of their areas.
 #[derive(Clone, Debug, PartialEq)]
 pub struct Placed {
     /// By item; nothing for those that weren't placed. An item that was claimed twice has its last layout.
@@ -57,6 +59,56 @@ pub struct Placed {
     pub overflow: Rect<f32>,
     /// How many questions the host answered
     pub questions: usize,
+    pub(crate) words: Words,
+}
+
+/// The words of a finished run. The lists are without their empty room, which isn't read, and the state has their lengths.
+#[derive(Clone)]
+pub(crate) struct Words {
+    styles: Vec<u32>,
+    layouts: Vec<u32>,
+    working: Vec<u32>,
+    unclaimed: Vec<u32>,
+    state: [u32; ffi::STATE],
+}
+
+impl Words {
+    fn of(run: Run) -> Words {
+        let Run { styles, layouts, mut working, mut unclaimed, mut state, answer: _ } = run;
+        let mut trim = |list: &mut Vec<u32>, filled: usize, length: usize| {
+            list.truncate(CANDIDATE * state[filled] as usize);
+            list.shrink_to_fit();
+            state[length] = list.len() as u32;
+        };
+        trim(&mut working, state::FILLED_WORKING, state::LENGTHS + 2);
+        trim(&mut unclaimed, state::FILLED_UNCLAIMED, state::LENGTHS + 3);
+        Words { styles, layouts, working, unclaimed, state }
+    }
+    pub(crate) fn lent(&self) -> Finished<'_> {
+        Finished {
+            styles: &self.styles,
+            layouts: &self.layouts,
+            working: &self.working,
+            unclaimed: &self.unclaimed,
+            state: &self.state,
+        }
+    }
+    /// What a verdict goes by beside the fields of [`Placed`]: the area's size and offset, direction, overflow x and y
+    fn area(&self) -> ([f32; 4], [u32; 3]) {
+        let codes = state::CODES;
+        let numbers = std::array::from_fn(|k| f32::from_bits(self.state[state::AREA + k]));
+        (numbers, [self.state[codes], self.state[codes + 2], self.state[codes + 3]])
+    }
+}
+impl PartialEq for Words {
+    fn eq(&self, other: &Words) -> bool {
+        self.area() == other.area()
+    }
+}
+impl fmt::Debug for Words {
+    fn fmt(&self, f: &mut fmt::Formatter<'_>) -> fmt::Result {
+        f.debug_struct("Words").finish_non_exhaustive()
+    }
 }
 
 /// Records lent to each list. They can't grow while a run goes on, since its slices keep their lengths. More than 4,096 are
@@ -179,7 +231,7 @@ impl Run {
     fn answer(&self) -> Answer {
         Answer::from_words(&self.answer).expect("the library answers with a question or a finish")
     }
-    fn placed(&self, overflow: Rect<f32>, questions: usize) -> Placed {
+    fn placed(self, overflow: Rect<f32>, questions: usize) -> Placed {
         let filled = |list: &[u32], count: u32| -> Vec<Candidate> {
             let records = list.as_chunks::<CANDIDATE>().0;
             let read = |w: &[u32; CANDIDATE]| Candidate::from_words(w).expect("the library writes good records");
@@ -193,7 +245,7 @@ impl Run {
             layouts[node as usize] = Some(Layout::from_words(&records[node as usize]));
         }
         let unclaimed = filled(&self.unclaimed, self.state[state::FILLED_UNCLAIMED]);
-        Placed { layouts, hoisted, unclaimed, overflow, questions }
+        Placed { layouts, hoisted, unclaimed, overflow, questions, words: Words::of(self) }
     }
 }
 
