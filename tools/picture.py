@@ -241,7 +241,7 @@ def notes_of(screen):
                 notes.append((kind, f"{name}: brought up by scrolling {scroll_said(screen, box)}."))
             elif starred:
                 one = len(starred) == 1
-                notes.append((kind, f"{name}: refused 9, and not drawn. Its {listing(starred)} {'is' if one else 'are'} no whole {'eighth' if one else 'eighths'} of a pixel, or above 9,999,999 (*)."))
+                notes.append((kind, f"{name}: refused 9, and not drawn. Its {listing(starred)} {'is' if one else 'are'} no whole {'eighth' if one else 'eighths'} of a pixel, or above 9,999,999 eighths in size (*)."))
             else:
                 notes.append((kind, f"{name}: refused 9, for the overflow rectangle."))
         if len(found) > 8:
@@ -253,7 +253,7 @@ def notes_of(screen):
     if not screen.boxes:
         notes.append((None, "No box is claimed."))
     if None in screen.overflow:
-        notes.append((None, "The overflow rectangle isn't drawn: a number of it is no whole eighth, or above 9,999,999 (*)."))
+        notes.append((None, "The overflow rectangle isn't drawn: a number of it is no whole eighth, or above 9,999,999 eighths in size (*)."))
     return notes
 
 

@@ -659,7 +659,7 @@ static void boxes_of_runs(void)
             MUST(refused(&e, 0, OOF_WRONG_REPLY) && refused(&e, 2, OOF_BAD_EXTENT)); /* unfinished */
             MUST(run_finished(&e, answer));
             MUST(seen(&e, 0, 0, 0) && unseen(&e, 1) && refused(&e, 2, OOF_BAD_EXTENT));
-            e.styles[OOF_STYLE_PADDING_LEFT] = 2; /* no tag: styles are no longer read */
+            e.styles[OOF_STYLE_PADDING_LEFT] = 2; /* no tag: a finished run's styles aren't read */
             MUST(seen(&e, 0, 0, 0) && unseen(&e, 1));
 
             e = incident(direction); /* the note 900 from the start edge, 500 from the top */

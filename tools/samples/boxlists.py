@@ -171,7 +171,7 @@ ABOUT = {
     'scrolled': 'a panel at 16, 40 of its window, hidden across and scroll down, so that both axes scroll ([picture](../docs/scrolled.svg)). A label and six notes: scrolling right brings up node 2, down node 6, both node 1; node 5 hangs over the left edge and is seen as it is; node 4 ends at that edge and node 3 above the panel: unseen. A further note is fixed, which this panel doesn\'t claim. Places are not nodes: they are hoisted as 2, 0, 4, 1, 6, 3, 5',
     'scrolled-arabic': 'its mirror image, right-to-left: the same verdicts, and the same offsets, counted leftwards',
     'clipped': 'the boxes of `scrolled` in a panel that clips across and is hidden down: node 6 is still brought up; what lies to the right is unseen, though the overflow holds it',
-    'sixteenth': 'box 0 is centered left of the panel and lies on a sixteenth of a pixel: its row is refused with 9. Scrolling brings up box 1, which is whole. So a refused box doesn\'t silence the others',
+    'sixteenth': 'box 0 is centered left of the panel and lies on a sixteenth of a pixel: its row is refused with 9. Scrolling brings up box 1, which is whole. The other boxes have their verdicts',
     'limits/list-largest': 'one box at the largest numbers that the list prints; the overflow\'s right is larger, and prints `*`',
     'limits/items-128-candidates-256': 'the longest screen, and the longest list: 256 rows',
     'limits/reach-touching': 'ten boxes of a few eighths around a tiny panel: they end at an edge, hang over it by one eighth, begin at it or one eighth before it',

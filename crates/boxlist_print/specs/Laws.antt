@@ -92,7 +92,7 @@ ListsDiffer = (s : State) (lent : Lent) (rows : List Row) (overflow : Rect) → 
 abbrev pub NoListIsALine : Type 0
 NoListIsALine = (listing : Listing) (text : List ℕ) (number : ℕ) → IsList listing text → text ≢ refusalText number
 
--- what is printed fits the program's buffer
+-- what is printed fits the programs' buffer
 abbrev pub PrintedFits : Type 0
 PrintedFits = (listing : Listing) (text : List ℕ) → length (printed listing text) ≤ LIST-BYTES
 
@@ -101,6 +101,6 @@ PrintedFits = (listing : Listing) (text : List ℕ) → length (printed listing 
 abbrev pub LongIsRefused : Type 0
 LongIsRefused = (listing : Listing) (text : List ℕ) → 125807 < length text → printed listing text ≡ refusalText 8
 
--- so nothing is lost where the program reads no more than 125,808 bytes
+-- so nothing is lost where the programs read no more than 125,808 bytes
 abbrev pub CutIsEnough : Type 0
 CutIsEnough = (listing : Listing) (text : List ℕ) → printed listing (take 125808 text) ≡ printed listing text

@@ -6,7 +6,7 @@ use mathlib.Core.List.{List, [], _∷_, _++_}
 use lib.ListN.{length, set, length-append}
 use lib.Seq.{sets}
 use Rattle.refusal.specs.Refusal.{numberOf}
-use Rattle.boxlist_lines.specs.Column.{COLUMN, codeText}
+use Rattle.boxlist_lines.specs.Column.{COLUMN, cellOf, leftOf, cells, codeInk, codeText}
 use Rattle.boxlist_lines.specs.Lines.{joined, lineText, wordText}
 use Rattle.boxlist_lines.proofs.Stores.{part-then}
 use Rattle.boxlist_lines.proofs.Lines.{code-length, then-column}
@@ -14,6 +14,7 @@ use Rattle.reach.specs.declared.Reached.{Reached}
 use Rattle.reach.specs.declared.Reached.the-variants.{Seen, Unseen, Refused}
 use Rattle.boxreach_lines.specs.Lines.{VERDICT-ROW, verdictNames, dash, seenColumns, refusedColumns, verdictColumns, verdictRow}
 use Rattle.boxreach_lines.specs.Laws.{NamesBytes, RowBytes}
+use Rattle.boxreach_lines.specs.Rows.{PrintedRows}
 
 module _ (l : List ℕ) (at : ℕ) where
   -- `seen`, then two numbers
@@ -67,3 +68,7 @@ row-bytes place node r =
     unfold joined in
     rw (length-append (codeText place ++ (codeText node ++ joined (verdictColumns r))) (10 ∷ []), length-append (codeText place) (codeText node ++ joined (verdictColumns r)), length-append (codeText node) (joined (verdictColumns r)), code-length place, code-length node, columns-length r)
     refl
+
+pub printed-rows : PrintedRows
+unfolding verdictRow lineText joined wordText codeText codeInk cells leftOf cellOf
+printed-rows = (refl, refl, refl, refl)

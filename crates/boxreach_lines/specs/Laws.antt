@@ -8,6 +8,6 @@ use Rattle.boxreach_lines.specs.Lines.{VERDICT-ROW, verdictNames, verdic
 abbrev pub NamesBytes : Type 0
 NamesBytes = length verdictNames ≡ VERDICT-ROW
 
--- every row is as long: a verdict without a number has a dash in its place
+-- every row is as long: a column without a number has a dash
 abbrev pub RowBytes : Type 0
 RowBytes = (place node : ℕ) (reached : Reached) → length (verdictRow place node reached) ≡ VERDICT-ROW

@@ -57,7 +57,7 @@ use Rattle.reach.specs.declared.Reached.the-variants as reach
 use Rattle.boxlist_print.specs.declared.Listing.{Listing}
 use Rattle.boxlist_print.specs.Rows.{Prints}
 use Rattle.boxlist_print.specs.Printed.{printed}
-use Rattle.boxlist_print.specs.Laws.{programTests, IsList}
+use Rattle.boxlist_print.specs.Laws.{programTests, IsList, RunIsListed, OnlyNineInRows}
 use Rattle.demands.specs.Entries.{Opens, RepliesTo, AnyCalls, Takes, Run, RefusedSince, BothRuns, AfterEach}
 
 -- ---- Demand 1. "Whoever calls an entry, with any bits in any number and slices of any length, gets its answer (in a run, a question or
@@ -203,3 +203,6 @@ pub record Demanded : Type 0 where
   pub mirrored-reach : MirroredReach
   pub quarters-have-edges : QuartersHaveEdges
   pub quarters-are-answered : QuartersAreAnswered
+  -- what a program lists is the run that the screen scripts, and a row of verdicts says seen, unseen or refused 9
+  pub run-is-listed : RunIsListed
+  pub only-nine-in-rows : OnlyNineInRows

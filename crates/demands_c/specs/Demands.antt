@@ -71,7 +71,8 @@ pub record PixelsDemands (layout : List ℕ) (offset : Point) (before : List ℤ
   pub kept : has .result ≢ 0 → has .edges ≡ before
   pub written : has .result ≡ 0 → (p : PixelRect) × (pixelEdges (layoutOf layout) offset ≡ Edges p) × (has .edges ≡ p .left ∷ p .right ∷ p .top ∷ p .bottom ∷ [])
 
--- `oof_reach`, whatever words stand for its state: 2, 6, 4, 9. The slices and the state are lent to be read only
+-- `oof_reach`, whatever words stand for its state: 2, 6, 4, 9. The slices and the state are lent to be read only; the state's words are 27 and
+-- the verdict's 3, by the entry's types
 pub record ReachDemands (place : ℕ) (lent : Lent) (state before : List ℕ) (has : ReachReturned) : Type 0 where
   pub call : has ≡ reachInWords place lent state before
   pub refused : (n : ℕ) → n ≢ 0 → (has .result ≡ n) ↔ FirstIs (reachTests place (stateOf state) lent) n

@@ -2,7 +2,7 @@
 use Prim.Native.Nat.{ℕ, _≤_, _<_}
 use native.Mathlib.Omega.{arith}
 use mathlib.Core.Bool.{Bool, true, false, cond, not}
-use mathlib.Core.Logic.{_⊎_, inl, inr}
+use mathlib.Core.Logic.{_↔_, _⊎_, inl, inr}
 use mathlib.Core.Path.{_≡_, refl, sym, ap, _∙_}
 use lib.IntN.{ℤ, pos, negℤ, _-ℤ_}
 use lib.Signed.{_≤ℤ_}
@@ -26,7 +26,7 @@ use Rattle.reach.specs.declared.Reached.{Reached}
 use Rattle.reach.specs.declared.Reached.the-variants.{Seen, Unseen, Refused}
 use Rattle.reach.specs.Reach.{Axis, shares, least, axisOf, across, down, numbersOf, pairOf, boxReached}
 use Rattle.reach.specs.Conditions.{NotInEighthsHere}
-use Rattle.reach.specs.Laws.{IsLeast, SharesPatch, AllInEighths, SeenIs, UnseenIs, BoxRefusedExactly, OffsetsAreSmall}
+use Rattle.reach.specs.Laws.{IsLeast, SharesPatch, AllInEighths, BoxRefusedExactly, OffsetsAreSmall}
 use Rattle.reach.proofs.Axis.{overlaps, least-found, least-is}
 use Rattle.reach.proofs.Offsets.{last-offset-is}
 use Rattle.reach.proofs.Numbers.{numbers-decided}
@@ -147,8 +147,10 @@ module _ (c : ContainingBlock) (overflow : Rect) (box : Layout) where
   none-told n (At x) Nowhere f g = refl
   none-told n (At x) (At y) f g = absurd (n x y (patch x y f g))
 
-pub seen-is : SeenIs
-seen-is c overflow box x y = (there, λ h. both-least c overflow box x y (accepted-all c overflow box (h .0)) (least-across c overflow box x y (h .1) (h .2)) (least-down c overflow box x y (h .1) (h .2)))
+pub seen-shares : (c : ContainingBlock) (overflow : Rect) (box : Layout) (x y : ℕ)
+    → (boxReached c overflow box ≡ Seen x y)
+    ↔ (AllInEighths c overflow box × SharesPatch c overflow box x y × ((i j : ℕ) → SharesPatch c overflow box i j → (x ≤ i) × (y ≤ j)))
+seen-shares c overflow box x y = (there, λ h. both-least c overflow box x y (accepted-all c overflow box (h .0)) (least-across c overflow box x y (h .1) (h .2)) (least-down c overflow box x y (h .1) (h .2)))
   where
     there : boxReached c overflow box ≡ Seen x y
         → AllInEighths c overflow box × SharesPatch c overflow box x y × ((i j : ℕ) → SharesPatch c overflow box i j → (x ≤ i) × (y ≤ j))
@@ -159,8 +161,9 @@ seen-is c overflow box x y = (there, λ h. both-least c overflow box x y (accept
           λ i j p. (at-least (across c overflow box) x i (s .1) (p .width), at-least (down c overflow box) y j (s .2) (p .height)),
         )
 
-pub unseen-is : UnseenIs
-unseen-is c overflow box = (there, back)
+pub unseen-shares : (c : ContainingBlock) (overflow : Rect) (box : Layout)
+    → (boxReached c overflow box ≡ Unseen) ↔ (AllInEighths c overflow box × ((i j : ℕ) → ¬ SharesPatch c overflow box i j))
+unseen-shares c overflow box = (there, back)
   where
     there : boxReached c overflow box ≡ Unseen → AllInEighths c overflow box × ((i j : ℕ) → ¬ SharesPatch c overflow box i j)
     there e =

@@ -3,6 +3,6 @@ pub mod Axis
 pub mod Held
 pub mod Numbers
 pub mod Offsets
-pub mod Shown
 pub mod Boxes
+pub mod Shown
 pub mod Exactly

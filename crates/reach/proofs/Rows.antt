@@ -32,7 +32,7 @@ least-rows = (refl, refl, refl, refl, refl, refl, refl, refl, refl, refl, refl, 
 
 pub box-rows : BoxRows
 unfolding boxReached allAccepted accepted least firstFrom shares axisOf lastOffset inEighths countOf counted div neg round units odd size span climb ofBits toBits ofFields nanBits ofInt
-box-rows = (refl, refl, refl, refl, refl, refl, refl)
+box-rows = (refl, refl, refl, refl, refl, refl, refl, refl)
 
 pub edge-rows : EdgeRows
 unfolding boxReached allAccepted accepted least firstFrom shares axisOf lastOffset inEighths countOf counted div neg round units odd size span climb ofBits toBits ofFields nanBits ofInt

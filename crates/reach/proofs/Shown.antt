@@ -15,10 +15,12 @@ use Rattle.tree.specs.declared.layout.Layout.{Layout}
 use Rattle.oof_resolve.specs.declared.ContainingBlock.{ContainingBlock}
 use Rattle.pixels.specs.Accepted.{inEighths}
 use Rattle.pixels.proofs.Pairs.{up, off, add-is, neg-is, le-from, le-to}
-use Rattle.reach.specs.Reach.{Axis, shares, fromStart, axisOf}
-use Rattle.reach.specs.Laws.{SharesAnEighth, IsOffset, SharesPatch, InView, InBox, moved, ShowsPatch, PatchIsShown}
+use Rattle.reach.specs.declared.Reached.the-variants.{Seen, Unseen}
+use Rattle.reach.specs.Reach.{Axis, shares, fromStart, axisOf, boxReached}
+use Rattle.reach.specs.Laws.{SharesAnEighth, IsOffset, SharesPatch, InView, InBox, moved, ShowsPatch, PatchIsShown, AllInEighths, SeenIs, UnseenIs}
 use Rattle.reach.proofs.Axis.{shares-means}
 use Rattle.reach.proofs.Offsets.{last-offset-is}
+use Rattle.reach.proofs.Boxes.{seen-shares, unseen-shares}
 
 -- an eighth of the view that is the box's
 abbrev Shown : Direction → Float → ℤ → Float → ℕ → Type 0
@@ -171,3 +173,28 @@ patch-is-shown c rectangle box x y = (there, back)
           width = along-shown _ _ _ _ _ _ _ x .1 (s .width);
           height = along-shown _ _ _ _ _ _ _ y .1 (s .height);
         }
+
+-- so what is told goes by the patches that are shown
+pub seen-is : SeenIs
+seen-is c rectangle box x y = (there, back)
+  where
+    there : boxReached c rectangle box ≡ Seen x y
+        → AllInEighths c rectangle box × ShowsPatch c rectangle box x y × ((i j : ℕ) → ShowsPatch c rectangle box i j → (x ≤ i) × (y ≤ j))
+    there e =
+        let s = seen-shares c rectangle box x y .0 e in
+        (s .0, patch-is-shown c rectangle box x y .0 (s .1), λ i j p. s .2 i j (patch-is-shown c rectangle box i j .1 p))
+
+    back : AllInEighths c rectangle box × ShowsPatch c rectangle box x y × ((i j : ℕ) → ShowsPatch c rectangle box i j → (x ≤ i) × (y ≤ j))
+        → boxReached c rectangle box ≡ Seen x y
+    back h =
+        seen-shares c rectangle box x y .1
+        (h .0, patch-is-shown c rectangle box x y .1 (h .1), λ i j p. h .2 i j (patch-is-shown c rectangle box i j .0 p))
+
+pub unseen-is : UnseenIs
+unseen-is c rectangle box = (there, back)
+  where
+    there : boxReached c rectangle box ≡ Unseen → AllInEighths c rectangle box × ((i j : ℕ) → ¬ ShowsPatch c rectangle box i j)
+    there e = let s = unseen-shares c rectangle box .0 e in (s .0, λ i j p. s .1 i j (patch-is-shown c rectangle box i j .1 p))
+
+    back : AllInEighths c rectangle box × ((i j : ℕ) → ¬ ShowsPatch c rectangle box i j) → boxReached c rectangle box ≡ Unseen
+    back h = unseen-shares c rectangle box .1 (h .0, λ i j p. h .1 i j (patch-is-shown c rectangle box i j .0 p))

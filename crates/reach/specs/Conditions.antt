@@ -23,7 +23,8 @@ NotInEighthsHere area rectangle box =
     ⊎ (¬ IsInEighths (rectangle .top))
     ⊎ (¬ IsInEighths (rectangle .bottom))
 
--- 2 "here also for a place without a box": one at or above the count of filled records. One below a count that is above the list is 6
+-- 2 "here also for a place without a box": one at or above the count of filled records. A place below the count, where the count is above the
+-- list, is 6
 abbrev pub NoBoxAt : ℕ → State → Type 0
 NoBoxAt place s = s .counts .filled .working ≤ place
 

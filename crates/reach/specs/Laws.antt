@@ -54,7 +54,8 @@ NoSize a = (a .size ≤ℤ pos 0) ⊎ (a .area ≤ℤ pos 0)
 abbrev pub EndsBefore : Axis → Type 0
 EndsBefore a = (a .start +ℤ a .size) ≤ℤ pos 0
 
--- the least offset, worked out: there the area's end is one eighth past the box's start, or the offset is 0 if it is so already
+-- the least offset, worked out. Box, area and what of the box lies past the start edge have to be above 0; then it is the offset at which the
+-- area's end is one eighth past the box's start, or 0 if it is past it already
 abbrev pub firstPast : Axis → ℕ
 firstPast a = orZero (a .start -ℤ a .area +ℤ pos 1)
 
@@ -64,7 +65,7 @@ LeastWorkedOut =
     → (least a ≡ At o)
     ↔ ((pos 0 <ℤ a .size) × (pos 0 <ℤ a .area) × (pos 0 <ℤ (a .start +ℤ a .size)) × (o ≡ firstPast a) × (o ≤ a .last))
 
--- and there is none exactly where one of these can't be had
+-- and there is none exactly where one of the three isn't above 0, or that offset is past the last
 abbrev pub NowhereWorkedOut : Type 0
 NowhereWorkedOut = (a : Axis) → (least a ≡ Nowhere) ↔ (NoSize a ⊎ EndsBefore a ⊎ (a .last < firstPast a))
 
@@ -75,11 +76,11 @@ IsOffset code far size o = (o ≡ 0) ⊎ (((code ≡ Hidden) ⊎ (code ≡ Scrol
 abbrev pub LastOffsetIs : Type 0
 LastOffsetIs = (code : Overflow) (far size : Float) (o : ℕ) → (o ≤ lastOffset code far size) ↔ IsOffset code far size o
 
--- on an axis that doesn't scroll nothing is seen that starts at or after the area's end, either
+-- where 0 is the only offset nothing is seen that starts at or after the area's end, either
 abbrev pub StillAxis : Type 0
 StillAxis = (a : Axis) → a .last ≡ 0 → (least a ≡ Nowhere) ↔ (NoSize a ⊎ EndsBefore a ⊎ (a .area ≤ℤ a .start))
 
--- and on a scroll axis whose far edge is at or after the box's end: no scrolling goes before the start edge
+-- on a scroll axis whose far edge is at or after the box's end only what has no size or ends at or before the start edge is unseen
 abbrev pub HeldAxis : Type 0
 HeldAxis =
     (a : Axis) (far : ℤ) → (a .start +ℤ a .size) ≤ℤ far → ((o : ℕ) → (o ≤ a .last) ↔ ((o ≡ 0) ⊎ (pos o ≤ℤ (far -ℤ a .area))))
@@ -87,7 +88,7 @@ HeldAxis =
 
 -- ---- a box
 
--- a pair of offsets at which "box and area share a patch of positive width and height"
+-- a pair of offsets at which "box and area share a patch of positive width and height", along the definition's axes
 pub record SharesPatch (c : ContainingBlock) (rectangle : Rect) (box : Layout) (x y : ℕ) : Type 0 where
   pub offsetAcross : x ≤ across c rectangle box .last
   pub offsetDown : y ≤ down c rectangle box .last
@@ -134,13 +135,13 @@ abbrev pub SeenIs : Type 0
 SeenIs =
     (c : ContainingBlock) (rectangle : Rect) (box : Layout) (x y : ℕ)
     → (boxReached c rectangle box ≡ Seen x y)
-    ↔ (AllInEighths c rectangle box × SharesPatch c rectangle box x y × ((i j : ℕ) → SharesPatch c rectangle box i j → (x ≤ i) × (y ≤ j)))
+    ↔ (AllInEighths c rectangle box × ShowsPatch c rectangle box x y × ((i j : ℕ) → ShowsPatch c rectangle box i j → (x ≤ i) × (y ≤ j)))
 
 -- "Unseen means that no pair of offsets" does
 abbrev pub UnseenIs : Type 0
 UnseenIs =
     (c : ContainingBlock) (rectangle : Rect) (box : Layout)
-    → (boxReached c rectangle box ≡ Unseen) ↔ (AllInEighths c rectangle box × ((i j : ℕ) → ¬ SharesPatch c rectangle box i j))
+    → (boxReached c rectangle box ≡ Unseen) ↔ (AllInEighths c rectangle box × ((i j : ℕ) → ¬ ShowsPatch c rectangle box i j))
 
 -- and it is refused, with 9, exactly for a number that isn't accepted
 abbrev pub BoxRefusedExactly : Type 0

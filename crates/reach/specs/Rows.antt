@@ -152,6 +152,8 @@ BoxRows =
     × (boxReached (container Rtl Scroll Visible (e 8) (e 8) 0 0) (rect (minus 20) 0 0 (e 8)) (box (minus 12) 0 (e 4) (e 8)) ≡ Unseen)
     -- the mirror image, left-to-right: the same offset
     × (boxReached (container Ltr Scroll Visible (e 8) (e 8) 0 0) (rect 0 (e 20) 0 (e 8)) (box (e 16) 0 (e 4) (e 8)) ≡ Seen 9 0)
+    -- not so where the container isn't turned with it
+    × (boxReached (container Ltr Scroll Visible (e 8) (e 8) 0 0) (rect 0 (e 20) 0 (e 8)) (box (minus 12) 0 (e 4) (e 8)) ≡ Unseen)
     -- both axes: an area of 8e by 16e at 3e, 5e; the box from 20e to 24e across, 30e to 40e down
     × (boxReached (container Ltr Hidden Scroll (e 8) (e 16) (e 3) (e 5)) (rect 0 (e 24) 0 (e 40)) (box (e 23) (e 35) (e 4) (e 10)) ≡ Seen 13 15)
     -- from the top in a right-to-left container too; the box is from 7e to 3e left of the area
@@ -273,7 +275,7 @@ asked slices = withCounts (Asking stage.LayOut) (counts 2 0 2 2) slices
 abbrev by : Direction → Overflow → Overflow → State
 by direction overflowx overflowy = state Finished (counts 2 0 2 2) (panel direction overflowx overflowy) (rect 0 (e 48) 0 (e 60)) two
 
--- three items, hoisted as 2, 0, 1: node 1 is 6e by 10e, 4e from the left of the area and 30e from its top, the others as node 0 and 1 above
+-- three items, hoisted as 2, 0, 1: node 1 is 6e by 10e, 4e from the left of the area and 30e from its top, node 0 as node 0 above, node 2 as node 1 above
 abbrev three : Lent
 three = lent (replicate 171 0) (layout (e 64) (e 42) (e 4) (e 3) ++ layout (e 28) (e 70) (e 6) (e 10) ++ layout (e 44) (e 45) (e 6) (e 10)) (candidate 2 2 ++ candidate 0 2 ++ candidate 1 2) []
 

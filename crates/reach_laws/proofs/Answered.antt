@@ -1,4 +1,4 @@
--- A finished run of whole quarter pixels passes every test of `reach`. Assumes nothing.
+-- A finished run of whole quarter pixels passes every test of `reach`, and goes by its opening's container. Assumes nothing.
 use Prim.Native.Nat.{ℕ, _+_, _*_, _/_, _≤_, _<_}
 use native.Mathlib.Omega.{arith}
 use mathlib.Core.Bool.{Bool, true, false, not, _||_}
@@ -61,7 +61,7 @@ use Rattle.reach.specs.declared.Offset.{Offset}
 use Rattle.reach.specs.declared.Offset.the-variants.{Nowhere, At}
 use Rattle.reach.specs.Laws.{IsAnswer}
 use Rattle.reach.specs.Reach.{across, down, least, pairOf, boxReached, reached}
-use Rattle.reach_laws.specs.Laws.{QuartersAreAnswered, toldOf}
+use Rattle.reach_laws.specs.Laws.{ContainerStays, QuartersAreAnswered, toldOf}
 use Rattle.reach_laws.proofs.Course.{Goes, begun-goes, turns-go}
 
 -- ---- a box whose numbers are whole eighths
@@ -249,3 +249,11 @@ quarters-are-answered o candidates lent turns place area table quarter accepts l
         let laid : place < laidSoFar (called o candidates lent turns) = subst (λ (at : Progress). place < laidCount at (called o candidates lent turns .step .state .counts .begun)) (sym f) begun in
         rw (tests-passed o candidates lent turns place p fine h long r f there, g .container)
         (box-answered (containerOf o) area (called o candidates lent turns .step .state .overflow) (r .overflow) (layoutOfBox (called o candidates lent turns) place) (r .layouts place laid))
+
+pub container-stays : ContainerStays
+container-stays o candidates lent turns accepts = go (opening-way o candidates lent)
+  where
+    go : OpeningWay o candidates lent → called o candidates lent turns .step .state .opened .container ≡ containerOf o
+    go (turnedDown q e) = no (ap refusedIn e) accepts
+    go (begins v e) =
+        turns-go o (lent .styles) (opened o candidates lent) turns (subst (λ (x : Outcome). Goes o (x .step .state)) (sym e) (begun-goes o candidates lent)) .container

@@ -12,7 +12,7 @@ use Rattle.pixels.specs.Accepted.{inEighths}
 use Rattle.run.specs.declared.Opening.{Opening}
 use Rattle.run.specs.declared.Progress.the-variants.{Finished}
 use Rattle.run.specs.Call.{Lent, Outcome, lent}
-use Rattle.run.specs.Run.{claimsOf, extentsOf, opened}
+use Rattle.run.specs.Run.{claimsOf, containerOf, extentsOf, opened}
 use Rattle.run.specs.Theorems.{isRefused, Turn, AllLend, called, heededIn}
 use Rattle.mirror_box.specs.Image.{imageContainer}
 use Rattle.mirror_run.specs.Image.{imageOpening, imageStyles, imageCandidates}
@@ -62,6 +62,14 @@ MirroredVerdict =
     → AllFair (lent .styles) (opened o candidates lent) messages
     → toldOf place (lent .styles) (foldl (runNext (lent .styles)) (opened o candidates lent) messages)
     ≡ toldOf place (lent' .styles) (foldl (imageNext (lent' .styles)) (opened (imageOpening o) (imageCandidates (o .area) candidates) lent') messages)
+
+-- ---- a run, at its finish too, goes by the area, the direction and the overflow codes that it was opened with. (Its rectangle is that of the
+-- straight run: `Stands` of run/specs/Theorems.antt.)
+
+abbrev pub ContainerStays : Type 0
+ContainerStays =
+    (o : Opening) (candidates : List ℕ) (lent : Lent) (turns : List Turn) → isRefused (opened o candidates lent .step .answer) ≡ false
+    → called o candidates lent turns .step .state .opened .container ≡ containerOf o
 
 -- ---- a run of whole quarter pixels, under what pixels_laws' `RunHasEdges` asks: every box of a finished one has a verdict. So 9 isn't met
 

@@ -1,6 +1,7 @@
 -- Generated skeleton (tools/proof/write-skeletons), answers by hand.
 use Rattle.demands.proofs.Demands.{three-questions-each, equals-straight-run, laid-out-as-asked, mirror-image, mirrored-reach, quarters-have-edges, quarters-are-answered}
 use Rattle.run.proofs.EachQuestion.{stage-tells-kind}
+use Rattle.boxlist_print.proofs.Listed.{run-is-listed, only-nine-in-rows}
 use Rattle.demands.proofs.demanded.Statement.{statement}
 use Rattle.demands.proofs.demanded.Tie as tie
 
@@ -15,6 +16,8 @@ returns c =
       mirrored-reach = mirrored-reach;
       quarters-have-edges = quarters-have-edges;
       quarters-are-answered = quarters-are-answered;
+      run-is-listed = run-is-listed;
+      only-nine-in-rows = only-nine-in-rows;
     }
 
 pub demanded-spec : {M : Type 1} → statement M
