@@ -96,11 +96,14 @@ def good_screen(r):
     return b''.join(b''.join(b'%11d' % v for v in row) + b'\n' for row in rows)
 
 
-def large_screens(oracle, seed, count):
-    r = random.Random(seed)
-    for _ in range(count):
-        text = good_screen(r)
-        hold(text, run([oracle, 'screen'], text))
+def made_screens(make):
+    """good screens, one after another"""
+    def compare(oracle, seed, count):
+        r = random.Random(seed)
+        for _ in range(count):
+            text = make(r)
+            hold(text, run([oracle, 'screen'], text))
+    return compare
 
 
 def around(r):
@@ -132,13 +135,6 @@ def around(r):
         rows.append([r.randrange(n), k, r.choice((2, 2, 2, 3)), *sorted(r.randint(-60, 120) for _ in range(2)), r.choice((0, 2)), r.randrange(3), 0,
                      *sorted(r.randint(-60, 120) for _ in range(2)), r.choice((0, 2)), r.randrange(3), 0])
     return b''.join(b''.join(b'%11d' % v for v in row) + b'\n' for row in rows)
-
-
-def around_panels(oracle, seed, count):
-    r = random.Random(seed)
-    for _ in range(count):
-        text = around(r)
-        hold(text, run([oracle, 'screen'], text))
 
 
 def changed(r, text):
@@ -183,6 +179,6 @@ def fuzzed(oracle, seed, seconds):
 
 
 oracle, what, seed, n = sys.argv[1], sys.argv[2], int(sys.argv[3]), int(sys.argv[4])
-{'random': random_screens, 'large': large_screens, 'around': around_panels, 'bytes': fuzzed}[what](oracle, seed, n)
+{'random': random_screens, 'large': made_screens(good_screen), 'around': made_screens(around), 'bytes': fuzzed}[what](oracle, seed, n)
 total = kinds['lists'] + sum(v for k, v in kinds.items() if k.startswith('refused'))
 print('%d texts, all equal: %s; boxes %s' % (total, *(', '.join('%s %d' % (k, counts[k]) for k in sorted(counts)) or 'none' for counts in (kinds, verdicts))))

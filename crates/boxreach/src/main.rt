@@ -1,5 +1,5 @@
-// Reads a screen from standard input and prints for each of its boxes whether scrolling brings it up, or one line for a refusal. A read or a write that fails is told on
-// standard error.
+// Reads a screen from standard input and prints for each of its boxes whether scrolling brings it up, or one line for a refusal. A read or a
+// write that fails is told on standard error.
 use boxlist_print::Listing;
 use screen_program::Ended;
 

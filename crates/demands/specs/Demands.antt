@@ -1,7 +1,7 @@
 -- The three demands, of every entry. Refusals 1 to 6 are those of `open` and `reply`, 7 of `from_alignment`, 8 of the programs, 9 of
--- `pixel_edges`; `reach` has 2, 6, 4 and 9. The demands of the C entries stand in demands_c/specs. No entry asks anything of its caller, and a proved function ends,
--- without a panic: so each of these holds for any bits in any number and slices of any length. `proofs/Demands.antt` proves each, under its
--- name in small letters.
+-- `pixel_edges`; `reach` has 2, 6, 4 and 9. The demands of the C entries stand in demands_c/specs. No entry asks anything of its caller, and a
+-- proved function ends, without a panic: so each of these holds for any bits in any number and slices of any length. `proofs/Demands.antt`
+-- proves each, under its name in small letters.
 -- What document 01 leaves free is fixed by the definition all the same: what is asked and written where words were rewritten between calls or
 -- a state was forged (oof_box/specs/Cut.antt), and the numbers of a refused opening's state, which are zeros.
 -- Assumes nothing.

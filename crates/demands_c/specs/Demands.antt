@@ -38,7 +38,8 @@ use Rattle.demands_c.specs.Calls.{Opens, RepliesTo, AnyCalls, Run}
 
 -- ---- Demand 1. "Whoever calls an entry, with any bits in any number and slices of any length, gets its answer .. or one of document 01's
 -- refusals .., each exactly under its stated condition. A refusal writes no lent word and returns the state as it came." The conditions, in
--- document 01's words and order, stand in run/specs/Conditions.antt, that of request #101 in pixels/specs/Conditions.antt, those of #102 in finished/specs and reach/specs.
+-- document 01's words and order, stand in run/specs/Conditions.antt, that of request #101 in pixels/specs/Conditions.antt, those of #102 in
+-- finished/specs and reach/specs.
 
 -- the words of a verdict
 abbrev pub VerdictIn : Reached → List ℕ → Type 0

@@ -275,7 +275,8 @@ asked slices = withCounts (Asking stage.LayOut) (counts 2 0 2 2) slices
 abbrev by : Direction → Overflow → Overflow → State
 by direction overflowx overflowy = state Finished (counts 2 0 2 2) (panel direction overflowx overflowy) (rect 0 (e 48) 0 (e 60)) two
 
--- three items, hoisted as 2, 0, 1: node 1 is 6e by 10e, 4e from the left of the area and 30e from its top, node 0 as node 0 above, node 2 as node 1 above
+-- three items, hoisted as 2, 0, 1: node 1 is 6e by 10e, 4e from the left of the area and 30e from its top; node 0 as node 0 above, node 2 as
+-- node 1 above
 abbrev three : Lent
 three = lent (replicate 171 0) (layout (e 64) (e 42) (e 4) (e 3) ++ layout (e 28) (e 70) (e 6) (e 10) ++ layout (e 44) (e 45) (e 6) (e 10)) (candidate 2 2 ++ candidate 0 2 ++ candidate 1 2) []
 
