@@ -34,7 +34,7 @@ same-length : tie.Need-same-length
 same-length c = search needs
 
 returns : tie.Need-returns
-returns c = sym (seen-stores _ _ _ _ ∙ rw (← c .before .before .before .before .before .before .before .before .before .before .put-bytes .ensures, ← c .before .before .before .before .before .before .put-code .ensures, ← c .before .before .put-code2 .ensures) refl)
+returns c = c .before .before .put-code2 .ensures ∙ rw (c .before .before .before .before .before .before .put-code .ensures, c .before .before .before .before .before .before .before .before .before .before .put-bytes .ensures) (sym (seen-stores _ _ _ _))
 
 pub put-seen-spec : {M : Type 1} → statement M
 put-seen-spec =

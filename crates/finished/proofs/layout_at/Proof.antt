@@ -1,6 +1,11 @@
 -- Generated skeleton (tools/proof/write-skeletons), answers by hand.
 use borrow.Author.Needs.{needs}
-use mathlib.Core.Path.{refl, _∙_}
+use Prim.Native.Nat.{ℕ, _+_, _*_, _≤_}
+use lib.ListN.{length}
+use mathlib.Core.Path.{_≡_, refl, sym, _∙_, subst}
+use Rattle.tree_record.specs.Layout.{layoutWidth}
+use Rattle.records.specs.Records.{recordAt}
+use Rattle.tree_record.specs.Candidate.{candidateWidth, candidateOf}
 use Rattle.finished.proofs.There.{node-is}
 use Rattle.finished.proofs.layout_at.Statement.{statement}
 use Rattle.finished.proofs.layout_at.Tie as tie
@@ -24,7 +29,9 @@ index-requires c κs = search needs
 layout-at-requires : tie.Need-layout-at-requires
 layout-at-requires c κs =
     let a = c .before .before .before .before in
-    rw (c .index .ensures, ← node-is (a .args .working .now) (a .args .place)) (a .pre .1)
+    let e : c .index .result ≡ candidateOf (recordAt candidateWidth (a .args .working .now) (a .args .place)) .node =
+    c .index .ensures ∙ sym (node-is (a .args .working .now) (a .args .place)) in
+    subst (λ (node : ℕ). layoutWidth * node + layoutWidth ≤ length (a .args .layouts .now)) (sym e) (a .pre .1)
 
 returns : tie.Need-returns
 returns c = c .layout-at .ensures ∙ rw (c .before .index .ensures, ← node-is _ _) refl

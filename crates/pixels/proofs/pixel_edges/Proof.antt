@@ -1,8 +1,9 @@
 -- Generated skeleton (tools/proof/write-skeletons), answers by hand.
 -- `pixels::pixel_edges` meets its contract. Assumes nothing.
-use Rattle.pixels.specs.Pixels.{pixelEdges, edgesOf}
+use mathlib.Core.Bool.{false}
+use Rattle.pixels.specs.Pixels.{numbersRead, allAccepted, pixelEdges, edgesOf}
 use Rattle.pixels.proofs.Held.{held-start, held-end}
-use mathlib.Core.Path.{refl}
+use mathlib.Core.Path.{_≡_, refl, sym, _∙_}
 use borrow.Author.Needs.{needs}
 use borrow.Author.Tests.{not-true, not-false}
 use Rattle.pixels.proofs.pixel_edges.Statement.{statement}
@@ -13,7 +14,10 @@ are-accepted-requires c κs = search needs
 
 returns : tie.Need-returns
 unfolding pixelEdges edgesOf
-returns c = simp (← c .before .are-accepted .ensures, not-true (c .before .are-accepted .result) (c .if1 .taken))
+returns c =
+    let a = c .before .before .before .before .args in
+    let e : allAccepted (numbersRead (a .layout .location) (a .layout .size) (a .offset)) ≡ false = sym (c .before .are-accepted .ensures) ∙ not-true (c .before .are-accepted .result) (c .if1 .taken) in
+    rw e refl
 
 line-requires : tie.Need-line-requires
 line-requires c κs = search needs
