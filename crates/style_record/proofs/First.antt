@@ -7,10 +7,8 @@ use mathlib.Core.Path.{_≡_, refl, subst}
 use mathlib.Core.Bool.{Bool, true, false, cond}
 use mathlib.Core.List.{List}
 use Rattle.style_record.specs.Record.{styleWords, item, items}
-use Rattle.style_record.specs.Check.{breaksRule, breaks, firstFrom, firstBroken, orRest, checkedFrom, checked}
+use Rattle.style_record.specs.Check.{breaksRule, breaks, ItemCheck, Good, Bad, firstFrom, firstBroken, orRest, checkedFrom, checked}
 use Rattle.style_record.specs.Laws.{AllGood, NoneBreaks, First}
-use Rattle.style_record.specs.declared.check.ItemCheck.{ItemCheck}
-use Rattle.style_record.specs.declared.check.ItemCheck.the-variants.{Good, Bad}
 use Rattle.style_record.specs.declared.check.TableCheck.{TableCheck}
 use Rattle.style_record.specs.declared.check.TableCheck.the-variants as table
 

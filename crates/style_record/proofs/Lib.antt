@@ -1,3 +1,4 @@
+pub mod Codes
 pub mod Walk
 pub mod Room
 pub mod First

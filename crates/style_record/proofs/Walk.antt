@@ -1,166 +1,131 @@
--- The walk over a record's words and over a table's items, a stretch at a time. Assumes nothing.
-use Prim.Native.Nat.{ℕ, zero, suc, _+_, _*_, _-_, _/_, _%_, _<_, _≤_}
+-- The walk over a record's words and over a table's items, a step at a time. Assumes nothing.
+use Prim.Native.Nat.{ℕ, suc, _+_, _*_, _-_, _/_, _%_, _<_, _≤_}
 use native.Mathlib.Omega.{arith}
-use mathlib.Core.Path.{_≡_, refl, _∙_, ap}
+use mathlib.Core.Path.{_≡_, refl, sym, _∙_, ap}
 use mathlib.Core.Bool.{Bool, true, false, cond, not}
 use mathlib.Core.List.{List}
 use lib.Dec.{ltb}
-use lib.ListN.{getD}
 use borrow.Author.Tests.{lt-ltb, le-ltb}
 use Rattle.style.specs.Resolve.{takes}
+use Rattle.style.proofs.Laws.{takes-its-tags}
 use Rattle.style.specs.declared.resolve.Field.{Field}
 use Rattle.style.specs.declared.resolve.Field.the-variants as field
-use Rattle.style_record.specs.Record.{number, kindOf, lengthKinds, codeKinds, lengthField, lengthWords, lengths, codeWords, afterLengths, AreOf}
-use Rattle.style_record.specs.Check.{safetyBreaks, breaksAs, breaksRule, firstFrom, orRest, firstBroken, checkedFrom}
-use Rattle.style_record.specs.declared.check.ItemCheck.{ItemCheck}
-use Rattle.style_record.specs.declared.check.ItemCheck.the-variants.{Good, Bad}
+use Rattle.style_record.specs.Record.{tag, number, kindOf, lengthKinds, lengthField, lengthWords, afterLengths, styleWords, item}
+use Rattle.style_record.specs.Check.{breaksAs, breaksRule, Good, Bad, firstFrom, orRest, firstBroken, checkedFrom}
 use Rattle.style_record.specs.declared.check.TableCheck.the-variants as table
 
--- ---- a stretch of a record's words, and the next
+-- ---- a record's words, one by one
 
--- the first that breaks a rule in one stretch, or else in the next
-abbrev pub orNext : ItemCheck → ItemCheck → ItemCheck
-orNext Good next = next
-orNext (Bad k) next = Bad k
+word-turn : (k : ℕ) → k < styleWords → styleWords - k ≡ suc (styleWords - (k + 1))
+word-turn k h = omega arith
 
-along : (k n : ℕ) → k + 1 + n ≡ k + suc n
-along k n = omega arith
+words-over : (k : ℕ) → styleWords ≤ k → styleWords - k ≡ 0
+words-over k h = omega arith
 
-nothing : (k : ℕ) → k ≡ k + 0
-nothing k = omega arith
+module _ (r : ℕ → ℕ) (k : ℕ) where
+  word-bad : k < styleWords → breaksRule r k ≡ true → firstFrom r (styleWords - k) k ≡ Bad k
+  unfolding firstFrom
+  word-bad h e = rw (word-turn k h) (rw e refl)
 
-next-cond : (b : Bool) (k : ℕ) (rest next : ItemCheck) → cond b (Bad k) (orNext rest next) ≡ orNext (cond b (Bad k) rest) next
-next-cond true k rest next = refl
-next-cond false k rest next = refl
+  word-good : k < styleWords → breaksRule r k ≡ false → firstFrom r (styleWords - k) k ≡ firstFrom r (styleWords - (k + 1)) (k + 1)
+  unfolding firstFrom
+  word-good h e = rw (word-turn k h) (rw e refl)
 
-more : (n m : ℕ) → suc n + m ≡ suc (n + m)
-more n m = omega arith
+  words-done : styleWords ≤ k → firstFrom r (styleWords - k) k ≡ Good
+  unfolding firstFrom
+  words-done h = rw (words-over k h) refl
 
-none : (m : ℕ) → 0 + m ≡ m
-none m = omega arith
+-- ---- a length starts with its tag, and no other word of it breaks a rule
 
-pub joined : (r : ℕ → ℕ) (n m k : ℕ) → firstFrom r (n + m) k ≡ orNext (firstFrom r n k) (firstFrom r m (k + n))
-unfolding firstFrom
-joined r zero m k = ap (λ (x : ℕ). firstFrom r x k) (none m) ∙ ap (λ (x : ℕ). firstFrom r m x) (nothing k)
-joined r (suc n) m k =
-    ap (λ (x : ℕ). firstFrom r x k) (more n m)
-    ∙ ap (λ (x : ItemCheck). cond (breaksRule r k) (Bad k) x) (joined r n m (k + 1))
-    ∙ next-cond (breaksRule r k) k (firstFrom r n (k + 1)) (firstFrom r m (k + 1 + n))
-    ∙ ap (λ (x : ℕ). orNext (firstFrom r (suc n) k) (firstFrom r m x)) (along k n)
+module _ (k : ℕ) (h : k < afterLengths) (even : k % lengthWords ≡ 0) where
+  tag-kind : kindOf k ≡ tag (lengthField (k / lengthWords))
+  unfolding kindOf lengthKinds
+  tag-kind = rw (lt-ltb k afterLengths h, even) refl
 
--- ---- the words of a length
+  value-kind : kindOf (k + 1) ≡ number
+  unfolding kindOf lengthKinds
+  value-kind = rw (lt-ltb (k + 1) afterLengths (inside k h even), odd k even) refl
+    where
+      inside : (k : ℕ) → k < afterLengths → k % lengthWords ≡ 0 → k + 1 < afterLengths
+      inside k h e = omega arith
 
--- a length starts with its tag, and no other word of it breaks a rule
-length-kind : (l j : ℕ) → l < lengths → j < lengthWords → kindOf (lengthWords * l + j) ≡ getD (lengthKinds (lengthField l)) j number
-unfolding kindOf
-length-kind l j p q = rw (lt-ltb (2 * l + j) 44 (inside l j p q), whole l j q, part l j q) refl
+      odd : (k : ℕ) → k % lengthWords ≡ 0 → (k + 1) % lengthWords ≡ 1
+      odd k e = omega arith
+
+below : (k : ℕ) → k < afterLengths → k < styleWords
+below k h = omega arith
+
+next-below : (k : ℕ) → k < afterLengths → k + 1 < styleWords
+next-below k h = omega arith
+
+two-on : (k : ℕ) → k + 1 + 1 ≡ k + lengthWords
+two-on k = omega arith
+
+module _ (r : ℕ → ℕ) (k : ℕ) (h : k < afterLengths) (even : k % lengthWords ≡ 0) where
+  tag-rule : breaksRule r k ≡ not (takes (lengthField (k / lengthWords)) (r k))
+  unfolding breaksRule breaksAs
+  tag-rule = rw (tag-kind k h even) refl
+
+  value-rule : breaksRule r (k + 1) ≡ false
+  unfolding breaksRule breaksAs
+  value-rule = rw (value-kind k h even) refl
+
+  tag-bad : takes (lengthField (k / lengthWords)) (r k) ≡ false → firstFrom r (styleWords - k) k ≡ Bad k
+  tag-bad e = word-bad r k (below k h) (tag-rule ∙ ap not e)
+
+  tag-good : takes (lengthField (k / lengthWords)) (r k) ≡ true → firstFrom r (styleWords - k) k ≡ firstFrom r (styleWords - (k + lengthWords)) (k + lengthWords)
+  tag-good e =
+      word-good r k (below k h) (tag-rule ∙ ap not e) ∙ word-good r (k + 1) (next-below k h) value-rule
+      ∙ ap (λ (j : ℕ). firstFrom r (styleWords - j) j) (two-on k)
+
+-- ---- what the tags from one word to another are held to
+
+abbrev pub TakenAs : Field → ℕ → ℕ → Type 0
+TakenAs f from to = (k : ℕ) → from ≤ k → k < to → (w : ℕ) → takes (lengthField (k / lengthWords)) w ≡ takes f w
+
+pub insets-and-margins : TakenAs field.InsetOrMargin 0 (8 * lengthWords)
+unfolding lengthField
+insets-and-margins k p q w = rw (lt-ltb (k / lengthWords) 8 (omega arith)) refl
+
+pub padding-and-borders : TakenAs field.PaddingOrBorder (8 * lengthWords) (16 * lengthWords)
+unfolding lengthField
+padding-and-borders k p q w = rw (le-ltb (k / lengthWords) 8 (omega arith), lt-ltb (k / lengthWords) 16 (omega arith)) refl
+
+-- min and max take what the size does
+pub sizes : TakenAs field.Size (16 * lengthWords) afterLengths
+unfolding lengthField
+sizes k p q w = rw (le-ltb (k / lengthWords) 8 (omega arith), le-ltb (k / lengthWords) 16 (omega arith)) (alike (ltb (k / lengthWords) 18))
   where
-    inside : (l j : ℕ) → l < 22 → j < 2 → 2 * l + j < 44
-    inside l j p q = omega arith
+    alike : (b : Bool) → takes (cond b field.Size field.MinOrMax) w ≡ takes field.Size w
+    alike true = refl
+    alike false = takes-its-tags field.MinOrMax w ∙ sym (takes-its-tags field.Size w)
 
-    whole : (l j : ℕ) → j < 2 → (2 * l + j) / 2 ≡ l
-    whole l j q = omega arith
+-- ---- an item's words, from one on
 
-    part : (l j : ℕ) → j < 2 → (2 * l + j) % 2 ≡ j
-    part l j q = omega arith
+-- what the words of an item come to is what those from word k on do
+abbrev pub From : List ℕ → ℕ → ℕ → Type 0
+From s i k = firstBroken s i ≡ firstFrom (item s i) (styleWords - k) k
 
--- ---- after a stretch
+pub all-words : (s : List ℕ) (i : ℕ) → From s i 0
+unfolding firstBroken
+all-words s i = refl
 
-module _ (r : ℕ → ℕ) (n m k : ℕ) where
-  pub then-bad : {j : ℕ} → firstFrom r n k ≡ Bad j → firstFrom r (n + m) k ≡ Bad j
-  then-bad e = joined r n m k ∙ rw e refl
+module _ (s : List ℕ) (i k : ℕ) (here : From s i k) where
+  pub words-end : styleWords ≤ k → firstBroken s i ≡ Good
+  words-end h = here ∙ words-done (item s i) k h
 
-  pub then-good : firstFrom r n k ≡ Good → firstFrom r (n + m) k ≡ firstFrom r m (k + n)
-  then-good e = joined r n m k ∙ rw e refl
+  pub word-on : k < styleWords → breaksRule (item s i) k ≡ false → From s i (k + 1)
+  word-on h e = here ∙ word-good (item s i) k h e
 
-module _ (r : ℕ → ℕ) (l : ℕ) (p : l < lengths) where
-  tag-rule : breaksRule r (lengthWords * l) ≡ not (takes (lengthField l) (r (lengthWords * l)))
-  unfolding breaksRule breaksAs lengthKinds
-  tag-rule = rw (ap kindOf (nothing (2 * l)) ∙ length-kind l 0 p (omega arith)) refl
+  pub word-stop : k < styleWords → breaksRule (item s i) k ≡ true → firstBroken s i ≡ Bad k
+  word-stop h e = here ∙ word-bad (item s i) k h e
 
-  value-rule : breaksRule r (lengthWords * l + 1) ≡ false
-  unfolding breaksRule breaksAs lengthKinds
-  value-rule = rw (length-kind l 1 p (omega arith)) refl
+  module _ (f : Field) (from to : ℕ) (alike : TakenAs f from to) (p : from ≤ k) (q : k < to) (h : k < afterLengths) (even : k % lengthWords ≡ 0) where
+    pub tag-on : takes f (item s i k) ≡ true → From s i (k + lengthWords)
+    tag-on e = here ∙ tag-good (item s i) k h even (alike k p q _ ∙ e)
 
-  length-bad : takes (lengthField l) (r (lengthWords * l)) ≡ false → firstFrom r lengthWords (lengthWords * l) ≡ Bad (lengthWords * l)
-  unfolding firstFrom
-  length-bad e = rw (tag-rule, e) refl
-
-  length-good : takes (lengthField l) (r (lengthWords * l)) ≡ true → firstFrom r lengthWords (lengthWords * l) ≡ Good
-  unfolding firstFrom
-  length-good e = rw (tag-rule, e, value-rule) refl
-
--- ---- a stretch of lengths, one by one
-
-turn : (l to : ℕ) → l < to → lengthWords * (to - l) ≡ lengthWords + lengthWords * (to - (l + 1))
-turn l to h = omega arith
-
-next : (l : ℕ) → lengthWords * l + lengthWords ≡ lengthWords * (l + 1)
-next l = omega arith
-
-below : (l to : ℕ) → l < to → to ≤ lengths → l < lengths
-below l to h p = omega arith
-
-over : (l to : ℕ) → to ≤ l → lengthWords * (to - l) ≡ 0
-over l to h = omega arith
-
-module _ (r : ℕ → ℕ) (l to : ℕ) (h : l < to) (p : to ≤ lengths) where
-  pub lengths-bad : takes (lengthField l) (r (lengthWords * l)) ≡ false → firstFrom r (lengthWords * (to - l)) (lengthWords * l) ≡ Bad (lengthWords * l)
-  lengths-bad e =
-      ap (λ (n : ℕ). firstFrom r n (lengthWords * l)) (turn l to h)
-      ∙ then-bad r lengthWords (lengthWords * (to - (l + 1))) (lengthWords * l) (length-bad r l (below l to h p) e)
-
-  pub lengths-on : takes (lengthField l) (r (lengthWords * l)) ≡ true → firstFrom r (lengthWords * (to - l)) (lengthWords * l) ≡ firstFrom r (lengthWords * (to - (l + 1))) (lengthWords * (l + 1))
-  lengths-on e =
-      ap (λ (n : ℕ). firstFrom r n (lengthWords * l)) (turn l to h)
-      ∙ then-good r lengthWords (lengthWords * (to - (l + 1))) (lengthWords * l) (length-good r l (below l to h p) e)
-      ∙ ap (firstFrom r (lengthWords * (to - (l + 1)))) (next l)
-
-pub lengths-done : (r : ℕ → ℕ) (l to : ℕ) → to ≤ l → firstFrom r (lengthWords * (to - l)) (lengthWords * l) ≡ Good
-unfolding firstFrom
-lengths-done r l to h = rw (over l to h) refl
-
--- ---- which lengths are of which field
-
-pub insets-and-margins : AreOf field.InsetOrMargin 0 8
-unfolding lengthField
-insets-and-margins l p q = rw (lt-ltb l 8 q) refl
-
-pub padding-and-borders : AreOf field.PaddingOrBorder 8 16
-unfolding lengthField
-padding-and-borders l p q = rw (le-ltb l 8 p, lt-ltb l 16 q) refl
-
-pub sizes : AreOf field.Size 16 18
-unfolding lengthField
-sizes l p q = rw (le-ltb l 8 (omega arith), le-ltb l 16 p, lt-ltb l 18 q) refl
-
-pub mins-and-maxes : AreOf field.MinOrMax 18 22
-unfolding lengthField
-mins-and-maxes l p q = rw (le-ltb l 8 (omega arith), le-ltb l 16 (omega arith), le-ltb l 18 p) refl
-
--- what the field takes, a length of the field does
-pub of-field : {f : Field} {from to : ℕ} (l w : ℕ) {b : Bool} → AreOf f from to → from ≤ l → l < to → takes f w ≡ b → takes (lengthField l) w ≡ b
-of-field l w a p q e = rw (a l p q) e
-
--- ---- the words after the lengths, as the code tests them
-
-unfoldable pub codesOf : (ℕ → ℕ) → ItemCheck
-codesOf r =
-    cond (ltb 1 (r 44)) (Bad 44)
-    (cond (ltb 1 (r 46)) (Bad 46)
-    (cond (ltb 3 (r 47)) (Bad 47)
-    (cond (ltb 1 (r 48)) (Bad 48)
-    (cond (ltb 10 (r 49)) (Bad 49)
-    (cond (safetyBreaks (r 49) (r 50)) (Bad 50)
-    (cond (ltb 10 (r 51)) (Bad 51)
-    (cond (safetyBreaks (r 51) (r 52)) (Bad 52)
-    (cond (ltb 3 (r 53)) (Bad 53)
-    (cond (ltb 3 (r 54)) (Bad 54)
-    (cond (ltb 255 (r 56)) (Bad 56) Good))))))))))
-
-pub codes-first : (r : ℕ → ℕ) → firstFrom r codeWords afterLengths ≡ codesOf r
-unfolding firstFrom breaksRule breaksAs kindOf codeKinds codesOf
-codes-first r = refl
+    pub tag-stop : takes f (item s i k) ≡ false → firstBroken s i ≡ Bad k
+    tag-stop e = here ∙ tag-bad (item s i) k h even (alike k p q _ ∙ e)
 
 -- ---- a table's items, one by one
 

@@ -6,8 +6,6 @@ use mathlib.Core.List.{List}
 use lib.Dec.{eqb, ltb}
 use Rattle.style.specs.Resolve.{takes}
 use Rattle.style_record.specs.Record.{Kind, tag, number, upTo, ratio, keyword, safety, contain, kindOf, styleWords, item, items}
-use Rattle.style_record.specs.declared.check.ItemCheck.{ItemCheck}
-use Rattle.style_record.specs.declared.check.ItemCheck.the-variants.{Good, Bad}
 use Rattle.style_record.specs.declared.check.TableCheck.{TableCheck}
 use Rattle.style_record.specs.declared.check.TableCheck.the-variants as table
 
@@ -25,6 +23,26 @@ breaksAs keyword before w = ltb 10 w
 breaksAs safety before w = safetyBreaks before w
 breaksAs contain before w = ltb 255 w
 
+-- the last word of a kind that no rule of codes is broken by; of a tag or a float it is the last of all
+unfoldable pub lastCode : Kind → ℕ
+lastCode (tag f) = 4294967295
+lastCode number = 4294967295
+lastCode (upTo last) = last
+lastCode ratio = 4294967295
+lastCode keyword = 10
+lastCode safety = 2
+lastCode contain = 255
+
+-- whether a word is the safety of an absent keyword, the word before it
+unfoldable pub isIgnored : Kind → ℕ → Bool
+isIgnored (tag f) before = false
+isIgnored number before = false
+isIgnored (upTo last) before = false
+isIgnored ratio before = false
+isIgnored keyword before = false
+isIgnored safety before = eqb before 10
+isIgnored contain before = false
+
 -- whether word k of a record breaks a rule
 unfoldable pub breaksRule : (ℕ → ℕ) → ℕ → Bool
 breaksRule r k = breaksAs (kindOf k) (r (k - 1)) (r k)
@@ -32,6 +50,11 @@ breaksRule r k = breaksAs (kindOf k) (r (k - 1)) (r k)
 -- whether word k of item i of a table breaks a rule
 unfoldable pub breaks : List ℕ → ℕ → ℕ → Bool
 breaks s i k = breaksRule (item s i) k
+
+-- what is found in an item's words: nothing, or the first word that breaks a rule
+pub data ItemCheck : Type 0 where
+  Good : ItemCheck
+  Bad : ℕ → ItemCheck
 
 -- the first of the n words of a record from word k on that breaks a rule
 unfoldable pub firstFrom : (ℕ → ℕ) → ℕ → ℕ → ItemCheck

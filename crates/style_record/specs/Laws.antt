@@ -14,10 +14,9 @@ use Rattle.style.specs.declared.compact_length.LengthSize.{LengthSize}
 use Rattle.style.specs.declared.Style.{Style}
 use Rattle.style.specs.declared.resolve.Field.{Field}
 use Rattle.style_record.specs.Record.{lengthWords, codeWords, styleWords, lengthKinds, codeKinds, items}
-use Rattle.style_record.specs.Check.{breaks, firstBroken, checked}
+use Rattle.style_record.specs.Check.{breaks, Good, firstBroken, checked}
 use Rattle.style_record.specs.Decode.{styleOf, styleAt}
 use Rattle.style_record.specs.Encode.{encoded, kept}
-use Rattle.style_record.specs.declared.check.ItemCheck.the-variants.{Good}
 use Rattle.style_record.specs.declared.check.TableCheck.the-variants as table
 
 -- ---- the widths

@@ -51,10 +51,6 @@ pub data Kind : Type 0 where
 unfoldable pub lengthField : ℕ → Field
 lengthField l = cond (ltb l 8) InsetOrMargin (cond (ltb l 16) PaddingOrBorder (cond (ltb l 18) Size MinOrMax))
 
--- the lengths from one to another are of one field
-abbrev pub AreOf : Field → ℕ → ℕ → Type 0
-AreOf f from to = (l : ℕ) → from ≤ l → l < to → lengthField l ≡ f
-
 -- the words of a length
 unfoldable pub lengthKinds : Field → List Kind
 lengthKinds f = tag f ∷ number ∷ []

@@ -1,64 +1,227 @@
 -- Generated skeleton (tools/proof/write-skeletons), answers by hand.
-use Rattle.style_record.proofs.Walk.{item-bad, item-good, items-done}
+use Rattle.style_record.proofs.Walk.{From, all-words, words-end, word-on, word-stop, tag-on, tag-stop, insets-and-margins, padding-and-borders, sizes, item-bad, item-good, items-done}
 use Rattle.style_record.specs.Check.{checked, checkedFrom}
-use Rattle.style_record.specs.Record.{items}
+use Rattle.style_record.specs.Record.{lengthWords, afterLengths, styleWords, items}
 use native.Mathlib.Nat.{sub-zero}
-use mathlib.Core.Path.{_≡_, sym, _∙_}
-use Prim.Native.Nat.{_-_, _≤_}
+use native.Mathlib.Omega.{arith}
+use mathlib.Core.Logic.{⊎-elim}
+use mathlib.Core.Bool.{Bool, true, false, not}
+use mathlib.Core.Path.{_≡_, refl, sym, _∙_}
+use Prim.Native.Nat.{_*_, _-_, _%_, _≤_}
 use borrow.Author.Needs.{needs}
+use Rattle.style.specs.declared.resolve.Field.the-variants as field
 use Rattle.style_record.proofs.check.check_styles.Statement.{statement}
 use Rattle.style_record.proofs.check.check_styles.Tie as tie
 use Rattle.style_record.proofs.check.check_styles.Reads as reads
 use Rattle.style_record.proofs.check.check_styles.Lts as lts
-use Rattle.style_record.proofs.check.check_style.Reads as check-style-reads
+use Rattle.style.proofs.resolve.Field.takes.Reads as takes-reads
+use Rattle.style_record.proofs.check.code_breaks.Reads as code-breaks-reads
 
-abbrev Inv-loop : tie.InvT-loop
-Inv-loop styles n i₀ i = (i ≤ n) × (checkedFrom styles n 0 ≡ checkedFrom styles (n - i) i)
+-- a test of `!b`
+taken : (b : Bool) → not b ≡ false → b ≡ true
+taken true e = refl
+taken false e = sym e
 
-abbrev μ-loop : tie.MeasureT-loop
-μ-loop styles n i₀ i = n - i
+left : (b : Bool) → not b ≡ true → b ≡ false
+left true e = sym e
+left false e = refl
 
-loop-holds : tie.Need-loop-holds Inv-loop μ-loop
-loop-holds c = (search needs, simp sub-zero)
+-- the three walks over tags, by the words that they start and end at, and the one over codes
+abbrev Edges : tie.InvT-loop
+Edges styles n i k₀ at k = (k ≤ 8 * lengthWords) × (k % lengthWords ≡ 0) × From styles i k
 
-check-style-requires : tie.Need-check-style-requires Inv-loop μ-loop
-check-style-requires c κs = search needs
+abbrev Insides : tie.InvT-loop2
+Insides styles n i k₀ at k = (8 * lengthWords ≤ k) × (k ≤ 16 * lengthWords) × (k % lengthWords ≡ 0) × From styles i k
 
-enum-told : tie.Need-enum-told Inv-loop μ-loop
-enum-told c = search needs
+abbrev Sizes : tie.InvT-loop3
+Sizes styles n i k₀ at k = (16 * lengthWords ≤ k) × (k ≤ afterLengths) × (k % lengthWords ≡ 0) × From styles i k
 
-add-i : tie.Need-add-i Inv-loop μ-loop
-add-i c = search needs
+abbrev Codes : tie.InvT-loop4
+Codes styles n i k₀ at k = (afterLengths ≤ k) × (k ≤ styleWords) × From styles i k
 
-loop-less : tie.Need-loop-less Inv-loop μ-loop
+abbrev Items : tie.InvT-items
+Items styles n i₀ k₀ i k = (i ≤ n) × (checkedFrom styles n 0 ≡ checkedFrom styles (n - i) i)
+
+-- the words left of an item, and the items left
+abbrev μ : tie.MeasureT-loop
+μ styles n i k₀ at k = styleWords - k
+
+abbrev μ-items : tie.MeasureT-items
+μ-items styles n i₀ k₀ i k = n - i
+
+items-holds : tie.Need-items-holds Edges μ Insides μ Sizes μ Codes μ Items μ-items
+items-holds c = (search needs, simp sub-zero)
+
+mul-at : tie.Need-mul-at Edges μ Insides μ Sizes μ Codes μ Items μ-items
+mul-at c = search needs
+
+loop-holds : tie.Need-loop-holds Edges μ Insides μ Sizes μ Codes μ Items μ-items
+loop-holds c = (search needs, search needs, all-words _ _)
+
+add-takes : tie.Need-add-takes Edges μ Insides μ Sizes μ Codes μ Items μ-items
+add-takes c = search needs
+
+mul-takes : tie.Need-mul-takes Edges μ Insides μ Sizes μ Codes μ Items μ-items
+mul-takes c = search needs
+
+shared-slice-read-takes : tie.Need-shared-slice-read-takes Edges μ Insides μ Sizes μ Codes μ Items μ-items
+shared-slice-read-takes c = search needs
+
+takes-requires : tie.Need-takes-requires Edges μ Insides μ Sizes μ Codes μ Items μ-items
+takes-requires c κs = search needs
+
+add-k : tie.Need-add-k Edges μ Insides μ Sizes μ Codes μ Items μ-items
+add-k c = search needs
+
+loop-less : tie.Need-loop-less Edges μ Insides μ Sizes μ Codes μ Items μ-items
 loop-less c = search needs
 
-loop-again : tie.Need-loop-again Inv-loop μ-loop
-loop-again c = (search needs, c .before .before .before .before .loop .inv .1 ∙ item-good _ _ _ (c .before .before .before .loop-test .taken) (sym (c .before .before .check-style .ensures) ∙ c .enum-told .given .1))
+loop-again : tie.Need-loop-again Edges μ Insides μ Sizes μ Codes μ Items μ-items
+loop-again c =
+    let on = tag-on _ _ _ (c .before .before .before .before .loop .inv .2) field.InsetOrMargin _ _ insets-and-margins (omega arith) (c .before .before .before .loop-test .taken) (omega (arith, c .before .before .before .loop-test .taken)) (c .before .before .before .before .loop .inv .1) (sym (c .before .takes .ensures) ∙ taken _ (c .if1 .left)) in
+    (search needs, search needs, on)
 
-enum-known-k : tie.Need-enum-known-k Inv-loop μ-loop
-enum-known-k c = search needs
+loop2-holds : tie.Need-loop2-holds Edges μ Insides μ Sizes μ Codes μ Items μ-items
+loop2-holds c = (search needs, search needs, search needs, c .before .loop .inv .2)
 
-returns : tie.Need-returns Inv-loop μ-loop
+add-takes-2 : tie.Need-add-takes-2 Edges μ Insides μ Sizes μ Codes μ Items μ-items
+add-takes-2 c = search needs
+
+mul-takes-2 : tie.Need-mul-takes-2 Edges μ Insides μ Sizes μ Codes μ Items μ-items
+mul-takes-2 c = search needs
+
+shared-slice-read-takes-2 : tie.Need-shared-slice-read-takes-2 Edges μ Insides μ Sizes μ Codes μ Items μ-items
+shared-slice-read-takes-2 c = search needs
+
+takes-requires-2 : tie.Need-takes-requires-2 Edges μ Insides μ Sizes μ Codes μ Items μ-items
+takes-requires-2 c κs = search needs
+
+add-k-2 : tie.Need-add-k-2 Edges μ Insides μ Sizes μ Codes μ Items μ-items
+add-k-2 c = search needs
+
+loop2-less : tie.Need-loop2-less Edges μ Insides μ Sizes μ Codes μ Items μ-items
+loop2-less c = search needs
+
+loop2-again : tie.Need-loop2-again Edges μ Insides μ Sizes μ Codes μ Items μ-items
+loop2-again c =
+    let on = tag-on _ _ _ (c .before .before .before .before .loop2 .inv .3) field.PaddingOrBorder _ _ padding-and-borders (c .before .before .before .before .loop2 .inv .0) (c .before .before .before .loop2-test .taken) (omega (arith, c .before .before .before .loop2-test .taken)) (c .before .before .before .before .loop2 .inv .2) (sym (c .before .takes2 .ensures) ∙ taken _ (c .if2 .left)) in
+    (search needs, search needs, search needs, on)
+
+loop3-holds : tie.Need-loop3-holds Edges μ Insides μ Sizes μ Codes μ Items μ-items
+loop3-holds c = (search needs, search needs, search needs, c .before .loop2 .inv .3)
+
+add-takes-3 : tie.Need-add-takes-3 Edges μ Insides μ Sizes μ Codes μ Items μ-items
+add-takes-3 c = search needs
+
+mul-takes-3 : tie.Need-mul-takes-3 Edges μ Insides μ Sizes μ Codes μ Items μ-items
+mul-takes-3 c = search needs
+
+shared-slice-read-takes-3 : tie.Need-shared-slice-read-takes-3 Edges μ Insides μ Sizes μ Codes μ Items μ-items
+shared-slice-read-takes-3 c = search needs
+
+takes-requires-3 : tie.Need-takes-requires-3 Edges μ Insides μ Sizes μ Codes μ Items μ-items
+takes-requires-3 c κs = search needs
+
+add-k-3 : tie.Need-add-k-3 Edges μ Insides μ Sizes μ Codes μ Items μ-items
+add-k-3 c = search needs
+
+loop3-less : tie.Need-loop3-less Edges μ Insides μ Sizes μ Codes μ Items μ-items
+loop3-less c = search needs
+
+loop3-again : tie.Need-loop3-again Edges μ Insides μ Sizes μ Codes μ Items μ-items
+loop3-again c =
+    let on = tag-on _ _ _ (c .before .before .before .before .loop3 .inv .3) field.Size _ _ sizes (c .before .before .before .before .loop3 .inv .0) (c .before .before .before .loop3-test .taken) (omega (arith, c .before .before .before .loop3-test .taken)) (c .before .before .before .before .loop3 .inv .2) (sym (c .before .takes3 .ensures) ∙ taken _ (c .if3 .left)) in
+    (search needs, search needs, search needs, on)
+
+loop4-holds : tie.Need-loop4-holds Edges μ Insides μ Sizes μ Codes μ Items μ-items
+loop4-holds c = (search needs, search needs, c .before .loop3 .inv .3)
+
+code-breaks-requires : tie.Need-code-breaks-requires Edges μ Insides μ Sizes μ Codes μ Items μ-items
+code-breaks-requires c κs = search needs
+
+add-k-4 : tie.Need-add-k-4 Edges μ Insides μ Sizes μ Codes μ Items μ-items
+add-k-4 c = search needs
+
+loop4-less : tie.Need-loop4-less Edges μ Insides μ Sizes μ Codes μ Items μ-items
+loop4-less c = search needs
+
+loop4-again : tie.Need-loop4-again Edges μ Insides μ Sizes μ Codes μ Items μ-items
+loop4-again c = (search needs, search needs, word-on _ _ _ (c .before .before .before .loop4 .inv .2) (c .before .before .loop4-test .taken) (sym (c .before .code-breaks .ensures) ∙ c .if4 .left))
+
+add-i : tie.Need-add-i Edges μ Insides μ Sizes μ Codes μ Items μ-items
+add-i c = search needs
+
+items-less : tie.Need-items-less Edges μ Insides μ Sizes μ Codes μ Items μ-items
+items-less c = search needs
+
+items-again : tie.Need-items-again Edges μ Insides μ Sizes μ Codes μ Items μ-items
+items-again c = (search needs, c .before .before .before .before .before .before .before .before .before .items .inv .1 ∙ item-good _ _ _ (c .before .before .before .before .before .before .before .before .items-test .taken) (words-end _ _ _ (c .before .loop4 .inv .2) (c .loop4-test .left)))
+
+-- left at an item's tag or code: its own test is not the way here
+returns : tie.Need-returns Edges μ Insides μ Sizes μ Codes μ Items μ-items
 unfolding checked items
-returns c = sym (c .before .before .before .before .before .loop .inv .1 ∙ item-bad _ _ _ (c .before .before .before .before .loop-test .taken) (sym (c .before .before .before .check-style .ensures) ∙ c .before .k .given .1))
+returns c =
+    ⊎-elim (λ w. absurd (omega (arith, w .0 .left, c .if5 .taken)))
+    (⊎-elim
+    (λ w. rw (w .6) (sym (c .before .before .items .inv .1 ∙ item-bad _ _ _ (w .0 .taken) (tag-stop _ _ _ (w .1 .inv .2) field.InsetOrMargin _ _ insets-and-margins (omega arith) (w .2 .taken) (omega (arith, w .2 .taken)) (w .1 .inv .1) (sym (w .4 .ensures) ∙ left _ (w .5 .taken))))))
+    (⊎-elim
+    (λ w. rw (w .8) (sym (c .before .before .items .inv .1 ∙ item-bad _ _ _ (w .0 .taken) (tag-stop _ _ _ (w .3 .inv .3) field.PaddingOrBorder _ _ padding-and-borders (w .3 .inv .0) (w .4 .taken) (omega (arith, w .4 .taken)) (w .3 .inv .2) (sym (w .6 .ensures) ∙ left _ (w .7 .taken))))))
+    (⊎-elim
+    (λ w. rw (w .10) (sym (c .before .before .items .inv .1 ∙ item-bad _ _ _ (w .0 .taken) (tag-stop _ _ _ (w .5 .inv .3) field.Size _ _ sizes (w .5 .inv .0) (w .6 .taken) (omega (arith, w .6 .taken)) (w .5 .inv .2) (sym (w .8 .ensures) ∙ left _ (w .9 .taken))))))
+    (λ w. rw (w .11) (sym (c .before .before .items .inv .1 ∙ item-bad _ _ _ (w .0 .taken) (word-stop _ _ _ (w .7 .inv .2) (w .8 .taken) (sym (w .9 .ensures) ∙ w .10 .taken))))))))
+    (c .before .items-test .came)
 
-returns-2 : tie.Need-returns-2 Inv-loop μ-loop
+returns-2 : tie.Need-returns-2 Edges μ Insides μ Sizes μ Codes μ Items μ-items
 unfolding checked items
-returns-2 c = sym (c .before .loop .inv .1 ∙ items-done _ _ _ (c .loop-test .left))
+returns-2 c = sym (c .before .before .items .inv .1 ∙ items-done _ _ _ (c .if5 .left))
 
 pub check-styles-spec : {M : Type 1} → statement M
 check-styles-spec =
     tie.close
     (tie.spec
-    Inv-loop
-    μ-loop
+    Edges
+    μ
+    Insides
+    μ
+    Sizes
+    μ
+    Codes
+    μ
+    Items
+    μ-items
+    items-holds
+    mul-at
     loop-holds
-    check-style-requires
-    enum-told
-    add-i
+    add-takes
+    mul-takes
+    shared-slice-read-takes
+    takes-requires
+    add-k
     loop-less
     loop-again
-    enum-known-k
+    loop2-holds
+    add-takes-2
+    mul-takes-2
+    shared-slice-read-takes-2
+    takes-requires-2
+    add-k-2
+    loop2-less
+    loop2-again
+    loop3-holds
+    add-takes-3
+    mul-takes-3
+    shared-slice-read-takes-3
+    takes-requires-3
+    add-k-3
+    loop3-less
+    loop3-again
+    loop4-holds
+    code-breaks-requires
+    add-k-4
+    loop4-less
+    loop4-again
+    add-i
+    items-less
+    items-again
     returns
     returns-2)
