@@ -67,7 +67,7 @@ good-is-none s = (λ e. there (checked s) (table-is s) e, λ a. back (checked s)
     back _ (good a) n = refl
     back _ (bad i k f) n = no (f .breaks-it) (n i (f .item-there) k (f .word-there))
 
-order : (a b : ℕ) → (a < b) ⊎ ((a ≡ b) ⊎ (b < a))
+pub order : (a b : ℕ) → (a < b) ⊎ ((a ≡ b) ⊎ (b < a))
 order a b = go (leb a b) refl
   where
     go : (x : Bool) → leb a b ≡ x → (a < b) ⊎ ((a ≡ b) ⊎ (b < a))

@@ -1,9 +1,10 @@
--- What the definitions of this crate mean, as statements. `proofs/Laws.antt` proves each, under its name in small letters.
+-- What the definitions of this crate mean, as statements. `proofs/Laws.antt` and `proofs/Front.antt` prove each, under its name in small letters.
 -- `fits binary32 x` says that x is a value of an f32: true of every f32 of a program. Assumes nothing.
-use Prim.Native.Nat.{ℕ, _<_}
+use Prim.Native.Nat.{ℕ, _+_, _*_, _<_, _≤_}
+use mathlib.Core.Logic.{_⊎_}
 use mathlib.Core.Path.{_≡_}
 use mathlib.Core.Bool.{true, false}
-use mathlib.Core.List.{List}
+use mathlib.Core.List.{List, _++_}
 use lib.ListN.{getD, length}
 use lib.Dec.{T}
 use lib.Ieee.{fits, binary32}
@@ -17,6 +18,7 @@ use Rattle.style_record.specs.Record.{lengthWords, codeWords, styleWords
 use Rattle.style_record.specs.Check.{breaks, Good, firstBroken, checked}
 use Rattle.style_record.specs.Decode.{styleOf, styleAt}
 use Rattle.style_record.specs.Encode.{encoded, kept}
+use Rattle.style_record.specs.declared.check.TableCheck.{TableCheck}
 use Rattle.style_record.specs.declared.check.TableCheck.the-variants as table
 
 -- ---- the widths
@@ -57,6 +59,36 @@ BadIsFirst = (s : List ℕ) (i k : ℕ) → (checked s ≡ table.Bad i k → Fir
 -- where some word of some item breaks a rule, there is a first one
 abbrev pub SomeIsFound : Type 0
 SomeIsFound = (s : List ℕ) (i k : ℕ) → i < items s → k < styleWords → breaks s i k ≡ true → (j : ℕ) × (l : ℕ) × (checked s ≡ table.Bad j l)
+
+-- the first item wins over the first word: any word that breaks a rule is of a later item than the word found, or of its item and not before it
+abbrev pub FirstItemWins : Type 0
+FirstItemWins =
+    (s : List ℕ) (i k j l : ℕ) → checked s ≡ table.Bad i k
+    → j < items s → l < styleWords → breaks s j l ≡ true
+    → (i < j) ⊎ ((i ≡ j) × (k ≤ l))
+
+-- the words after the one found have no say: a table that agrees with another up to there, and has that item whole, has its answer, however
+-- long it is and whatever else it holds. A theorem can't speak of time: this is why the walk may stop there
+abbrev pub FrontDecides : Type 0
+FrontDecides =
+    (s t : List ℕ) (i k : ℕ) → checked s ≡ table.Bad i k
+    → styleWords * i + styleWords ≤ length t
+    → ((j : ℕ) → j ≤ styleWords * i + k → getD t j 0 ≡ getD s j 0)
+    → checked t ≡ table.Bad i k
+
+-- what is found in a table, or else in one that stands behind its n items
+abbrev pub orBehind : ℕ → TableCheck → TableCheck → TableCheck
+orBehind n (table.Bad i k) behind = table.Bad i k
+orBehind n table.Good table.Good = table.Good
+orBehind n table.Good (table.Bad i k) = table.Bad (n + i) k
+
+-- a table behind n whole items is looked at exactly where none of theirs is bad, and its items count on from theirs
+abbrev pub BehindIsNext : Type 0
+BehindIsNext = (s t : List ℕ) (n : ℕ) → length s ≡ styleWords * n → checked (s ++ t) ≡ orBehind n (checked s) (checked t)
+
+-- a trailing part of a record is not looked at
+abbrev pub PartIsPassedOver : Type 0
+PartIsPassedOver = (s t : List ℕ) (n : ℕ) → length s ≡ styleWords * n → length t < styleWords → checked (s ++ t) ≡ checked s
 
 -- ---- the decoding: `encoded` has document 01's words in their order, and decoding is its inverse. So no word is dropped, none is read
 -- as another's, and the words that decoding passes over are those that `kept` names.
