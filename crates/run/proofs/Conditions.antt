@@ -2,7 +2,7 @@
 use Prim.Native.Nat.{ℕ, _+_, _*_, _-_, _/_, _%_, _<_, _≤_}
 use native.Mathlib.Omega.{arith}
 use native.Mathlib.Nat.{add-zero, add-assoc}
-use mathlib.Core.Logic.{_⊎_, inl, inr, _≢_}
+use mathlib.Core.Logic.{_⊎_, inl, inr, _≢_, _↔_}
 use mathlib.Core.Path.{_≡_, refl, sym, ap, _∙_}
 use mathlib.Core.Bool.{Bool, true, false, cond, not}
 use mathlib.Core.List.{List, [], _∷_}
@@ -42,7 +42,7 @@ use Rattle.run.specs.declared.Extents.{Extents}
 use Rattle.run.specs.Call.{Lent}
 use Rattle.run.specs.Refusals.{badArea, ragged, badTable, badList, badSlices, otherLengths, isBad, badStyle, badCandidate, listFull, wrongCounts}
 use Rattle.run.specs.Run.{extentsOf, takenIn, isWrong}
-use Rattle.run.specs.Conditions.{AreaIsBad, GoodTable, Whole, GoodList, SlicesAreBad, Among, Allowed, StyleIsBad, places, word, AxisIsBad, RecordIsBad, CandidateIsBad, QuestionKind, both, width, height, layOut, kindOfReply, kindAt, NotAsked, CountsAreWrong, SideIsUnresolved}
+use Rattle.run.specs.Conditions.{AreaIsBad, GoodTable, Whole, GoodList, SlicesAreBad, Among, Allowed, WordIsAllowed, StyleIsBad, places, word, AxisIsBad, RecordIsBad, CandidateIsBad, QuestionKind, both, width, height, layOut, kindOfReply, kindAt, NotAsked, CountsAreWrong, SideIsUnresolved}
 use Rattle.run.proofs.Ways.{neither}
 use Rattle.run.proofs.Decides.{Decides, by-iff, either, regroup, opposite, refutes, both-fail, guard, last, below, at-most, equal, not-every}
 use Rattle.run.proofs.Decides as decides
@@ -137,47 +137,50 @@ unfolding among
 among-decided [] w = record { holds = λ t. no {b = false} t refl; fails = λ f a. a }
 among-decided (x ∷ tags) w = either (equal w x) (among-decided tags w)
 
-above : (last w : ℕ) → Decides (ltb last w) (¬ (w ≤ last))
-above last w = by-iff (below last w) (λ h k. absurd (omega arith), λ n. omega arith)
+taken-exactly : {b : Bool} {P : Type 0} → Decides b P → (not b ≡ false) ↔ P
+taken-exactly {b = true} d = (λ e. d .holds refl, λ p. refl)
+taken-exactly {b = false} d = (λ e. no {b = true} refl e, λ p. absurd (d .fails refl p))
 
-anything : Decides false (¬ Unit {0})
-anything = record { holds = λ t. no {b = false} t refl; fails = λ f n. n tt }
-
-safety-decided : (before w : ℕ) → Decides (safetyBreaks before w) (¬ ((before ≡ 10) ⊎ (w ≤ 2)))
+safety-exactly : (before w : ℕ) → (safetyBreaks before w ≡ false) ↔ ((before ≡ 10) ⊎ (w ≤ 2))
 unfolding safetyBreaks
-safety-decided before w = go (eqb before 10) (equal before 10)
+safety-exactly before w = go (eqb before 10) (equal before 10)
   where
-    go : (b : Bool) → Decides b (before ≡ 10) → Decides (cond b false (ltb 2 w)) (¬ ((before ≡ 10) ⊎ (w ≤ 2)))
-    go true d = refutes (λ f. inl (d .holds refl)) (λ h. refl)
-    go false d = refutes (λ f. inr (ltb-false 2 w f)) back
+    go : (b : Bool) → Decides b (before ≡ 10) → (cond b false (ltb 2 w) ≡ false) ↔ ((before ≡ 10) ⊎ (w ≤ 2))
+    go true d = (λ e. inl (d .holds refl), λ h. refl)
+    go false d = (λ e. inr (ltb-false 2 w e), back)
       where
         back : (before ≡ 10) ⊎ (w ≤ 2) → ltb 2 w ≡ false
         back (inl e) = absurd (d .fails refl e)
         back (inr h) = le-ltb 2 w h
 
-word-decided : (kind : Kind) (before w : ℕ) → Decides (breaksAs kind before w) (¬ Allowed kind before w)
+-- a word breaks no rule exactly where it is allowed
+kind-exactly : (kind : Kind) (before w : ℕ) → (breaksAs kind before w ≡ false) ↔ Allowed kind before w
 unfolding breaksAs
-word-decided (tag field) before w = rw (takes-its-tags field w) (opposite (among-decided (tagsOf field) w))
-word-decided number before w = anything
-word-decided (upTo last) before w = above last w
-word-decided ratio before w = anything
-word-decided keyword before w = above 10 w
-word-decided safety before w = safety-decided before w
-word-decided contain before w = above 255 w
+kind-exactly (tag field) before w = rw (takes-its-tags field w) (taken-exactly (among-decided (tagsOf field) w))
+kind-exactly number before w = (λ e. tt, λ u. refl)
+kind-exactly (upTo last) before w = (ltb-false last w, le-ltb last w)
+kind-exactly ratio before w = (λ e. tt, λ u. refl)
+kind-exactly keyword before w = (ltb-false 10 w, le-ltb 10 w)
+kind-exactly safety before w = safety-exactly before w
+kind-exactly contain before w = (ltb-false 255 w, le-ltb 255 w)
+
+pub word-exactly : (styles : List ℕ) (i k : ℕ) → (breaks styles i k ≡ false) ↔ WordIsAllowed styles i k
+unfolding breaks breaksRule
+word-exactly styles i k = kind-exactly (kindOf k) (item styles i (k - 1)) (item styles i k)
+
+pub word-decided : (styles : List ℕ) (i k : ℕ) → Decides (breaks styles i k) (¬ WordIsAllowed styles i k)
+word-decided styles i k = let e = word-exactly styles i k in refutes (e .0) (e .1)
 
 pub style-decided : (styles : List ℕ) → Decides (badStyle styles) (StyleIsBad styles)
-unfolding badStyle breaks breaksRule
+unfolding badStyle
 style-decided styles = record { holds = λ t. there (checked styles) refl t; fails = λ f. back (checked styles) refl f }
   where
-    of : (i k : ℕ) → Decides (breaks styles i k) (¬ Allowed (kindOf k) (item styles i (k - 1)) (item styles i k))
-    of i k = word-decided (kindOf k) (item styles i (k - 1)) (item styles i k)
-
     there : (c : TableCheck) → checked styles ≡ c → isBad c ≡ true → StyleIsBad styles
     there Good e t = no {b = false} t refl
-    there (Bad i k) e t = let f = bad-is-first styles i k .0 e in (i, k, f .item-there, f .word-there, of i k .holds (f .breaks-it))
+    there (Bad i k) e t = let f = bad-is-first styles i k .0 e in (i, k, f .item-there, f .word-there, word-decided styles i k .holds (f .breaks-it))
 
     back : (c : TableCheck) → checked styles ≡ c → isBad c ≡ false → ¬ StyleIsBad styles
-    back Good e f s = of (s .0) (s .1) .fails (good-is-none styles .0 e (s .0) (s .2) (s .1) (s .3)) (s .4)
+    back Good e f s = word-decided styles (s .0) (s .1) .fails (good-is-none styles .0 e (s .0) (s .2) (s .1) (s .3)) (s .4)
     back (Bad i k) e f s = no {b = true} refl f
 
 -- ---- 4

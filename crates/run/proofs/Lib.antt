@@ -5,6 +5,7 @@ pub mod Refusals
 pub mod EachQuestion
 pub mod Conditions
 pub mod Exactly
+pub mod Named
 pub mod Told
 pub mod Questions
 pub mod BoxTalk

@@ -69,10 +69,26 @@ Allowed keyword before w = w ≤ 10
 Allowed safety before w = (before ≡ 10) ⊎ (w ≤ 2)
 Allowed contain before w = w ≤ 255
 
+-- word k of item i
+abbrev pub WordIsAllowed : List ℕ → ℕ → ℕ → Type 0
+WordIsAllowed styles i k = Allowed (kindOf k) (item styles i (k - 1)) (item styles i k)
+
 -- some word of some item is not allowed
 abbrev pub StyleIsBad : List ℕ → Type 0
-StyleIsBad styles =
-    (i : ℕ) × (k : ℕ) × (i < items styles) × (k < 57) × (¬ Allowed (kindOf k) (item styles i (k - 1)) (item styles i k))
+StyleIsBad styles = (i : ℕ) × (k : ℕ) × (i < items styles) × (k < 57) × (¬ WordIsAllowed styles i k)
+
+-- request #103, "that item and the first of its words": word k of item i is not allowed, all words before it in its item are, and all of the
+-- items before
+pub record FirstNotAllowed (styles : List ℕ) (i k : ℕ) : Type 0 where
+  pub item-there : i < items styles
+  pub word-there : k < 57
+  pub not-allowed : ¬ WordIsAllowed styles i k
+  pub words-before : (l : ℕ) → l < k → WordIsAllowed styles i l
+  pub items-before : (j : ℕ) → j < i → (l : ℕ) → l < 57 → WordIsAllowed styles j l
+
+-- "no word of the table" breaks a rule
+abbrev pub AllAllowed : List ℕ → Type 0
+AllAllowed styles = (i : ℕ) → i < items styles → (k : ℕ) → k < 57 → WordIsAllowed styles i k
 
 -- ---- 4, bad candidate: "node not below n, or a code outside its list"
 

@@ -20,7 +20,9 @@ use Rattle.tree.specs.declared.layout.Layout.{Layout}
 use Rattle.tree.specs.declared.layout.OofCandidate.{OofCandidate}
 use Rattle.records.specs.Records.{written}
 use Rattle.tree_record.specs.Layout.{layoutWidth, layoutWords}
+use Rattle.style_record.specs.Check.{checked}
 use Rattle.style_record.specs.Decode.{styleAt}
+use Rattle.style_record.specs.declared.check.TableCheck.the-variants.{Good, Bad}
 use Rattle.sweep.specs.Sweep.{firstCandidates, candidatesIn, appended}
 use Rattle.oof_resolve.specs.declared.ContainingBlock.{ContainingBlock}
 use Rattle.oof_box.specs.Cut.{askedAfter}
@@ -39,7 +41,7 @@ use Rattle.run.specs.declared.Answer.the-variants.{Ask, Finish, Refused}
 use Rattle.run.specs.declared.Step.{Step}
 use Rattle.run.specs.Call.{Lent, Outcome, unwritten}
 use Rattle.run.specs.Run.{boxAtHand, opened, replied, closed, claimsOf, containerOf}
-use Rattle.run.specs.Conditions.{LengthsDiffer, SideIsUnresolved, FirstIs, NoneHolds, openingTests, replyTests, QuestionKind, kindOfQuestion, kindAt}
+use Rattle.run.specs.Conditions.{StyleIsBad, FirstNotAllowed, AllAllowed, LengthsDiffer, SideIsUnresolved, FirstIs, NoneHolds, openingTests, replyTests, QuestionKind, kindOfQuestion, kindAt}
 use Rattle.run.specs.Straight.{World, Box, Course, ended, asks, straight}
 
 abbrev pub isRefused : Answer → Bool
@@ -82,6 +84,18 @@ StageTellsKind =
     (container : ContainingBlock) (style : Style) (candidate : OofCandidate) (replies : Replies)
     → let asked = askedAfter container style candidate replies in
     kindOfQuestion (asked .question) ≡ kindAt (asked .stage)
+
+-- ---- The check of a table names exactly its first word that is not allowed, and nothing exactly where every word is (request #103). It names
+-- one exactly where refusal 3's condition holds.
+
+abbrev pub NamedExactly : Type 0
+NamedExactly = (styles : List ℕ) (i k : ℕ) → (checked styles ≡ Bad i k) ↔ FirstNotAllowed styles i k
+
+abbrev pub NothingExactly : Type 0
+NothingExactly = (styles : List ℕ) → (checked styles ≡ Good) ↔ AllAllowed styles
+
+abbrev pub NamedWhereBad : Type 0
+NamedWhereBad = (styles : List ℕ) → ((i : ℕ) × (k : ℕ) × (checked styles ≡ Bad i k)) ↔ StyleIsBad styles
 
 -- ---- A refused call writes no lent word and returns the state as it came; a refused opening, that of a finished run with all counts 0.
 
