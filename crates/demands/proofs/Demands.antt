@@ -2,10 +2,13 @@
 use Prim.Native.Nat.{ℕ, _+_, _<_}
 use native.Mathlib.Omega.{arith}
 use native.Mathlib.Nat.{zero-add}
+use mathlib.Core.Logic.{inl, inr, _↔_, Iff·trans}
 use mathlib.Core.Path.{_≡_, refl, sym, ap, subst, _∙_}
 use mathlib.Core.Bool.{Bool, true, false}
 use mathlib.Core.List.{List, [], _∷_, _++_, foldl, foldl-append, append-nil}
+use lib.Dec.{eqb}
 use lib.ListN.{length}
+use borrow.Author.Tests.{eq-eqb}
 use Rattle.util.proofs.Floats.{no}
 use Rattle.geometry.specs.declared.Line.{Line}
 use Rattle.geometry.specs.declared.Point.{Point}
@@ -16,7 +19,10 @@ use Rattle.tree.specs.declared.layout.Aligned.{Aligned}
 use Rattle.tree.specs.declared.layout.Layout.{Layout}
 use Rattle.pixels.specs.Pixels.{pixelEdges}
 use Rattle.pixels.specs.declared.Pixels.{Pixels}
+use Rattle.refusal.specs.declared.Refusal.the-variants.{BadStyle}
+use Rattle.style_record.specs.Check.{checked}
 use Rattle.style_record.specs.Decode.{styleAt}
+use Rattle.style_record.specs.declared.check.TableCheck.{TableCheck}
 use Rattle.oof_box.specs.declared.question.Reply.{Reply}
 use Rattle.oof_box.specs.declared.question.Reply.the-variants.{LaidOut}
 use Rattle.oof_box.specs.Cut.{layoutAfter}
@@ -25,11 +31,14 @@ use Rattle.run.specs.declared.Opening.{Opening}
 use Rattle.run.specs.declared.Progress.the-variants.{Finished}
 use Rattle.run.specs.declared.State.{State}
 use Rattle.run.specs.declared.Step.{Step}
+use Rattle.run.specs.declared.Answer.the-variants.{Refused}
 use Rattle.run.specs.Call.{Lent, Outcome, outcome}
+use Rattle.run.specs.Conditions.{StyleIsBad, FirstIs, NoneHolds}
 use Rattle.run.specs.Theorems.{WroteSize, openIn, oneIfAsked, isRefused, askedFor, Heard, Loan, own, other, Turn, next, nextWith, turned, Lends, AllLend, called, Stands, heededIn, courseOf, laidSoFar}
 use Rattle.run.specs.Run.{extentsOf, boxAtHand, opened, replied, takenBy, laidOut}
 use Rattle.run.proofs.Refusals.{refused-reply-keeps, refused-opening-keeps, saying, turn-refused}
 use Rattle.run.proofs.Exactly.{opening-refused-exactly, opening-accepted-exactly, reply-refused-exactly, reply-accepted-exactly, unresolved-exactly}
+use Rattle.run.proofs.Named.{named-exactly, nothing-exactly, named-where-bad}
 use Rattle.boxlist_print.proofs.Exactly.{refused-exactly, listed-exactly}
 use Rattle.reach.specs.Laws.{IsAnswer}
 use Rattle.reach.specs.Reach.{reached}
@@ -54,7 +63,7 @@ use Rattle.pixels_laws.specs.Laws.{HasEdges}
 use Rattle.pixels_laws.proofs.Run.{run-has-edges}
 use Rattle.pixels_laws.proofs.Tests.{refused-first, edges-first}
 use Rattle.demands.specs.Entries.{Opens, RepliesTo, AnyCalls, Takes, Run, RefusedSince, BothRuns, AfterEach}
-use Rattle.demands.specs.Demands.{OpeningDemands, ReplyDemands, AlignmentDemands, PixelsDemands, ReachDemands, ScreenDemands, ThreeQuestionsEach, EqualsStraightRun, SizedLayout, SizeLaw, LaidOutAsAsked, MirrorImage, MirroredReach, QuartersHaveEdges, QuartersAreAnswered}
+use Rattle.demands.specs.Demands.{OpeningDemands, ReplyDemands, AlignmentDemands, PixelsDemands, ReachDemands, CheckDemands, ScreenDemands, IsNamed, OpeningsGoByTheCheck, RepliesGoByTheCheck, ThreeQuestionsEach, EqualsStraightRun, SizedLayout, SizeLaw, LaidOutAsAsked, MirrorImage, MirroredReach, QuartersHaveEdges, QuartersAreAnswered}
 
 -- ---- one call
 
@@ -81,9 +90,42 @@ reach-demands place s lent c =
     subst (ReachDemands place s lent) (sym c)
     (record { call = refl; refused = reach.refused-exactly place s lent; answered = reach.answered-exactly place s lent })
 
+pub check-demands : (styles : List ℕ) {r : TableCheck} → r ≡ checked styles → CheckDemands styles r
+check-demands styles c =
+    subst (CheckDemands styles) (sym c)
+    (record { call = refl; named = named-exactly styles; nothing = nothing-exactly styles; some = named-where-bad styles })
+
 pub screen-demands : (listing : Listing) (text : List ℕ) {r : ℕ} {before after : List ℕ} → Prints r before after (printed listing text)
     → ScreenDemands listing text r before after
 screen-demands listing text c = record { call = c; refused = refused-exactly listing text; listed = listed-exactly listing text }
+
+-- ---- refusal 3 goes by the check
+
+-- of five tests of these numbers, the first two being passed, 3 is the first that holds exactly where its condition does
+module _ {m n p q : ℕ} (m3 : eqb 3 m ≡ false) (n3 : eqb 3 n ≡ false) (p3 : eqb 3 p ≡ false) (q3 : eqb 3 q ≡ false) {A B C D E : Type 0} where
+  third-is-first : NoneHolds ((m, A) ∷ (n, B) ∷ []) → FirstIs ((m, A) ∷ (n, B) ∷ (3, C) ∷ (p, D) ∷ (q, E) ∷ []) 3 ↔ C
+  third-is-first none = (there, λ c. inr (none .0, inr (none .1 .0, inl (c, refl))))
+    where
+      there : FirstIs ((m, A) ∷ (n, B) ∷ (3, C) ∷ (p, D) ∷ (q, E) ∷ []) 3 → C
+      there (inl (_, e)) = no (eq-eqb 3 m e) m3
+      there (inr (_, inl (_, e))) = no (eq-eqb 3 n e) n3
+      there (inr (_, inr (_, inl (c, _)))) = c
+      there (inr (_, inr (_, inr (_, inl (_, e))))) = no (eq-eqb 3 p e) p3
+      there (inr (_, inr (_, inr (_, inr (_, inl (_, e)))))) = no (eq-eqb 3 q e) q3
+      there (inr (_, inr (_, inr (_, inr (_, inr r))))) = absurd (r .1)
+
+named : {P : Type 0} (styles : List ℕ) → P ↔ StyleIsBad styles → P ↔ IsNamed styles
+named styles p = let n = named-where-bad styles in Iff·trans p (n .1, n .0)
+
+pub openings-go-by-the-check : OpeningsGoByTheCheck
+openings-go-by-the-check o candidates lent has c none =
+    subst (λ (x : Outcome). (x .step .answer ≡ Refused BadStyle) ↔ IsNamed (lent .styles)) (sym c)
+    (named (lent .styles) (Iff·trans (opening-refused-exactly o candidates lent BadStyle) (third-is-first refl refl refl refl none)))
+
+pub replies-go-by-the-check : RepliesGoByTheCheck
+replies-go-by-the-check s reply surfaced lent has c none =
+    subst (λ (x : Outcome). (x .step .answer ≡ Refused BadStyle) ↔ IsNamed (lent .styles)) (sym c)
+    (named (lent .styles) (Iff·trans (reply-refused-exactly s reply surfaced lent BadStyle) (third-is-first refl refl refl refl none)))
 
 -- ---- at most three questions
 

@@ -1,5 +1,5 @@
 -- The three demands, of every entry. Refusals 1 to 6 are those of `open` and `reply`, 7 of `from_alignment`, 8 of the programs, 9 of
--- `pixel_edges`; `reach` has 2, 6, 4 and 9. The demands of the C entries stand in demands_c/specs. No entry asks anything of its caller, and a
+-- `pixel_edges`; `reach` has 2, 6, 4 and 9, `check_styles` none. The demands of the C entries stand in demands_c/specs. No entry asks anything of its caller, and a
 -- proved function ends, without a panic: so each of these holds for any bits in any number and slices of any length. `proofs/Demands.antt`
 -- proves each, under its name in small letters.
 -- What document 01 leaves free is fixed by the definition all the same: what is asked and written where words were rewritten between calls or
@@ -10,15 +10,19 @@ use mathlib.Core.Logic.{_↔_}
 use mathlib.Core.Path.{_≡_}
 use mathlib.Core.Bool.{Bool, false}
 use mathlib.Core.List.{List, [], _∷_}
-use lib.ListN.{length}
+use lib.ListN.{length, take}
 use Rattle.util.specs.Laws.{AtOrAbove}
 use Rattle.geometry.specs.Geometry.{sums, rectSum}
 use Rattle.geometry.specs.declared.Line.{Line}
 use Rattle.geometry.specs.declared.Point.{Point}
 use Rattle.geometry.specs.declared.Rect.{Rect}
 use Rattle.refusal.specs.declared.Refusal.{Refusal}
+use Rattle.refusal.specs.declared.Refusal.the-variants.{BadStyle}
 use Rattle.refusal.specs.Refusal.{numberOf}
 use Rattle.style.specs.declared.alignment.AlignItems.{AlignItems}
+use Rattle.style_record.specs.Check.{checked}
+use Rattle.style_record.specs.declared.check.TableCheck.{TableCheck}
+use Rattle.style_record.specs.declared.check.TableCheck.the-variants as check
 use Rattle.tree.specs.Static.{fromAlignment}
 use Rattle.tree.specs.declared.layout.Aligned.{Aligned}
 use Rattle.tree.specs.declared.layout.Aligned.the-variants as aligned
@@ -41,7 +45,7 @@ use Rattle.run.specs.declared.State.{State}
 use Rattle.run.specs.declared.Answer.the-variants.{Ask, Refused}
 use Rattle.run.specs.Call.{Lent, Outcome, unwritten}
 use Rattle.run.specs.Run.{closed, boxAtHand, extentsOf, claimsOf}
-use Rattle.run.specs.Conditions.{FirstIs, NoneHolds, SideIsUnresolved, openingTests, replyTests}
+use Rattle.run.specs.Conditions.{StyleIsBad, FirstNotAllowed, AllAllowed, FirstIs, NoneHolds, SideIsUnresolved, openingTests, replyTests}
 use Rattle.run.specs.Theorems.{isRefused, own, StageTellsKind, WroteSize, Turn, Stands, heededIn, courseOf, laidSoFar}
 use Rattle.mirror_run.specs.Image.{imageStyles}
 use Rattle.mirror_run.specs.Quarter.{AreaInQuarters, QuarterArea, QuarterTable, QuarterCandidates}
@@ -110,11 +114,36 @@ pub record ReachDemands (place : ℕ) (s : State) (lent : Lent) (r : Reached) : 
   pub refused : (q : Refusal) → (r ≡ reach.Refused q) ↔ FirstIs (reachTests place s lent) (numberOf q)
   pub answered : IsAnswer r ↔ NoneHolds (reachTests place s lent)
 
+-- request #103. `check_styles` refuses nothing: "it names that item and the first of its words, in record order from 0, that breaks one, or
+-- nothing exactly when no word of the table does". The rule is refusal 3's, and it names a word exactly where 3's condition holds
+pub record CheckDemands (styles : List ℕ) (r : TableCheck) : Type 0 where
+  pub call : r ≡ checked styles
+  pub named : (i k : ℕ) → (r ≡ check.Bad i k) ↔ FirstNotAllowed styles i k
+  pub nothing : (r ≡ check.Good) ↔ AllAllowed styles
+  pub some : ((i : ℕ) × (k : ℕ) × (r ≡ check.Bad i k)) ↔ StyleIsBad styles
+
 -- the programs: 8, then 1, 3 and 4 of the run that the screen scripts. Each prints the refusal's line, or its list: of boxes or of verdicts
 pub record ScreenDemands (listing : Listing) (text : List ℕ) (r : ℕ) (before after : List ℕ) : Type 0 where
   pub call : Prints r before after (printed listing text)
   pub refused : (q : Refusal) → (printed listing text ≡ refusalText (numberOf q)) ↔ FirstIs (programTests text) (numberOf q)
   pub listed : IsList listing (printed listing text) ↔ NoneHolds (programTests text)
+
+-- request #103, "every call's answer stays as it was": once the two tests before 3 are passed, an opening is refused with 3 exactly where the
+-- check names a word of its styles, and so is a reply
+abbrev pub IsNamed : List ℕ → Type 0
+IsNamed styles = (i : ℕ) × (k : ℕ) × (checked styles ≡ check.Bad i k)
+
+abbrev pub OpeningsGoByTheCheck : Type 0
+OpeningsGoByTheCheck =
+    (o : Opening) (candidates : List ℕ) (lent : Lent) (has : Outcome) → Opens o candidates lent has
+    → NoneHolds (take 2 (openingTests o candidates lent))
+    → (has .step .answer ≡ Refused BadStyle) ↔ IsNamed (lent .styles)
+
+abbrev pub RepliesGoByTheCheck : Type 0
+RepliesGoByTheCheck =
+    (s : State) (reply : Reply) (surfaced : List ℕ) (lent : Lent) (has : Outcome) → RepliesTo s reply surfaced lent has
+    → NoneHolds (take 2 (replyTests s reply surfaced lent))
+    → (has .step .answer ≡ Refused BadStyle) ↔ IsNamed (lent .styles)
 
 -- "A run asks at most three questions for each box hoisted", whatever words the host rewrites between calls: at most three for each box, none
 -- for one that isn't hoisted, and no others
@@ -197,6 +226,8 @@ pub record Demanded : Type 0 where
   pub three-questions-each : ThreeQuestionsEach
   -- the kind of reply that a state waits for is that of the question that its call asked, whatever the words
   pub stage-tells-kind : StageTellsKind
+  pub openings-go-by-the-check : OpeningsGoByTheCheck
+  pub replies-go-by-the-check : RepliesGoByTheCheck
   pub equals-straight-run : EqualsStraightRun
   pub laid-out-as-asked : LaidOutAsAsked
   pub mirror-image : MirrorImage

@@ -4,7 +4,7 @@
 ghost use mathlib.Core.Path.{_≡_};
 ghost use Rattle.oof_axis.specs.StaticOffset.{staticOffset};
 ghost use Rattle.run.specs.Call.{atEntry, atExit};
-ghost use Rattle.demands.specs.Demands.{OpeningDemands, ReplyDemands, AlignmentDemands, PixelsDemands, ReachDemands, ScreenDemands, Demanded};
+ghost use Rattle.demands.specs.Demands.{OpeningDemands, ReplyDemands, AlignmentDemands, PixelsDemands, ReachDemands, CheckDemands, ScreenDemands, Demanded};
 use boxlist_print::LIST_BYTES;
 use boxlist_print::Listing;
 use geometry::Line;
@@ -18,6 +18,7 @@ use run::Opening;
 use run::State;
 use run::Step;
 use style::alignment::AlignItems;
+use style_record::check::TableCheck;
 use tree::layout::Aligned;
 use tree::layout::AxisStaticPosition;
 use tree::layout::Layout;
@@ -75,7 +76,13 @@ pub fn reach(
     reach::reach(place, s, styles, layouts, working, unclaimed)
 }
 
-// It refuses nothing.
+// These two refuse nothing.
+pub fn check_styles(styles: &[u32]) -> TableCheck
+    ensures { λ r. ⌜ CheckDemands (now (styles .entry)) r ⌝ }
+{
+    style_record::check::check_styles(styles)
+}
+
 pub fn resolve_static_offset(place: StaticPosition, size: Size, margin: Rect) -> Point
     ensures { λ r. ⌜ r ≡ staticOffset place size margin ⌝ }
 {

@@ -1,5 +1,5 @@
 -- Generated skeleton (tools/proof/write-skeletons), answers by hand.
-use Rattle.demands.proofs.Demands.{three-questions-each, equals-straight-run, laid-out-as-asked, mirror-image, mirrored-reach, quarters-have-edges, quarters-are-answered}
+use Rattle.demands.proofs.Demands.{three-questions-each, openings-go-by-the-check, replies-go-by-the-check, equals-straight-run, laid-out-as-asked, mirror-image, mirrored-reach, quarters-have-edges, quarters-are-answered}
 use Rattle.run.proofs.EachQuestion.{stage-tells-kind}
 use Rattle.boxlist_print.proofs.Listed.{run-is-listed, only-nine-in-rows}
 use Rattle.demands.proofs.demanded.Statement.{statement}
@@ -10,6 +10,8 @@ returns c =
     record {
       three-questions-each = three-questions-each;
       stage-tells-kind = stage-tells-kind;
+      openings-go-by-the-check = openings-go-by-the-check;
+      replies-go-by-the-check = replies-go-by-the-check;
       equals-straight-run = equals-straight-run;
       laid-out-as-asked = laid-out-as-asked;
       mirror-image = mirror-image;
