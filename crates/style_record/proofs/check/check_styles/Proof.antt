@@ -155,7 +155,7 @@ items-less : tie.Need-items-less Edges μ Insides μ Sizes μ Codes μ Items μ-
 items-less c = search needs
 
 items-again : tie.Need-items-again Edges μ Insides μ Sizes μ Codes μ Items μ-items
-items-again c = (search needs, c .before .before .before .before .before .before .before .before .before .items .inv .1 ∙ item-good _ _ _ (c .before .before .before .before .before .before .before .before .items-test .taken) (words-end _ _ _ (c .before .loop4 .inv .2) (c .loop4-test .left)))
+items-again c = (search needs, c .before .before .before .before .before .before .before .before .before .items .inv .1 ∙ item-good _ _ _ (c .before .before .before .before .before .before .before .before .items-test .taken) (words-end _ _ _ (c .before .loop4 .inv .2) (search needs)))
 
 -- left at an item's tag or code: its own test is not the way here
 returns : tie.Need-returns Edges μ Insides μ Sizes μ Codes μ Items μ-items
