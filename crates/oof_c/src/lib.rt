@@ -1,12 +1,13 @@
-// The C entries: a run whose state and answer stand in lent words, the pixel edges of a box, and whether scrolling brings a box up. A slice
-// passes as a pointer, then its length in words; state, answer, a layout, edges and a verdict pass as a pointer each. hosts/c/oof.h declares
-// them for C.
+// The C entries: a run whose state and answer stand in lent words, the pixel edges of a box, whether scrolling brings a box up, and the first
+// word of a table of styles that breaks a code rule. A slice passes as a pointer, then its length in words; state, answer, a layout, edges, a
+// verdict and a found word's place pass as a pointer each. hosts/c/oof.h declares them for C.
 ghost use mathlib.Core.Path.{_≡_};
 ghost use mathlib.Core.List.{[]};
 ghost use Rattle.oof_c_words.specs.Entry.{came, before, returned, openingOf, openedInWords, repliedInWords};
 ghost use Rattle.oof_c_words.specs.PixelWords.{pixelsReturned, pixelsInWords};
 ghost use Rattle.run.specs.Call.{atEntry};
 ghost use Rattle.oof_c.specs.ReachWords.{reachReturned, reachInWords};
+ghost use Rattle.oof_c.specs.CheckWords.{checkReturned, checkInWords};
 use geometry::Point;
 use geometry::Rect;
 use geometry::Size;
@@ -16,6 +17,7 @@ use oof_c_words::state::STATE_WORDS;
 use pixels::lent::EDGES;
 use reach::lent::VERDICT;
 use run::Opening;
+use style_record::lent::FOUND;
 use tree::layout::OofPositioningArea;
 use tree_record::layout::LAYOUT_WORDS;
 
@@ -225,4 +227,13 @@ pub extern "C" fn oof_reach(
     let s = oof_c_words::state::state_of(state);
     let reached = reach::reach(place, s, styles, layouts, working, unclaimed);
     reach::lent::tell(reached, verdict)
+}
+
+// The first word of a table of styles that breaks a code rule.
+#[no_mangle]
+pub extern "C" fn oof_first_bad_word(styles: &[u32], found: &mut [u32; FOUND]) -> u32
+    ensures { λ r. ⌜ checkReturned r found ≡ checkInWords (came styles) (now (found .entry)) ⌝ }
+{
+    let check = style_record::check::check_styles(styles);
+    style_record::lent::tell(check, found)
 }
