@@ -1,2 +1,1 @@
 pub mod ReachWords
-pub mod CheckWords

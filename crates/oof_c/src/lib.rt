@@ -7,17 +7,17 @@ ghost use Rattle.oof_c_words.specs.Entry.{came, before, returned, openingOf, op
 ghost use Rattle.oof_c_words.specs.PixelWords.{pixelsReturned, pixelsInWords};
 ghost use Rattle.run.specs.Call.{atEntry};
 ghost use Rattle.oof_c.specs.ReachWords.{reachReturned, reachInWords};
-ghost use Rattle.oof_c.specs.CheckWords.{checkReturned, checkInWords};
+ghost use Rattle.oof_c_words.specs.CheckWords.{checkReturned, checkInWords};
 use geometry::Point;
 use geometry::Rect;
 use geometry::Size;
 use oof_box::question::Reply;
 use oof_c_words::answer::ANSWER_WORDS;
+use oof_c_words::check::FOUND;
 use oof_c_words::state::STATE_WORDS;
 use pixels::lent::EDGES;
 use reach::lent::VERDICT;
 use run::Opening;
-use style_record::lent::FOUND;
 use tree::layout::OofPositioningArea;
 use tree_record::layout::LAYOUT_WORDS;
 
@@ -235,5 +235,5 @@ pub extern "C" fn oof_first_bad_word(styles: &[u32], found: &mut [u32; FOUND]) -
     ensures { λ r. ⌜ checkReturned r found ≡ checkInWords (came styles) (now (found .entry)) ⌝ }
 {
     let check = style_record::check::check_styles(styles);
-    style_record::lent::tell(check, found)
+    oof_c_words::check::tell(check, found)
 }

@@ -6,6 +6,7 @@ use run::Answer;
 use run::Step;
 
 pub mod answer;
+pub mod check;
 pub mod state;
 
 // The result of a call. Unless it was refused, its answer is written.

@@ -1,6 +1,5 @@
 pub mod Record
 pub mod Check
-pub mod Told
 pub mod Decode
 pub mod Encode
 pub mod Laws

@@ -1,12 +1,12 @@
 -- Generated: tools/proof/write-skeletons, then tools/proof/list-facts --fill.
-use Rattle.oof_c.specs.CheckWords.{checkInWords}
+use Rattle.oof_c_words.specs.CheckWords.{checkInWords}
 use borrow.Author.Needs.{needs}
 use Rattle.oof_c.proofs.oof_first_bad_word.Statement.{statement}
 use Rattle.oof_c.proofs.oof_first_bad_word.Tie as tie
 use Rattle.oof_c.proofs.oof_first_bad_word.Reads as reads
 use Rattle.oof_c.proofs.oof_first_bad_word.Lts as lts
 use Rattle.style_record.proofs.check.check_styles.Reads as check-styles-reads
-use Rattle.style_record.proofs.lent.tell.Reads as tell-reads
+use Rattle.oof_c_words.proofs.check.tell.Reads as tell-reads
 
 check-styles-requires : tie.Need-check-styles-requires
 check-styles-requires c κs = search needs

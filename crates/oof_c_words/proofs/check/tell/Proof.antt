@@ -1,11 +1,11 @@
 -- Generated: tools/proof/write-skeletons, then tools/proof/list-facts --fill.
-use Rattle.style_record.specs.Told.{wordTold}
+use Rattle.oof_c_words.specs.CheckWords.{checkTold}
 use borrow.Author.Needs.{needs}
-use Rattle.style_record.proofs.lent.tell.Statement.{statement}
-use Rattle.style_record.proofs.lent.tell.Tie as tie
-use Rattle.style_record.proofs.lent.tell.Reads as reads
-use Rattle.style_record.proofs.lent.tell.Lts as lts
-use Rattle.style_record.proofs.lent.count_word.Reads as count-word-reads
+use Rattle.oof_c_words.proofs.check.tell.Statement.{statement}
+use Rattle.oof_c_words.proofs.check.tell.Tie as tie
+use Rattle.oof_c_words.proofs.check.tell.Reads as reads
+use Rattle.oof_c_words.proofs.check.tell.Lts as lts
+use Rattle.oof_c_words.proofs.state.count_word.Reads as count-word-reads
 
 enum-told : tie.Need-enum-told
 enum-told c = search needs
@@ -20,11 +20,11 @@ count-word-requires-2 : tie.Need-count-word-requires-2
 count-word-requires-2 c κs = search needs
 
 returns : tie.Need-returns
-unfolding wordTold
+unfolding checkTold
 returns c = simp (c .enum-told .given .1)
 
 returns-2 : tie.Need-returns-2
-unfolding wordTold
+unfolding checkTold
 returns-2 c = simp (c .before .before .before .before .check .given .1, ← c .before .before .count-word .ensures, ← c .before .count-word2 .ensures)
 
 pub tell-spec : {M : Type 1} → statement M

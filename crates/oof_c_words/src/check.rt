@@ -1,20 +1,14 @@
 // What is told of a table's check in two lent words: an item, and which of its words.
 ghost use mathlib.Core.Path.{_≡_};
-ghost use Rattle.style_record.specs.Told.{countWord, wordTold};
-use crate::check::TableCheck;
+ghost use Rattle.oof_c_words.specs.CheckWords.{checkTold};
+use crate::state::count_word;
+use style_record::check::TableCheck;
 
 pub const FOUND: usize = 2;
 
-// A count as a word, modulo 2 ^ 32.
-fn count_word(n: usize) -> u32
-    ensures { λ r. ⌜ r ≡ countWord n ⌝ }
-{
-    (n % 4294967296) as u32
-}
-
 // 1 if a word breaks a rule, else 0. Only then item and word are written.
 pub fn tell(check: TableCheck, found: &mut [u32; FOUND]) -> u32
-    ensures { λ r. ⌜ record { result = r; found = now (found .exit) } ≡ wordTold check (now (found .entry)) ⌝ }
+    ensures { λ r. ⌜ record { result = r; found = now (found .exit) } ≡ checkTold check (now (found .entry)) ⌝ }
 {
     match check {
         TableCheck::Good => 0,
