@@ -8,11 +8,15 @@ use mathlib.Core.Path.{_≡_, refl, sym, ap, subst, _∙_}
 use lib.Dec.{eqb}
 use lib.IntN.{ℤ}
 use lib.ListN.{length}
-use borrow.Author.Tests.{ne-eqb}
+use borrow.Author.Tests.{ne-eqb, eq-eqb}
 use Rattle.util.proofs.Floats.{no}
 use Rattle.geometry.specs.declared.Point.{Point}
 use Rattle.refusal.specs.Refusal.{numberOf}
 use Rattle.refusal.specs.declared.Refusal.{Refusal}
+use Rattle.style_record.specs.Check.{checked}
+use Rattle.style_record.specs.Told.{countWord, FirstBadWord, wordTold}
+use Rattle.style_record.specs.declared.check.TableCheck.{TableCheck}
+use Rattle.style_record.specs.declared.check.TableCheck.the-variants.{Good, Bad}
 use Rattle.tree_record.specs.Layout.{layoutOf}
 use Rattle.pixels.specs.Conditions.{pixelTests}
 use Rattle.pixels.specs.Pixels.{pixelEdges}
@@ -36,6 +40,7 @@ use Rattle.run.specs.declared.State.{State}
 use Rattle.run.specs.declared.Step.{Step}
 use Rattle.run.proofs.ByBox.{ForBox, opening-for, reply-for}
 use Rattle.run.proofs.Exactly.{opening-refused-exactly, opening-accepted-exactly, reply-refused-exactly, reply-accepted-exactly}
+use Rattle.run.proofs.Named.{named-exactly, nothing-exactly}
 use Rattle.run.proofs.Questions.{Hoisted, opening-hoisted, reply-hoisted}
 use Rattle.run.proofs.Refusals.{begun-accepts, saying, turn-refused}
 use Rattle.run.proofs.Straight.{straight-run}
@@ -58,9 +63,10 @@ use Rattle.reach.specs.declared.Reached.{Reached}
 use Rattle.reach.specs.declared.Reached.the-variants as reach
 use Rattle.reach.proofs.Exactly as exactly
 use Rattle.reach_laws.proofs.Answered.{quarters-are-answered as all-answered}
+use Rattle.oof_c.specs.CheckWords.{checkInWords}
 use Rattle.oof_c.specs.ReachWords.{reachInWords}
 use Rattle.demands_c.specs.Calls.{Opens, RepliesTo, FitsOpening, askedFor, AnyCalls, Takes, Lends, Run}
-use Rattle.demands_c.specs.Demands.{OpeningDemands, ReplyDemands, PixelsDemands, VerdictIn, ReachDemands, ThreeQuestionsEach, StandsInWords, EqualsStraightRun, QuartersHaveEdges, QuartersAreAnswered}
+use Rattle.demands_c.specs.Demands.{OpeningDemands, ReplyDemands, PixelsDemands, VerdictIn, ReachDemands, BadWordDemands, ThreeQuestionsEach, StandsInWords, EqualsStraightRun, QuartersHaveEdges, QuartersAreAnswered}
 
 -- ---- the result is the number of the first condition that holds
 
@@ -204,6 +210,42 @@ reach-demands place lent state before c =
     let by = verdict-by before (reachTests place s lent) v (exactly.refused-exactly place s lent) (exactly.answered-exactly place s lent) in
     subst (ReachDemands place lent state before) (sym c)
     (record { call = refl; refused = numbered by; accepted = zeroed by; kept = verdict-kept before v; written = verdict-written before v })
+
+-- ---- the first bad word
+
+-- a word's number is its own count
+own-count : (k : ℕ) → k < 57 → countWord k ≡ k
+own-count k h = omega arith
+
+-- 0 isn't 1
+not-one : {A : Type 0} → _≡_ {A = ℕ} 0 1 → A
+not-one e = no (eq-eqb 0 1 e) refl
+
+pub bad-word-demands : (styles before : List ℕ) {has : FirstBadWord} → has ≡ checkInWords styles before → BadWordDemands styles before has
+unfolding checkInWords wordTold
+bad-word-demands styles before c = subst (BadWordDemands styles before) (sym c) (go (checked styles) refl)
+  where
+    go : (found : TableCheck) → checked styles ≡ found → BadWordDemands styles before (wordTold found before)
+    go Good e =
+        let all = nothing-exactly styles .0 e in
+        record {
+          call = ap (λ (x : TableCheck). wordTold x before) (sym e);
+          told = inr refl;
+          some = (not-one, λ s. absurd (s .4 (all (s .0) (s .2) (s .1) (s .3))));
+          none = (λ z. all, λ a. refl);
+          written = not-one;
+          kept = λ z. refl;
+        }
+    go (Bad i k) e =
+        let f = named-exactly styles i k .0 e in
+        record {
+          call = ap (λ (x : TableCheck). wordTold x before) (sym e);
+          told = inl refl;
+          some = (λ o. (i, k, f .item-there, f .word-there, f .not-allowed), λ s. refl);
+          none = (λ z. not-one (sym z), λ a. absurd (f .not-allowed (a i (f .item-there) k (f .word-there))));
+          written = λ o. (i, k, f, ap (λ (x : ℕ). countWord i ∷ x ∷ []) (own-count k (f .word-there)));
+          kept = λ z. not-one (sym z);
+        }
 
 -- ---- at most three questions for each box
 

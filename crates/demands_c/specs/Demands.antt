@@ -2,11 +2,12 @@
 -- in any number and slices of any length. `proofs/Demands.antt` proves each, under its name in small letters. Assumes nothing.
 use Prim.Native.Nat.{ℕ, _≤_, _<_}
 use mathlib.Core.List.{List, [], _∷_}
-use mathlib.Core.Logic.{_≢_, _↔_}
+use mathlib.Core.Logic.{_⊎_, _≢_, _↔_}
 use mathlib.Core.Path.{_≡_}
 use lib.IntN.{ℤ}
 use lib.ListN.{length}
 use Rattle.geometry.specs.declared.Point.{Point}
+use Rattle.style_record.specs.Told.{countWord, FirstBadWord}
 use Rattle.records.specs.Records.{recordAt}
 use Rattle.tree_record.specs.Candidate.{candidateWidth, candidateOf}
 use Rattle.tree_record.specs.Layout.{layoutWidth, layoutOf}
@@ -16,7 +17,7 @@ use Rattle.pixels.specs.declared.PixelRect.{PixelRect}
 use Rattle.pixels.specs.declared.Pixels.the-variants.{Edges}
 use Rattle.oof_box.specs.declared.question.Reply.{Reply}
 use Rattle.run.specs.Call.{Lent, outcome}
-use Rattle.run.specs.Conditions.{FirstIs, NoneHolds, openingTests, replyTests}
+use Rattle.run.specs.Conditions.{StyleIsBad, FirstNotAllowed, AllAllowed, FirstIs, NoneHolds, openingTests, replyTests}
 use Rattle.run.specs.Run.{closed, claimsOf}
 use Rattle.run.specs.Straight.{Course}
 use Rattle.run.specs.Theorems.{Turn, Stands, saidAfter, heededIn, courseOf, laidCount}
@@ -32,6 +33,7 @@ use Rattle.reach.specs.Reach.{reached}
 use Rattle.reach.specs.Told.{ReachReturned}
 use Rattle.reach.specs.declared.Reached.{Reached}
 use Rattle.reach.specs.declared.Reached.the-variants.{Seen, Unseen, Refused}
+use Rattle.oof_c.specs.CheckWords.{checkInWords}
 use Rattle.oof_c.specs.ReachWords.{reachInWords}
 use Rattle.oof_c_words.specs.PixelWords.{pixelsInWords}
 use Rattle.demands_c.specs.Calls.{Opens, RepliesTo, AnyCalls, Run}
@@ -80,6 +82,16 @@ pub record ReachDemands (place : ℕ) (lent : Lent) (state before : List ℕ) (h
   pub accepted : (has .result ≡ 0) ↔ NoneHolds (reachTests place (stateOf state) lent)
   pub kept : has .result ≢ 0 → has .verdict ≡ before
   pub written : has .result ≡ 0 → VerdictIn (reached place (stateOf state) lent) (has .verdict)
+
+-- request #103, `oof_first_bad_word`. Its result is no refusal's number: 1 and the first item with a word that breaks a rule and its first such
+-- word, or 0. An item is told modulo 2 ^ 32, as all counts are
+pub record BadWordDemands (styles before : List ℕ) (has : FirstBadWord) : Type 0 where
+  pub call : has ≡ checkInWords styles before
+  pub told : (has .result ≡ 1) ⊎ (has .result ≡ 0)
+  pub some : (has .result ≡ 1) ↔ StyleIsBad styles
+  pub none : (has .result ≡ 0) ↔ AllAllowed styles
+  pub written : has .result ≡ 1 → (i : ℕ) × (k : ℕ) × FirstNotAllowed styles i k × (has .found ≡ countWord i ∷ k ∷ [])
+  pub kept : has .result ≡ 0 → has .found ≡ before
 
 -- "A run asks at most three questions for each box hoisted", whatever words the host rewrites between calls: at most three for each box,
 -- and none for one that isn't hoisted, which the state's word 7 tells

@@ -4,8 +4,9 @@ ghost use mathlib.Core.List.{[]};
 ghost use Rattle.oof_c_words.specs.Entry.{came, before, returned, openingOf};
 ghost use Rattle.oof_c_words.specs.PixelWords.{pixelsReturned};
 ghost use Rattle.run.specs.Call.{atEntry};
+ghost use Rattle.oof_c.specs.CheckWords.{checkReturned};
 ghost use Rattle.oof_c.specs.ReachWords.{reachReturned};
-ghost use Rattle.demands_c.specs.Demands.{OpeningDemands, ReplyDemands, PixelsDemands, ReachDemands, Demanded};
+ghost use Rattle.demands_c.specs.Demands.{OpeningDemands, ReplyDemands, PixelsDemands, ReachDemands, BadWordDemands, Demanded};
 use oof_box::question::Reply;
 
 pub fn open(
@@ -146,6 +147,12 @@ pub fn reach(
     ensures { λ r. ⌜ ReachDemands place (atEntry styles layouts working unclaimed) (came state) (now (verdict .entry)) (reachReturned r verdict) ⌝ }
 {
     oof_c::oof_reach(place, styles, layouts, working, unclaimed, state, verdict)
+}
+
+pub fn first_bad_word(styles: &[u32], found: &mut [u32; 2]) -> u32
+    ensures { λ r. ⌜ BadWordDemands (came styles) (now (found .entry)) (checkReturned r found) ⌝ }
+{
+    oof_c::oof_first_bad_word(styles, found)
 }
 
 // No code: what is ensured are the theorems over runs.
