@@ -14,7 +14,6 @@ use Rattle.geometry.specs.declared.Point.{Point}
 use Rattle.refusal.specs.Refusal.{numberOf}
 use Rattle.refusal.specs.declared.Refusal.{Refusal}
 use Rattle.style_record.specs.Check.{checked}
-use Rattle.style_record.specs.Told.{countWord, FirstBadWord, wordTold}
 use Rattle.style_record.specs.declared.check.TableCheck.{TableCheck}
 use Rattle.style_record.specs.declared.check.TableCheck.the-variants.{Good, Bad}
 use Rattle.tree_record.specs.Layout.{layoutOf}
@@ -45,7 +44,7 @@ use Rattle.run.proofs.Questions.{Hoisted, opening-hoisted, reply-hoisted}
 use Rattle.run.proofs.Refusals.{begun-accepts, saying, turn-refused}
 use Rattle.run.proofs.Straight.{straight-run}
 use Rattle.run.proofs.Ways.{OpeningWay, begins, opening-way}
-use Rattle.oof_c_words.specs.StateWords.{at, stateOf, stateWords, countsIn, progressOf, progressCode}
+use Rattle.oof_c_words.specs.StateWords.{at, countWord, stateOf, stateWords, countsIn, progressOf, progressCode}
 use Rattle.oof_c_words.specs.AnswerWords.{questionWords, measureWords, layOutWords, finishWords}
 use Rattle.oof_c_words.specs.Entry.{Words, words, Returned, lentIn, resultOf, answerLeft, inWords, openedInWords, repliedInWords}
 use Rattle.pixels.specs.Told.{PixelsReturned, edgesTold}
@@ -63,7 +62,7 @@ use Rattle.reach.specs.declared.Reached.{Reached}
 use Rattle.reach.specs.declared.Reached.the-variants as reach
 use Rattle.reach.proofs.Exactly as exactly
 use Rattle.reach_laws.proofs.Answered.{quarters-are-answered as all-answered}
-use Rattle.oof_c.specs.CheckWords.{checkInWords}
+use Rattle.oof_c_words.specs.CheckWords.{CheckReturned, checkTold, checkInWords}
 use Rattle.oof_c.specs.ReachWords.{reachInWords}
 use Rattle.demands_c.specs.Calls.{Opens, RepliesTo, FitsOpening, askedFor, AnyCalls, Takes, Lends, Run}
 use Rattle.demands_c.specs.Demands.{OpeningDemands, ReplyDemands, PixelsDemands, VerdictIn, ReachDemands, BadWordDemands, ThreeQuestionsEach, StandsInWords, EqualsStraightRun, QuartersHaveEdges, QuartersAreAnswered}
@@ -221,15 +220,15 @@ own-count k h = omega arith
 not-one : {A : Type 0} → _≡_ {A = ℕ} 0 1 → A
 not-one e = no (eq-eqb 0 1 e) refl
 
-pub bad-word-demands : (styles before : List ℕ) {has : FirstBadWord} → has ≡ checkInWords styles before → BadWordDemands styles before has
-unfolding checkInWords wordTold
+pub bad-word-demands : (styles before : List ℕ) {has : CheckReturned} → has ≡ checkInWords styles before → BadWordDemands styles before has
+unfolding checkInWords checkTold
 bad-word-demands styles before c = subst (BadWordDemands styles before) (sym c) (go (checked styles) refl)
   where
-    go : (found : TableCheck) → checked styles ≡ found → BadWordDemands styles before (wordTold found before)
+    go : (found : TableCheck) → checked styles ≡ found → BadWordDemands styles before (checkTold found before)
     go Good e =
         let all = nothing-exactly styles .0 e in
         record {
-          call = ap (λ (x : TableCheck). wordTold x before) (sym e);
+          call = ap (λ (x : TableCheck). checkTold x before) (sym e);
           told = inr refl;
           some = (not-one, λ s. absurd (s .4 (all (s .0) (s .2) (s .1) (s .3))));
           none = (λ z. all, λ a. refl);
@@ -239,7 +238,7 @@ bad-word-demands styles before c = subst (BadWordDemands styles before) (sym c) 
     go (Bad i k) e =
         let f = named-exactly styles i k .0 e in
         record {
-          call = ap (λ (x : TableCheck). wordTold x before) (sym e);
+          call = ap (λ (x : TableCheck). checkTold x before) (sym e);
           told = inl refl;
           some = (λ o. (i, k, f .item-there, f .word-there, f .not-allowed), λ s. refl);
           none = (λ z. not-one (sym z), λ a. absurd (f .not-allowed (a i (f .item-there) k (f .word-there))));

@@ -7,7 +7,6 @@ use mathlib.Core.Path.{_≡_}
 use lib.IntN.{ℤ}
 use lib.ListN.{length}
 use Rattle.geometry.specs.declared.Point.{Point}
-use Rattle.style_record.specs.Told.{countWord, FirstBadWord}
 use Rattle.records.specs.Records.{recordAt}
 use Rattle.tree_record.specs.Candidate.{candidateWidth, candidateOf}
 use Rattle.tree_record.specs.Layout.{layoutWidth, layoutOf}
@@ -25,7 +24,7 @@ use Rattle.run.specs.declared.Opening.{Opening}
 use Rattle.run.specs.declared.Progress.the-variants.{Finished}
 use Rattle.mirror_run.specs.Quarter.{AreaInQuarters, QuarterTable, QuarterCandidates}
 use Rattle.pixels_laws.specs.Laws.{All, QuarterHeard}
-use Rattle.oof_c_words.specs.StateWords.{at, stateOf, stateWords}
+use Rattle.oof_c_words.specs.StateWords.{at, countWord, stateOf, stateWords}
 use Rattle.oof_c_words.specs.Entry.{Words, words, Returned, lentIn, answerLeft}
 use Rattle.pixels.specs.Told.{PixelsReturned}
 use Rattle.reach.specs.Conditions.{reachTests}
@@ -33,7 +32,7 @@ use Rattle.reach.specs.Reach.{reached}
 use Rattle.reach.specs.Told.{ReachReturned}
 use Rattle.reach.specs.declared.Reached.{Reached}
 use Rattle.reach.specs.declared.Reached.the-variants.{Seen, Unseen, Refused}
-use Rattle.oof_c.specs.CheckWords.{checkInWords}
+use Rattle.oof_c_words.specs.CheckWords.{CheckReturned, checkInWords}
 use Rattle.oof_c.specs.ReachWords.{reachInWords}
 use Rattle.oof_c_words.specs.PixelWords.{pixelsInWords}
 use Rattle.demands_c.specs.Calls.{Opens, RepliesTo, AnyCalls, Run}
@@ -85,7 +84,7 @@ pub record ReachDemands (place : ℕ) (lent : Lent) (state before : List ℕ) (h
 
 -- request #103, `oof_first_bad_word`. Its result is no refusal's number: 1 and the first item with a word that breaks a rule and its first such
 -- word, or 0. An item is told modulo 2 ^ 32, as all counts are
-pub record BadWordDemands (styles before : List ℕ) (has : FirstBadWord) : Type 0 where
+pub record BadWordDemands (styles before : List ℕ) (has : CheckReturned) : Type 0 where
   pub call : has ≡ checkInWords styles before
   pub told : (has .result ≡ 1) ⊎ (has .result ≡ 0)
   pub some : (has .result ≡ 1) ↔ StyleIsBad styles

@@ -4,7 +4,7 @@ ghost use mathlib.Core.List.{[]};
 ghost use Rattle.oof_c_words.specs.Entry.{came, before, returned, openingOf};
 ghost use Rattle.oof_c_words.specs.PixelWords.{pixelsReturned};
 ghost use Rattle.run.specs.Call.{atEntry};
-ghost use Rattle.oof_c.specs.CheckWords.{checkReturned};
+ghost use Rattle.oof_c_words.specs.CheckWords.{checkReturned};
 ghost use Rattle.oof_c.specs.ReachWords.{reachReturned};
 ghost use Rattle.demands_c.specs.Demands.{OpeningDemands, ReplyDemands, PixelsDemands, ReachDemands, BadWordDemands, Demanded};
 use oof_box::question::Reply;
