@@ -1,7 +1,7 @@
-//! The seven entries of the static library `oof_c`, over words. This is the only module with `unsafe`.
+//! The eight entries of the static library `oof_c`, over words. This is the only module with `unsafe`.
 //!
-//! Every entry takes any words in any number, and a call that it refuses writes no lent word. So the functions here are safe:
-//! the slices are Rust's, and two of which one may be written don't overlap.
+//! Every entry takes any words in any number, and a call that it refuses writes no lent word; [`first_bad_word`] refuses none. So the
+//! functions here are safe: the slices are Rust's, and two of which one may be written don't overlap.
 //!
 //! The state's words are the state that a call returns: an opening always writes them, a refused one those of a finished run
 //! with all counts 0; a refused reply leaves them, and the answer's, bit for bit.
@@ -16,6 +16,8 @@ pub const ANSWER: usize = 10;
 pub const EDGES: usize = 4;
 /// Words of a verdict: 1 seen or 0 unseen, then the offsets x and y in eighths of a pixel, 0 if unseen
 pub const VERDICT: usize = 3;
+/// Where a word that breaks a rule was found: which item of the table, and which word of its style, from 0
+pub const FOUND: usize = 2;
 
 /// Places of a state's words.
 pub mod state {
@@ -183,6 +185,7 @@ mod c {
             verdict: *mut u32,
         ) -> u32;
         pub fn oof_pixels(layout: *const u32, x: f32, y: f32, edges: *mut i32) -> u32;
+        pub fn oof_first_bad_word(styles: *const u32, styles_len: usize, found: *mut u32) -> u32;
     }
 }
 
@@ -270,4 +273,12 @@ pub fn reach(place: usize, run: Finished, verdict: &mut [u32; VERDICT]) -> u32 {
 pub fn pixels(layout: &[u32; LAYOUT], x: f32, y: f32, edges: &mut [i32; EDGES]) -> u32 {
     // SAFETY: the entry reads the layout's 23 words and writes the 4 edges, which are borrowed uniquely
     unsafe { c::oof_pixels(layout.as_ptr(), x, y, edges.as_mut_ptr()) }
+}
+
+/// The first word of a table of styles that breaks a code rule. The result is 1, and item and word are written, modulo 2^32; or 0, and
+/// nothing is. It is no refusal.
+pub fn first_bad_word(styles: &[u32], found: &mut [u32; FOUND]) -> u32 {
+    // SAFETY: pointer and length come from a Rust slice that lives through the call; the entry only reads it, and writes the 2 words of
+    // `found`, which are borrowed uniquely
+    unsafe { c::oof_first_bad_word(styles.as_ptr(), styles.len(), found.as_mut_ptr()) }
 }

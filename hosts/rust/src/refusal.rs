@@ -15,7 +15,7 @@ pub enum Refusal {
     /// A slice isn't whole records, is too long, or (after the opening) has another length than at the opening; or no box has the
     /// place that is asked for
     BadExtent = 2,
-    /// A code or tag isn't allowed in its field of a style
+    /// A code or tag isn't allowed in its field of a style: [`first_bad_word`](crate::first_bad_word) says which
     BadStyle = 3,
     /// A candidate names no item of the table, or has a code outside its list
     BadCandidate = 4,
