@@ -1,11 +1,13 @@
 #!/usr/bin/env python3
-"""Holds every number of hosts/c/oof.h, and the state's words of hosts/rust/src/ffi.rs, to the definitions in crates/*/specs.
+"""Holds every number of hosts/c/oof.h, the state's words of hosts/rust/src/ffi.rs, and what both hosts call the words of a style
+to the definitions in crates/*/specs.
 
     hosts/words.py [HEADER]
 
 Each constant of the header must be one that the definitions give, with their number, and none may be missing. It reads text
 only; exits with 1 at the first differences.
 """
+import itertools
 import pathlib
 import re
 import sys
@@ -46,7 +48,7 @@ RESOLVE = "style/specs/Resolve.antt"
 RECORD, DECODE = "style_record/specs/Record.antt", "style_record/specs/Decode.antt"
 CANDIDATE, LAYOUT = "tree_record/specs/Candidate.antt", "tree_record/specs/Layout.antt"
 STATE, ANSWER = "oof_c_words/specs/StateWords.antt", "oof_c_words/specs/AnswerWords.antt"
-PIXELS, REACH = "pixels/specs/Told.antt", "reach/specs/Told.antt"
+PIXELS, REACH, FOUND = "pixels/specs/Told.antt", "reach/specs/Told.antt", "style_record/specs/Told.antt"
 SIDES = ["LEFT", "RIGHT", "TOP", "BOTTOM"]
 known = {}
 for name in ("lengthWords", "lengths", "codeWords", "afterLengths", "styleWords"):
@@ -80,6 +82,19 @@ def style():
         out["OVERFLOW_" + axis.upper()] = eval(at, {}, known)
     out["SCROLLBAR_WIDTH"] = word("scrollbar = ofBits binary32")
     return {"STYLE_" + name: at for name, at in out.items()}
+
+
+def style_names():
+    """What the words of a style are called, in their order: a length has a tag and a value, and what has a safety is a keyword."""
+    words, out = style(), {}
+    for constant, at in words.items():
+        name = constant.removeprefix("STYLE_").replace("_", " ").lower()
+        if at < known["afterLengths"]:
+            out |= {at: name + ", tag", at + 1: name + ", value"}
+        else:
+            out[at] = name + " keyword" if constant + "_SAFETY" in words else name
+    assert sorted(out) == list(range(known["styleWords"])), out
+    return [out[at] for at in sorted(out)]
 
 
 def candidate():
@@ -171,6 +186,13 @@ def reach():
     return {"REACH_KIND": 0, "REACH_X": seen.index(x), "REACH_Y": seen.index(y), "REACH_WORDS": len(seen), "SEEN": int(seen[0]), "UNSEEN": int(unseen[0])}
 
 
+def bad_word():
+    """The two words by their turn in the list of the clause for `(Bad i k)`."""
+    item, word, told = re.search(r"\(Bad (\w+) (\w+)\).*?= .*?found = ((?:countWord \w+ ∷ )+)\[\]", text(FOUND)).groups()
+    told = told.replace("countWord ", "").split(" ∷ ")[:-1]
+    return {"FOUND_ITEM": told.index(item), "FOUND_STYLE_WORD": told.index(word), "FOUND_WORDS": len(told)}
+
+
 def tags():
     """By what each comes to in a size."""
     names = {"Length value": "PX", "autoIn f": "AUTO", "Length (basis ⊗ value)": "PERCENT", "Absent": "CONTENT",
@@ -184,7 +206,7 @@ def tags():
 
 
 def wanted():
-    out = style() | candidate() | layout() | state() | answer() | pixels() | reach() | tags()
+    out = style() | candidate() | layout() | state() | answer() | pixels() | reach() | bad_word() | tags()
     out |= {"STYLE_WORDS": known["styleWords"], "CANDIDATE_WORDS": number(CANDIDATE, "candidateWidth"), "LAYOUT_WORDS": number(LAYOUT, "layoutWidth")}
     out |= {"STATE_WORDS": count("stateWords"), "ANSWER_WORDS": count("finishWords")}
     assert count("measureWords") == count("layOutWords") == count("finishWords")
@@ -214,9 +236,14 @@ def main():
              "BEGUN": "BEGUN", "ANSWERED": "ANSWERED", "OVERFLOW": "OVERFLOW", "AREA": "AREA", "CODES": "DIRECTION", "LENGTHS": "LENGTHS"}
     rust = dict(re.findall(r"^    pub const (\w+): usize = (\d+);", (root / "hosts/rust/src/ffi.rs").read_text(), re.M))
     wrong += [f"ffi.rs: {n} is {rust.get(n)}" for n in sorted(rust | names) if int(rust.get(n, -1)) != want.get("OOF_STATE_" + names.get(n, ""))]
+    called = style_names()
+    for path, table in ((header, r"names\[OOF_STYLE_WORDS\] = \{(.*?)\};"), (root / "hosts/rust/src/bad_word.rs", r"NAMES: \[&str; STYLE\] = \[(.*?)\];")):
+        said = re.findall(r'"([^"]*)"', re.search(table, path.read_text(), re.S)[1])
+        pairs = enumerate(itertools.zip_longest(said, called))
+        wrong += [f"{path.name}: word {k} is called {a!r}, by the definitions {b!r}" for k, (a, b) in pairs if a != b]
     for line in wrong:
         print("hosts/words.py:", line)
-    print(f"hosts/words.py: {len(found)} numbers of the header and {len(rust)} of the Rust host, {len(wrong)} wrong")
+    print(f"hosts/words.py: {len(found)} numbers of the header and {len(rust)} of the Rust host, {len(called)} names of both, {len(wrong)} wrong")
     return 1 if wrong else 0
 
 

@@ -2,7 +2,8 @@
  *
  * A host opens a run with oof_open, reads the question that stands in the answer's words, and replies with the entry of
  * that question's kind, until the answer is a finish. Then the layouts hold each placed box. oof_reach says of each whether
- * scrolling can bring it into view. oof_pixels rounds a layout to whole pixels; it belongs to no run.
+ * scrolling can bring it into view. oof_pixels rounds a layout to whole pixels, and oof_first_bad_word says which word of a
+ * table of styles breaks a code rule; they belong to no run.
  *
  *     result = oof_open(.., state, answer);
  *     while (result == 0 && answer[OOF_ANSWER_KIND] != OOF_FINISH)
@@ -12,7 +13,8 @@
  *     if (result == 0)
  *         result = oof_reach(place, .., state, verdict);
  *
- * RESULT. 0: the call was accepted, and the answer's words say what comes next (of oof_pixels: the edges are written; of
+ * RESULT. That of oof_first_bad_word is 1 or 0 and no refusal: item and word are written, or nothing is. Of every other
+ * entry 0: the call was accepted, and the answer's words say what comes next (of oof_pixels: the edges are written; of
  * oof_reach: the verdict). 1 to 6, and 9, of oof_pixels and oof_reach alone: it was refused, for the reason of that number
  * (enum oof_refusal), and NO LENT WORD WAS WRITTEN: layouts, lists, answer, edges and verdict keep every bit. 7 and 8 are
  * refusals of parts that have no entry here. What stands in the state's words after a refusal:
@@ -23,9 +25,9 @@
  * POINTERS. Each slice is a pointer, then its length in 32-bit words. What a host owes:
  *   - every pointer is aligned for uint32_t and points at so many words that may be read (and written, where it isn't
  *     const); `state` at OOF_STATE_WORDS of them, `answer` at OOF_ANSWER_WORDS, `layout` at OOF_LAYOUT_WORDS, `edges` at
- *     OOF_PIXEL_EDGES, `verdict` at OOF_REACH_WORDS;
+ *     OOF_PIXEL_EDGES, `verdict` at OOF_REACH_WORDS, `found` at OOF_FOUND_WORDS;
  *   - no pointer is null, also where the length is 0;
- *   - no two slices of a call overlap, state, answer, layout, edges and verdict included;
+ *   - no two slices of a call overlap, state, answer, layout, edges, verdict and found included;
  *   - nobody else writes the words during a call.
  * The words themselves may be any: whatever bits they hold, the call does what is defined, or is refused as defined.
  * No pointer is kept after a call, nothing is allocated and there are no globals: runs over different words may go on
@@ -54,6 +56,7 @@ enum {
     OOF_ANSWER_WORDS = 10,
     OOF_PIXEL_EDGES = 4,
     OOF_REACH_WORDS = 3,
+    OOF_FOUND_WORDS = 2,
     OOF_MOST_ITEMS = 1024,  /* of a table of styles */
     OOF_MOST_RECORDS = 4096 /* of a working or an unclaimed list */
 };
@@ -65,7 +68,8 @@ enum oof_refusal {
     OOF_BAD_AREA = 1,      /* an opening's direction, claims or overflow code is outside its list */
     OOF_BAD_EXTENT = 2,    /* a slice isn't whole records, is too long, or has another length than at the opening; or, of
                               oof_reach, no box has that place */
-    OOF_BAD_STYLE = 3,     /* a tag or code that its field doesn't take, in any item of the table */
+    OOF_BAD_STYLE = 3,     /* a tag or code that its field doesn't take, in any item of the table; oof_first_bad_word says
+                              which */
     OOF_BAD_CANDIDATE = 4, /* a node outside the table, or a code outside its list */
     OOF_LIST_FULL = 5,     /* the claimed or the unclaimed records would exceed their list */
     OOF_WRONG_REPLY = 6,   /* not the open question's kind, no question open, or a state whose counts don't fit; of
@@ -194,6 +198,27 @@ enum {
     OOF_STYLE_CONTAIN = 56
 };
 
+/* What a style's word is called, as "margin left, tag" for word 8. */
+static inline const char *oof_style_word_name(uint32_t word)
+{
+    static const char *const names[OOF_STYLE_WORDS] = {
+        "inset left, tag", "inset left, value", "inset right, tag", "inset right, value",
+        "inset top, tag", "inset top, value", "inset bottom, tag", "inset bottom, value",
+        "margin left, tag", "margin left, value", "margin right, tag", "margin right, value",
+        "margin top, tag", "margin top, value", "margin bottom, tag", "margin bottom, value",
+        "padding left, tag", "padding left, value", "padding right, tag", "padding right, value",
+        "padding top, tag", "padding top, value", "padding bottom, tag", "padding bottom, value",
+        "border left, tag", "border left, value", "border right, tag", "border right, value",
+        "border top, tag", "border top, value", "border bottom, tag", "border bottom, value",
+        "width, tag", "width, value", "height, tag", "height, value",
+        "min width, tag", "min width, value", "min height, tag", "min height, value",
+        "max width, tag", "max width, value", "max height, tag", "max height, value",
+        "ratio present", "ratio", "box sizing", "flags", "direction",
+        "justify keyword", "justify safety", "align keyword", "align safety",
+        "overflow x", "overflow y", "scrollbar width", "contain"};
+    return word < OOF_STYLE_WORDS ? names[word] : "no word of a style";
+}
+
 /* Writes a length of a style: `at` is the tag's word number. */
 static inline void oof_set_length(uint32_t *style, size_t at, uint32_t tag, float value)
 {
@@ -245,6 +270,10 @@ enum { OOF_PIXEL_LEFT = 0, OOF_PIXEL_RIGHT = 1, OOF_PIXEL_TOP = 2, OOF_PIXEL_BOT
 
 enum { OOF_REACH_KIND = 0, OOF_REACH_X = 1, OOF_REACH_Y = 2 };
 enum { OOF_UNSEEN = 0, OOF_SEEN = 1 };
+
+/* ---- where a word that breaks a rule was found, 2 words: which item of the table, and which word of its style, from 0 */
+
+enum { OOF_FOUND_ITEM = 0, OOF_FOUND_STYLE_WORD = 1 };
 
 /* ---- the answer, 10 words */
 
@@ -443,6 +472,26 @@ uint32_t oof_reach(size_t place,
  *   - Pixel edges are not mirrored: a half goes to the right in a right-to-left area too. In an area of 16 eighths a box from
  *     4 to 12 eighths is its own mirror image. Its edges are 1 and 2; the mirror image of these would be 0 and 1. */
 uint32_t oof_pixels(const uint32_t *layout, float x, float y, int32_t *edges);
+
+/* ---- a table of styles that is being edited */
+
+/* The first word of a table of styles that breaks a code rule: of the first item that has one, the first in the order of the
+ * words. An editor, in which half-typed styles are common, can point at it.
+ *   styles      item after item, any number of words; only read. The walk ends at the word found. A trailing part of a record
+ *               isn't looked at, items above OOF_MOST_ITEMS are: extents are for a run to refuse
+ *   found       written on 1 only: which item, and which word of its style, each from 0 and modulo 2^32. oof_style_word_name
+ *               has the word's name
+ * The result is 1 if there is such a word, and 0 if there is none. It is no refusal: 1 isn't OOF_BAD_AREA here, and any words
+ * have an answer. Which words break a rule:
+ *   - A tag that its field doesn't take. Whole words are compared: 257 is no OOF_TAG_PX.
+ *   - A code above the last of its list: above 1 for ratio present, box sizing and direction, 3 for the flags and either
+ *     overflow, 10 for justify and align, 255 for contain.
+ *   - A safety above 2, unless the keyword before it is OOF_ALIGN_ABSENT. With a keyword of 11 and a safety of 7 the keyword is
+ *     the first, with 9 and 7 the safety, and with 10 and 7 neither is bad.
+ *   - No float: values, ratio and scrollbar width may hold any bits, those of a NaN too.
+ * An opening or a reply is refused with OOF_BAD_STYLE exactly if this entry gives 1 for its table and none of the tests before
+ * that one refuses it: 1 and 2 of an opening, 2 and 6 of a reply. */
+uint32_t oof_first_bad_word(const uint32_t *styles, size_t styles_len, uint32_t *found);
 
 #ifdef __cplusplus
 }

@@ -107,6 +107,18 @@ static uint32_t do_reach(void *context)
                      4 * OOF_CANDIDATE_WORDS, unclaimed, 4 * OOF_CANDIDATE_WORDS, state, verdict);
 }
 
+/* the whole table: no word of it breaks a rule; then its last one does */
+static uint32_t do_first_bad_word(void *context)
+{
+    uint32_t found[OOF_FOUND_WORDS], *last = styles + items * OOF_STYLE_WORDS - 1;
+    (void)context;
+    uint32_t none = oof_first_bad_word(styles, items * OOF_STYLE_WORDS, found);
+    *last = 256;
+    uint32_t one = oof_first_bad_word(styles, items * OOF_STYLE_WORDS, found);
+    *last = 0;
+    return none == 0 && one == 1 && found[OOF_FOUND_ITEM] == items - 1 ? OOF_ACCEPTED : OOF_BAD_STYLE;
+}
+
 /* items whose sizes are asked by this tag of the width and that of the height */
 static void fill(size_t count, uint32_t width, uint32_t height)
 {
@@ -131,7 +143,7 @@ static void fill(size_t count, uint32_t width, uint32_t height)
     }
 }
 
-enum { ENTRIES = 7 };
+enum { ENTRIES = 8 };
 
 static size_t most[ENTRIES];
 static int accepted;
@@ -165,13 +177,14 @@ int main(void)
             state[OOF_STATE_PROGRESS] = 0; /* the surfaced box is asked about next; a finished run, which scrolls, instead */
             state[OOF_STATE_OVERFLOW_X] = state[OOF_STATE_OVERFLOW_Y] = OOF_OVERFLOW_SCROLL;
             measure(5, do_reach, without);
+            measure(7, do_first_bad_word, without);
         }
     measure(6, do_pixels, without);
     printf("hosts/c: bytes of stack, %d calls accepted: open %zu, both %zu, width %zu, height %zu, laid out %zu; reach %zu; "
-           "pixels %zu\n",
-           accepted, most[0], most[1], most[2], most[3], most[4], most[5], most[6]);
+           "pixels %zu; first bad word %zu\n",
+           accepted, most[0], most[1], most[2], most[3], most[4], most[5], most[6], most[7]);
     for (int entry = 0; entry < ENTRIES; entry++)
         if (most[entry] > LIMIT || most[entry] == 0)
             return EXIT_FAILURE;
-    return accepted == 33 ? EXIT_SUCCESS : EXIT_FAILURE;
+    return accepted == 41 ? EXIT_SUCCESS : EXIT_FAILURE;
 }

@@ -1,5 +1,5 @@
-/* What the header says of offsets, of refused calls, of pixels and of boxes that no scrolling brings up, tried. Prints one
- * line; exits with 1 at the first that isn't so. */
+/* What the header says of offsets, of refused calls, of pixels, of boxes that no scrolling brings up and of words that break a
+ * rule, tried. Prints one line; exits with 1 at the first that isn't so. */
 #include <stdio.h>
 #include <stdlib.h>
 #include "oof.h"
@@ -825,6 +825,200 @@ static void random_words(void)
     MUST(told[OOF_NOT_IN_EIGHTHS] > 1000 && told[SEEN] > 1000 && told[SCROLLED] > 1000 && told[UNSEEN] > 1000);
 }
 
+/* ---- the first word that breaks a rule */
+
+enum { TABLE = OOF_MOST_ITEMS + 2, ONE = OOF_STYLE_WORDS, TWO = 2 * OOF_STYLE_WORDS, ALL = TABLE * OOF_STYLE_WORDS };
+
+static uint32_t table[ALL];
+
+static void good_items(size_t items)
+{
+    for (size_t item = 0; item < items; item++)
+        plain_style(table + item * OOF_STYLE_WORDS);
+}
+
+static void put(size_t item, size_t word, uint32_t value)
+{
+    table[item * OOF_STYLE_WORDS + word] = value;
+}
+
+/* the result over so many words of the table, or WROTE if the call wrote one of these, a word beside the two that are lent, or
+ * one of the two though there is nothing to tell */
+static uint32_t first_bad_word(size_t words, uint32_t *found)
+{
+    static uint32_t before[ALL];
+    const uint32_t noise[OOF_FOUND_WORDS + 2] = {0x5A5A5A5A, 0xFFFFFFFF, 0x7FC00001, 0xA5A5A5A5};
+    uint32_t lent[OOF_FOUND_WORDS + 2];
+    memcpy(before, table, words * sizeof *table);
+    memcpy(lent, noise, sizeof noise);
+    uint32_t result = oof_first_bad_word(table, words, lent + 1);
+    memcpy(found, lent + 1, OOF_FOUND_WORDS * sizeof *found);
+    if (result == 1)
+        memcpy(lent + 1, noise + 1, OOF_FOUND_WORDS * sizeof *lent);
+    return memcmp(before, table, words * sizeof *table) || memcmp(lent, noise, sizeof noise) ? WROTE : result;
+}
+
+static int is_first(size_t words, size_t item, size_t word)
+{
+    uint32_t found[OOF_FOUND_WORDS];
+    return first_bad_word(words, found) == 1 && found[OOF_FOUND_ITEM] == item && found[OOF_FOUND_STYLE_WORD] == word;
+}
+
+static int all_good(size_t words)
+{
+    uint32_t found[OOF_FOUND_WORDS];
+    return first_bad_word(words, found) == 0;
+}
+
+static void first_bad_words(void)
+{
+    good_items(TABLE);
+    MUST(all_good(0) && all_good(TWO) && all_good(ALL));
+    put(1, OOF_STYLE_INSET_LEFT, 2);
+    MUST(is_first(TWO, 1, 0));                                       /* not word 57 of the table */
+    MUST(all_good(ONE) && all_good(ONE + 1) && all_good(TWO - 1)); /* a part of a record */
+    put(1, OOF_STYLE_INSET_LEFT, 257);
+    MUST(is_first(TWO, 1, 0)); /* not px */
+    put(0, OOF_STYLE_CONTAIN, 256);
+    MUST(is_first(TWO, 0, 56));
+    put(0, OOF_STYLE_CONTAIN, 255);
+    MUST(is_first(TWO, 1, 0));
+
+    put(0, OOF_STYLE_JUSTIFY, 11), put(0, OOF_STYLE_JUSTIFY_SAFETY, 7);
+    MUST(is_first(ONE, 0, 49));
+    put(0, OOF_STYLE_JUSTIFY, OOF_ALIGN_ABSENT);
+    MUST(all_good(ONE));
+    put(0, OOF_STYLE_JUSTIFY, OOF_ALIGN_STRETCH), put(0, OOF_STYLE_JUSTIFY_SAFETY, 3);
+    MUST(is_first(ONE, 0, 50));
+    put(0, OOF_STYLE_RATIO_PRESENT, 2);
+    MUST(is_first(ONE, 0, 44));
+
+    good_items(1);
+    put(0, OOF_STYLE_RATIO_PRESENT, 1), put(0, OOF_STYLE_RATIO, 0x7FC00000);
+    put(0, OOF_STYLE_WIDTH + 1, 0xFFFFFFFF), put(0, OOF_STYLE_SCROLLBAR_WIDTH, 0x7F800001);
+    MUST(all_good(ONE)); /* NaNs */
+}
+
+/* more than a run takes */
+static void long_tables(void)
+{
+    good_items(TABLE);
+    for (size_t item = TABLE - 1; item >= OOF_MOST_ITEMS - 1; item--) {
+        put(item, OOF_STYLE_OVERFLOW_Y, 4);
+        MUST(is_first(ALL, item, 54) && all_good(item * OOF_STYLE_WORDS));
+    }
+}
+
+static int takes(size_t word, uint32_t tag)
+{
+    const uint32_t of_sizes[7] = {OOF_TAG_MIN_CONTENT, OOF_TAG_FIT_CONTENT_PERCENT, OOF_TAG_MAX_CONTENT, OOF_TAG_CONTENT,
+                                  OOF_TAG_FIT_CONTENT_PX, OOF_TAG_FIT_CONTENT, OOF_TAG_STRETCH};
+    int is_size = word >= OOF_STYLE_WIDTH, taken = tag == OOF_TAG_PX || tag == OOF_TAG_PERCENT;
+    taken |= tag == OOF_TAG_AUTO && (is_size || word < OOF_STYLE_PADDING_LEFT);
+    for (int k = 0; k < 7; k++)
+        taken |= is_size && tag == of_sizes[k];
+    return taken;
+}
+
+/* whether a word of a style breaks a rule, by the header */
+static int breaks(const uint32_t *style, size_t word)
+{
+    if (word < OOF_STYLE_RATIO_PRESENT)
+        return word % 2 == 0 && !takes(word, style[word]);
+    switch (word) {
+    case OOF_STYLE_RATIO_PRESENT:
+    case OOF_STYLE_BOX_SIZING:
+    case OOF_STYLE_DIRECTION: return style[word] > 1;
+    case OOF_STYLE_FLAGS:
+    case OOF_STYLE_OVERFLOW_X:
+    case OOF_STYLE_OVERFLOW_Y: return style[word] > 3;
+    case OOF_STYLE_JUSTIFY:
+    case OOF_STYLE_ALIGN: return style[word] > OOF_ALIGN_ABSENT;
+    case OOF_STYLE_JUSTIFY_SAFETY:
+    case OOF_STYLE_ALIGN_SAFETY: return style[word - 1] != OOF_ALIGN_ABSENT && style[word] > OOF_SAFETY_SAFE;
+    case OOF_STYLE_CONTAIN: return style[word] > 255;
+    default: return 0;
+    }
+}
+
+/* an opening over so many words of the table, without a candidate */
+static uint32_t opened_over(size_t words)
+{
+    static uint32_t layouts[TABLE * OOF_LAYOUT_WORDS];
+    uint32_t none[3] = {0}, state[OOF_STATE_WORDS], answer[OOF_ANSWER_WORDS];
+    return oof_open(200, 100, 0, 0, OOF_DIRECTION_LTR, OOF_CLAIMS_ABSOLUTE, OOF_OVERFLOW_VISIBLE, OOF_OVERFLOW_VISIBLE, table,
+                    words, none, 0, layouts, words / OOF_STYLE_WORDS * OOF_LAYOUT_WORDS, none + 1, 0, none + 2, 0, state, answer);
+}
+
+/* whether the entry says of so many words what the header does, and an opening over them is refused accordingly */
+static int as_said(size_t words)
+{
+    const uint32_t ragged = words % OOF_STYLE_WORDS ? OOF_BAD_EXTENT : OOF_ACCEPTED;
+    for (size_t k = 0; k < words - words % OOF_STYLE_WORDS; k++) {
+        size_t item = k / OOF_STYLE_WORDS, word = k % OOF_STYLE_WORDS;
+        if (breaks(table + item * OOF_STYLE_WORDS, word))
+            return is_first(words, item, word) && opened_over(words) == (ragged ? ragged : OOF_BAD_STYLE);
+    }
+    return all_good(words) && opened_over(words) == ragged;
+}
+
+/* each word of an item, with codes from 0 on and some large ones, beside a present and an absent keyword */
+static void every_word(void)
+{
+    const uint32_t large[5] = {0x7FC00000, 0x80000001, 0xFFFFFFFF, 0x01000001, 65537};
+    int wrong = 0, bad = 0;
+    for (uint32_t keyword = OOF_ALIGN_STRETCH; keyword <= OOF_ALIGN_ABSENT; keyword++)
+        for (size_t word = 0; word < OOF_STYLE_WORDS; word++)
+            for (uint32_t code = 0; code < 600; code++) {
+                good_items(3);
+                put(1, OOF_STYLE_JUSTIFY, keyword), put(1, OOF_STYLE_ALIGN, keyword);
+                put(1, word, code < 5 ? large[code] : code - 5);
+                wrong += !as_said(3 * OOF_STYLE_WORDS);
+                bad += !all_good(3 * OOF_STYLE_WORDS);
+            }
+    MUST(wrong == 0 && bad > 30000);
+}
+
+/* some words of up to four items, with or without a part of another */
+static void random_tables(void)
+{
+    enum { CALLS = 100000 };
+    int wrong = 0, good = 0;
+    for (int call = 0; call < CALLS; call++) {
+        const size_t items = below(5), words = items * OOF_STYLE_WORDS + (below(2) ? below(OOF_STYLE_WORDS) : 0);
+        good_items(items + 1);
+        for (uint32_t k = below(5); k > 0; k--)
+            put(below((uint32_t)items + 1), below(OOF_STYLE_WORDS), below(14));
+        wrong += !as_said(words);
+        good += all_good(words);
+    }
+    MUST(wrong == 0 && good > 10000 && CALLS - good > 10000);
+}
+
+/* a reply goes by the words as they are then; other refusals come before */
+static void replies_over_bad_words(void)
+{
+    words w = box_at(100, 40, 100, 40);
+    uint32_t found[OOF_FOUND_WORDS];
+    MUST(opened(&w) == OOF_ACCEPTED && oof_first_bad_word(w.styles, OOF_STYLE_WORDS, found) == 0);
+    w.styles[OOF_STYLE_DIRECTION] = 2;
+    MUST(oof_reply_both(120, 18, LENT(&w)) == OOF_BAD_STYLE && oof_reply_width(120, LENT(&w)) == OOF_WRONG_REPLY);
+    MUST(oof_first_bad_word(w.styles, OOF_STYLE_WORDS, found) == 1 && found[OOF_FOUND_ITEM] == 0);
+    MUST(found[OOF_FOUND_STYLE_WORD] == OOF_STYLE_DIRECTION);
+    w.direction = 2;
+    MUST(opened(&w) == OOF_BAD_AREA);
+}
+
+static void style_word_names(void)
+{
+    MUST(!strcmp(oof_style_word_name(OOF_STYLE_MARGIN_LEFT), "margin left, tag"));
+    MUST(!strcmp(oof_style_word_name(OOF_STYLE_MAX_HEIGHT + 1), "max height, value"));
+    MUST(!strcmp(oof_style_word_name(OOF_STYLE_JUSTIFY), "justify keyword"));
+    MUST(!strcmp(oof_style_word_name(OOF_STYLE_CONTAIN), "contain"));
+    MUST(!strcmp(oof_style_word_name(OOF_STYLE_WORDS), "no word of a style"));
+    MUST(!strcmp(oof_style_word_name(0xFFFFFFFF), "no word of a style"));
+}
+
 int main(void)
 {
     offsets();
@@ -845,6 +1039,12 @@ int main(void)
     boxes_of_runs();
     odd_runs();
     random_words();
+    first_bad_words();
+    long_tables();
+    every_word();
+    random_tables();
+    replies_over_bad_words();
+    style_word_names();
     printf("hosts/c: %d tests passed\n", tried);
     return EXIT_SUCCESS;
 }
