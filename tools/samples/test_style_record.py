@@ -68,5 +68,6 @@ print(row(20, 56, 256))
 print(row(56, 20, 3))
 pair = (57 * 900 + 2, 0), (57 * 30 + 56, 256)
 print(changed(*pair) + changed(*pair[::-1]))
+print(changed((57, 2)) + changed((50, 3), (49, 9)) + changed((44, 1), (45, 0x7FC00000)) + changed((56, 256), (57, 2)))
 table[58311] = 2
-print("".join(answer(table[:n]) for n in (58368, 58367, 58312, 56, 0)))
+print(answer(table[:57] + [2]) + "".join(answer(table[:n]) for n in (58368, 58367, 58312, 56, 0)))

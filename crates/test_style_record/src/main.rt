@@ -191,7 +191,16 @@ fn main() {
     both_replaced(&mut table, 57 * 900 + 2, 0, 57 * 30 + 56, 256);
     both_replaced(&mut table, 57 * 30 + 56, 256, 57 * 900 + 2, 0);
     io::write_all(1, b"\n");
+    // item and word, not a place in the table; a safety behind keyword 9; a NaN for a ratio; the first item before the first word
+    replaced(&mut table, 57, 2);
+    both_replaced(&mut table, 50, 3, 49, 9);
+    both_replaced(&mut table, 44, 1, 45, 2143289344);
+    both_replaced(&mut table, 56, 256, 57, 2);
+    io::write_all(1, b"\n");
     // a trailing part of a record is not looked at
+    table[57] = 2;
+    part(&table, 58);
+    table[57] = 1;
     table[58311] = 2;
     part(&table, 58368);
     part(&table, 58367);
