@@ -1,19 +1,23 @@
-//! Times the same runs through the published Rust and through the library, in one process.
+//! Times the same runs through the published Rust and through the library, in one process; then the library's calls as the table grows,
+//! good and with a bad word.
 //!
 //!     bench [ROUNDS]
 //!     bench profile rust|library ITEMS BOXES RUNS      # one side alone on 64 tables in turn, for a profiler
 //!
 //! Each figure is the median of ROUNDS (101 unless said) rounds, in CPU time, so that a busy machine matters less; the two
-//! sides take turns. Nothing is asserted about times; that both place the boxes alike is.
+//! sides take turns. Nothing is asserted about times; that both place the boxes alike is, and what the calls answer.
 mod library;
 mod rust;
 mod scene;
 
-use library::Words;
+use library::{first_bad_word, Words};
 use oof::ffi::Reply;
 use rust::Tree;
-use scene::scene;
+use scene::{scene, Scene};
 use std::hint::black_box;
+
+/// Of the tables that grow
+const ITEMS: [usize; 4] = [1, 32, 128, 1024];
 
 /// CPU time of this thread, in seconds
 fn now() -> f64 {
@@ -143,6 +147,43 @@ fn one_call(rounds: usize, items: usize) {
     );
 }
 
+/// Where a table has its one bad word, if any: the first item's first word, its last, the last item's last
+fn places(items: usize) -> [Option<[u32; 2]>; 4] {
+    [None, Some([0, 0]), Some([0, 56]), Some([items as u32 - 1, 56])]
+}
+
+/// A table with a bad word: no tag as word 0, no contain as word 56
+fn with_bad(scene: &Scene, place: Option<[u32; 2]>) -> Words {
+    let mut words = Words::new(scene);
+    if let Some([item, word]) = place {
+        words.styles[57 * item as usize + word as usize] = if word == 0 { 2 } else { 256 };
+    }
+    words
+}
+
+/// The check of a table alone and a whole opening, by where the bad word stands, beside one sum of the table's words
+fn bad_words(rounds: usize, items: usize) {
+    let scene = scene(0, items, 1);
+    let table = Words::new(&scene).styles;
+    let mut sum = || {
+        black_box(sum_of(black_box(&table)));
+    };
+    let mut finds = places(items).map(|place| {
+        let styles = with_bad(&scene, place).styles;
+        move || assert_eq!(black_box(first_bad_word(black_box(&styles))), place)
+    });
+    let mut opens = places(items).map(|place| {
+        let mut words = with_bad(&scene, place);
+        move || assert_eq!(black_box(words.open()), if place.is_some() { 3 } else { 0 })
+    });
+    let [sum] = medians(rounds, [&mut sum]);
+    let finds = medians(rounds, finds.each_mut().map(|find| find as &mut dyn FnMut()));
+    let opens = medians(rounds, opens.each_mut().map(|open| open as &mut dyn FnMut()));
+    for (called, times) in [("the function", finds), ("an opening", opens)] {
+        println!("| {items} | {} | {called} | {} |", shown(sum), times.map(shown).join(" | "));
+    }
+}
+
 fn main() {
     let args: Vec<String> = std::env::args().skip(1).collect();
     if args.first().is_some_and(|arg| arg == "profile") {
@@ -168,7 +209,13 @@ fn main() {
     println!();
     println!("| items | one sum of the table | one call | ratio | sum an item | call an item |");
     println!("|---|---|---|---|---|---|");
-    for items in [1, 32, 128, 1024] {
+    for items in ITEMS {
         one_call(rounds, items);
+    }
+    println!();
+    println!("| items | one sum of the table | called | a good table | bad at 0:0 | bad at 0:56 | bad at last:56 |");
+    println!("|---|---|---|---|---|---|---|");
+    for items in ITEMS {
+        bad_words(rounds, items);
     }
 }
