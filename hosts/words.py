@@ -48,7 +48,7 @@ RESOLVE = "style/specs/Resolve.antt"
 RECORD, DECODE = "style_record/specs/Record.antt", "style_record/specs/Decode.antt"
 CANDIDATE, LAYOUT = "tree_record/specs/Candidate.antt", "tree_record/specs/Layout.antt"
 STATE, ANSWER = "oof_c_words/specs/StateWords.antt", "oof_c_words/specs/AnswerWords.antt"
-PIXELS, REACH, FOUND = "pixels/specs/Told.antt", "reach/specs/Told.antt", "style_record/specs/Told.antt"
+PIXELS, REACH, FOUND = "pixels/specs/Told.antt", "reach/specs/Told.antt", "oof_c_words/specs/CheckWords.antt"
 SIDES = ["LEFT", "RIGHT", "TOP", "BOTTOM"]
 known = {}
 for name in ("lengthWords", "lengths", "codeWords", "afterLengths", "styleWords"):

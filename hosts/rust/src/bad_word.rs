@@ -34,9 +34,9 @@ impl fmt::Display for BadWord {
 /// byte. [`Style::from_words`](crate::Style::from_words) of an item is `None` exactly if it has one.
 ///
 /// Any words in any number have an answer, and the walk ends at the word found. A trailing part of a record isn't looked at; items
-/// after the 1,024th are. A run refuses both as [`Refusal::BadExtent`](crate::Refusal::BadExtent). Unless a test before that one
-/// refuses it, a call of a run is refused as [`Refusal::BadStyle`](crate::Refusal::BadStyle) exactly if its table has such a word. The
-/// item comes modulo 2^32.
+/// after the 1,024th are. A run refuses both as [`Refusal::BadExtent`](crate::Refusal::BadExtent). An opening or a reply is refused as
+/// [`Refusal::BadStyle`](crate::Refusal::BadStyle) exactly if its table has such a word and no test before that one refuses the call.
+/// The item comes modulo 2^32.
 ///
 /// A word breaks a rule if it is a tag that its field doesn't take; a code above the last of its list; or a safety above 2, unless the
 /// keyword before it is 10 (absent). Whole words are compared. A float never does, be it a NaN.
