@@ -115,7 +115,8 @@ pub record ReachDemands (place : ℕ) (s : State) (lent : Lent) (r : Reached) : 
   pub answered : IsAnswer r ↔ NoneHolds (reachTests place s lent)
 
 -- request #103. `check_styles` refuses nothing: "it names that item and the first of its words, in record order from 0, that breaks one, or
--- nothing exactly when no word of the table does". The rule is refusal 3's, and it names a word exactly where 3's condition holds
+-- nothing exactly when no word of the table does". The rules are refusal 3's, and it names a word exactly where 3's condition holds. The table
+-- is its whole records, however many: a part of one behind them is no item, and a call that lends it is refused before 3
 pub record CheckDemands (styles : List ℕ) (r : TableCheck) : Type 0 where
   pub call : r ≡ checked styles
   pub named : (i k : ℕ) → (r ≡ check.Bad i k) ↔ FirstNotAllowed styles i k
@@ -128,8 +129,10 @@ pub record ScreenDemands (listing : Listing) (text : List ℕ) (r : ℕ) (before
   pub refused : (q : Refusal) → (printed listing text ≡ refusalText (numberOf q)) ↔ FirstIs (programTests text) (numberOf q)
   pub listed : IsList listing (printed listing text) ↔ NoneHolds (programTests text)
 
--- request #103, "every call's answer stays as it was": once the two tests before 3 are passed, an opening is refused with 3 exactly where the
--- check names a word of its styles, and so is a reply
+-- request #103: the check and refusal 3 agree. Once the two tests before 3 are passed, an opening is refused with 3 exactly where the check
+-- names a word of its styles, and so is a reply. ("Every call's answer stays as it was": what `OpeningDemands`, `ReplyDemands` and
+-- `EqualsStraightRun` say of calls is as before. "Its time doesn't grow with the table": no statement here speaks of time. `is_style_bad` of
+-- placer_check calls `check_styles`, for openings and replies alike, and bench measures both.)
 abbrev pub IsNamed : List ℕ → Type 0
 IsNamed styles = (i : ℕ) × (k : ℕ) × (checked styles ≡ check.Bad i k)
 

@@ -231,7 +231,7 @@ bad-word-demands styles before c = subst (BadWordDemands styles before) (sym c) 
           call = ap (λ (x : TableCheck). checkTold x before) (sym e);
           told = inr refl;
           some = (not-one, λ s. absurd (s .4 (all (s .0) (s .2) (s .1) (s .3))));
-          none = (λ z. all, λ a. refl);
+          nothing = (λ z. all, λ a. refl);
           written = not-one;
           kept = λ z. refl;
         }
@@ -241,7 +241,7 @@ bad-word-demands styles before c = subst (BadWordDemands styles before) (sym c) 
           call = ap (λ (x : TableCheck). checkTold x before) (sym e);
           told = inl refl;
           some = (λ o. (i, k, f .item-there, f .word-there, f .not-allowed), λ s. refl);
-          none = (λ z. not-one (sym z), λ a. absurd (f .not-allowed (a i (f .item-there) k (f .word-there))));
+          nothing = (λ z. not-one (sym z), λ a. absurd (f .not-allowed (a i (f .item-there) k (f .word-there))));
           written = λ o. (i, k, f, ap (λ (x : ℕ). countWord i ∷ x ∷ []) (own-count k (f .word-there)));
           kept = λ z. not-one (sym z);
         }

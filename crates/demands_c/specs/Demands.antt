@@ -1,6 +1,6 @@
 -- Demands 1 and 2, of the C entries. No entry asks anything of its caller, so each contract, and with it each of these, holds for any bits
 -- in any number and slices of any length. `proofs/Demands.antt` proves each, under its name in small letters. Assumes nothing.
-use Prim.Native.Nat.{ℕ, _≤_, _<_}
+use Prim.Native.Nat.{ℕ, _%_, _≤_, _<_}
 use mathlib.Core.List.{List, [], _∷_}
 use mathlib.Core.Logic.{_⊎_, _≢_, _↔_}
 use mathlib.Core.Path.{_≡_}
@@ -24,7 +24,7 @@ use Rattle.run.specs.declared.Opening.{Opening}
 use Rattle.run.specs.declared.Progress.the-variants.{Finished}
 use Rattle.mirror_run.specs.Quarter.{AreaInQuarters, QuarterTable, QuarterCandidates}
 use Rattle.pixels_laws.specs.Laws.{All, QuarterHeard}
-use Rattle.oof_c_words.specs.StateWords.{at, countWord, stateOf, stateWords}
+use Rattle.oof_c_words.specs.StateWords.{at, stateOf, stateWords}
 use Rattle.oof_c_words.specs.Entry.{Words, words, Returned, lentIn, answerLeft}
 use Rattle.pixels.specs.Told.{PixelsReturned}
 use Rattle.reach.specs.Conditions.{reachTests}
@@ -82,14 +82,14 @@ pub record ReachDemands (place : ℕ) (lent : Lent) (state before : List ℕ) (h
   pub kept : has .result ≢ 0 → has .verdict ≡ before
   pub written : has .result ≡ 0 → VerdictIn (reached place (stateOf state) lent) (has .verdict)
 
--- request #103, `oof_first_bad_word`. Its result is no refusal's number: 1 and the first item with a word that breaks a rule and its first such
--- word, or 0. An item is told modulo 2 ^ 32, as all counts are
+-- request #103, `oof_first_bad_word`. It refuses nothing. Result 1: a word breaks a rule, and the two words are written, the item modulo 2 ^ 32
+-- as all counts are. Result 0: none does. This 1 is not refusal 1
 pub record BadWordDemands (styles before : List ℕ) (has : CheckReturned) : Type 0 where
   pub call : has ≡ checkInWords styles before
   pub told : (has .result ≡ 1) ⊎ (has .result ≡ 0)
   pub some : (has .result ≡ 1) ↔ StyleIsBad styles
-  pub none : (has .result ≡ 0) ↔ AllAllowed styles
-  pub written : has .result ≡ 1 → (i : ℕ) × (k : ℕ) × FirstNotAllowed styles i k × (has .found ≡ countWord i ∷ k ∷ [])
+  pub nothing : (has .result ≡ 0) ↔ AllAllowed styles
+  pub written : has .result ≡ 1 → (i : ℕ) × (k : ℕ) × FirstNotAllowed styles i k × (has .found ≡ i % 4294967296 ∷ k ∷ [])
   pub kept : has .result ≡ 0 → has .found ≡ before
 
 -- "A run asks at most three questions for each box hoisted", whatever words the host rewrites between calls: at most three for each box,

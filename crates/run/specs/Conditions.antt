@@ -86,7 +86,7 @@ pub record FirstNotAllowed (styles : List ℕ) (i k : ℕ) : Type 0 where
   pub words-before : (l : ℕ) → l < k → WordIsAllowed styles i l
   pub items-before : (j : ℕ) → j < i → (l : ℕ) → l < 57 → WordIsAllowed styles j l
 
--- "no word of the table" breaks a rule
+-- no word of the table breaks a rule; a part of a record behind the last whole one is no item
 abbrev pub AllAllowed : List ℕ → Type 0
 AllAllowed styles = (i : ℕ) → i < items styles → (k : ℕ) → k < 57 → WordIsAllowed styles i k
 

@@ -3,12 +3,14 @@ use Prim.Native.Nat.{ℕ, _+_, _-_, _<_, _≤_}
 use native.Mathlib.Omega.{arith}
 use native.Mathlib.Nat.{eq-or-lt-of-le}
 use mathlib.Core.Logic.{⊎-elim}
-use mathlib.Core.Path.{_≡_, refl, sym, subst}
-use mathlib.Core.Bool.{Bool, true, false, cond, not}
-use lib.Dec.{eqb}
+use mathlib.Core.Path.{_≡_, refl, _∙_, subst}
+use mathlib.Core.Bool.{Bool, true, false, cond, not, _&&_}
+use lib.Dec.{eqb, ltb}
 use borrow.Author.Tests.{lt-ltb, le-ltb}
 use Rattle.style_record.specs.Record.{Kind, tag, number, upTo, ratio, keyword, safety, contain, kindOf, codeKinds, afterLengths, styleWords}
-use Rattle.style_record.specs.Check.{safetyBreaks, breaksAs, lastCode, isIgnored, breaksRule}
+use Rattle.style_record.specs.Check.{safetyBreaks, breaksAs, breaksRule}
+use Rattle.style_record.specs.Codes.{lastCode, isIgnored}
+use Rattle.style_record.specs.Laws.{CodesByTheLast}
 
 -- what holds of each holds of all
 module _ (P : ℕ → Type 0) (k : ℕ) where
@@ -72,6 +74,10 @@ ignored-of r k = each (λ j. ignoredOf r j ≡ isIgnored (kindOf j) (r (j - 1)))
 
 -- ---- a word up to the last code, and one above it
 
+alone : (b : Bool) → b ≡ b && true
+alone true = refl
+alone false = refl
+
 -- no tag stands after the lengths
 abbrev IsCode : Kind → Type 0
 IsCode (tag f) = ⊥
@@ -86,39 +92,32 @@ codes : (k : ℕ) → afterLengths ≤ k → k < styleWords → IsCode (kindOf k
 unfolding kindOf codeKinds
 codes k = each (λ j. IsCode (kindOf j)) k tt tt tt tt tt tt tt tt tt tt tt tt tt
 
-held-as : (kind : Kind) (before w : ℕ) → IsCode kind → w ≤ lastCode kind → breaksAs kind before w ≡ false
-unfolding breaksAs lastCode safetyBreaks
-held-as (tag f) before w none h = absurd none
-held-as number before w _ h = refl
-held-as (upTo last) before w _ h = le-ltb last w h
-held-as ratio before w _ h = refl
-held-as keyword before w _ h = le-ltb 10 w h
-held-as safety before w _ h = rw (le-ltb 2 w h) (either (eqb before 10))
-  where
-    either : (b : Bool) → cond b false false ≡ false
-    either true = refl
-    either false = refl
-held-as contain before w _ h = le-ltb 255 w h
-
-above-as : (kind : Kind) (before w : ℕ) → IsCode kind → lastCode kind < w → w < 4294967296 → not (isIgnored kind before) ≡ breaksAs kind before w
+by-last : (kind : Kind) (before w : ℕ) → IsCode kind → w < 4294967296 → breaksAs kind before w ≡ ltb (lastCode kind) w && not (isIgnored kind before)
 unfolding breaksAs lastCode isIgnored safetyBreaks
-above-as (tag f) before w none h p = absurd none
-above-as number before w _ h p = absurd (omega (arith, h, p))
-above-as (upTo last) before w _ h p = sym (lt-ltb last w h)
-above-as ratio before w _ h p = absurd (omega (arith, h, p))
-above-as keyword before w _ h p = sym (lt-ltb 10 w h)
-above-as safety before w _ h p = rw (lt-ltb 2 w h) (either (eqb before 10))
+by-last (tag f) before w none p = absurd none
+by-last number before w _ p = rw (le-ltb 4294967295 w (omega (arith, p))) refl
+by-last (upTo last) before w _ p = alone (ltb last w)
+by-last ratio before w _ p = rw (le-ltb 4294967295 w (omega (arith, p))) refl
+by-last keyword before w _ p = alone (ltb 10 w)
+by-last safety before w _ p = excused (eqb before 10) (ltb 2 w)
   where
-    either : (b : Bool) → not b ≡ cond b false true
-    either true = refl
-    either false = refl
-above-as contain before w _ h p = sym (lt-ltb 255 w h)
+    excused : (absent above : Bool) → cond absent false above ≡ above && not absent
+    excused true true = refl
+    excused true false = refl
+    excused false true = refl
+    excused false false = refl
+by-last contain before w _ p = alone (ltb 255 w)
 
-module _ (r : ℕ → ℕ) (k : ℕ) (from : afterLengths ≤ k) (below : k < styleWords) where
+pub codes-by-the-last : CodesByTheLast
+codes-by-the-last k before w from below p = by-last (kindOf k) before w (codes k from below) p
+
+module _ (r : ℕ → ℕ) (k : ℕ) (from : afterLengths ≤ k) (below : k < styleWords) (p : r k < 4294967296) where
+  rule : breaksRule r k ≡ ltb (lastCode (kindOf k)) (r k) && not (isIgnored (kindOf k) (r (k - 1)))
+  unfolding breaksRule
+  rule = codes-by-the-last k (r (k - 1)) (r k) from below p
+
   pub held : r k ≤ lastCode (kindOf k) → breaksRule r k ≡ false
-  unfolding breaksRule
-  held h = held-as (kindOf k) (r (k - 1)) (r k) (codes k from below) h
+  held h = rule ∙ rw (le-ltb (lastCode (kindOf k)) (r k) h) refl
 
-  pub above : lastCode (kindOf k) < r k → r k < 4294967296 → not (isIgnored (kindOf k) (r (k - 1))) ≡ breaksRule r k
-  unfolding breaksRule
-  above h p = above-as (kindOf k) (r (k - 1)) (r k) (codes k from below) h p
+  pub above : lastCode (kindOf k) < r k → breaksRule r k ≡ not (isIgnored (kindOf k) (r (k - 1)))
+  above h = rule ∙ rw (lt-ltb (lastCode (kindOf k)) (r k) h) refl

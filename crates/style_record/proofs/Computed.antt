@@ -7,15 +7,15 @@ use Rattle.style_record.specs.Rows.{TagRows, CodeRows, SafetyRows, Table
 
 pub tag-rows : TagRows
 unfolding checked checkedFrom orRest firstBroken firstFrom breaksRule breaksAs safetyBreaks items kindOf lengthField lengthKinds codeKinds takes resolved byTag
-tag-rows = (refl, refl, refl, refl, refl, refl, refl, refl, refl, refl)
+tag-rows = (refl, refl, refl, refl, refl, refl, refl, refl, refl, refl, refl, refl, refl)
 
 pub code-rows : CodeRows
 unfolding checked checkedFrom orRest firstBroken firstFrom breaksRule breaksAs safetyBreaks items kindOf lengthField lengthKinds codeKinds takes resolved byTag
-code-rows = (refl, refl, refl, refl, refl, refl, refl, refl, refl, refl, refl)
+code-rows = (refl, refl, refl, refl, refl, refl, refl, refl, refl, refl, refl, refl, refl)
 
 pub safety-rows : SafetyRows
 unfolding checked checkedFrom orRest firstBroken firstFrom breaksRule breaksAs safetyBreaks items kindOf lengthField lengthKinds codeKinds takes resolved byTag
-safety-rows = (refl, refl, refl, refl, refl, refl, refl)
+safety-rows = (refl, refl, refl, refl, refl, refl, refl, refl, refl)
 
 pub table-rows : TableRows
 unfolding checked checkedFrom orRest firstBroken firstFrom breaksRule breaksAs safetyBreaks items kindOf lengthField lengthKinds codeKinds takes resolved byTag

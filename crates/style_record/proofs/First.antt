@@ -7,7 +7,7 @@ use mathlib.Core.Path.{_≡_, refl, subst}
 use mathlib.Core.Bool.{Bool, true, false, cond}
 use mathlib.Core.List.{List}
 use Rattle.style_record.specs.Record.{styleWords, item, items}
-use Rattle.style_record.specs.Check.{breaksRule, breaks, ItemCheck, Good, Bad, firstFrom, firstBroken, orRest, checkedFrom, checked}
+use Rattle.style_record.specs.Check.{breaksRule, breaks, ItemCheck, NoWord, Word, firstFrom, firstBroken, orRest, checkedFrom, checked}
 use Rattle.style_record.specs.Laws.{AllGood, NoneBreaks, First}
 use Rattle.style_record.specs.declared.check.TableCheck.{TableCheck}
 use Rattle.style_record.specs.declared.check.TableCheck.the-variants as table
@@ -40,8 +40,8 @@ sooner k j p = omega arith
 -- ---- the n words of a record from word k on
 
 data Words (r : ℕ → ℕ) (n k : ℕ) : ItemCheck → Type 0 where
-  none : ((j : ℕ) → k ≤ j → j < k + n → breaksRule r j ≡ false) → Words r n k Good
-  first : (w : ℕ) → k ≤ w → w < k + n → breaksRule r w ≡ true → ((j : ℕ) → k ≤ j → j < w → breaksRule r j ≡ false) → Words r n k (Bad w)
+  none : ((j : ℕ) → k ≤ j → j < k + n → breaksRule r j ≡ false) → Words r n k NoWord
+  first : (w : ℕ) → k ≤ w → w < k + n → breaksRule r w ≡ true → ((j : ℕ) → k ≤ j → j < w → breaksRule r j ≡ false) → Words r n k (Word w)
 
 -- one more in front that breaks no rule
 in-front : (r : ℕ → ℕ) (n k : ℕ) (c : ItemCheck) → breaksRule r k ≡ false → Words r n (k + 1) c → Words r (suc n) k c
@@ -54,15 +54,15 @@ unfolding firstFrom
 words-of r zero k = none (λ j p q. absurd (none-there k j p q))
 words-of r (suc n) k = go (breaksRule r k) refl (words-of r n (k + 1))
   where
-    go : (b : Bool) → breaksRule r k ≡ b → Words r n (k + 1) (firstFrom r n (k + 1)) → Words r (suc n) k (cond b (Bad k) (firstFrom r n (k + 1)))
+    go : (b : Bool) → breaksRule r k ≡ b → Words r n (k + 1) (firstFrom r n (k + 1)) → Words r (suc n) k (cond b (Word k) (firstFrom r n (k + 1)))
     go true e v = first k (omega arith) (starts k n) e (λ j p q. absurd (not-before k j p q))
     go false e v = in-front r n k (firstFrom r n (k + 1)) e v
 
 -- ---- an item
 
 pub data ItemIs (s : List ℕ) (i : ℕ) : ItemCheck → Type 0 where
-  item-good : AllGood s i → ItemIs s i Good
-  item-bad : (k : ℕ) → k < styleWords → breaks s i k ≡ true → ((j : ℕ) → j < k → breaks s i j ≡ false) → ItemIs s i (Bad k)
+  item-good : AllGood s i → ItemIs s i NoWord
+  item-bad : (k : ℕ) → k < styleWords → breaks s i k ≡ true → ((j : ℕ) → j < k → breaks s i j ≡ false) → ItemIs s i (Word k)
 
 pub item-is : (s : List ℕ) (i : ℕ) → ItemIs s i (firstBroken s i)
 unfolding firstBroken breaks

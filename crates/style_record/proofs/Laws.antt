@@ -9,7 +9,7 @@ use lib.Dec.{leb}
 use borrow.Author.Tests.{leb-true, leb-false}
 use Rattle.util.proofs.Floats.{no}
 use Rattle.style_record.specs.Record.{lengthKinds, codeKinds, item}
-use Rattle.style_record.specs.Check.{breaks, ItemCheck, Good, Bad, firstBroken, checked}
+use Rattle.style_record.specs.Check.{breaks, ItemCheck, NoWord, Word, firstBroken, checked}
 use Rattle.style_record.specs.Decode.{styleAt}
 use Rattle.style_record.specs.Encode.{lengthWordsOf, rectWordsOf, sizeWordsOf, alignWordsOf, encoded, kept}
 use Rattle.style_record.specs.Laws.{WidthsAgree, AllGood, NoneBreaks, First, ItemGoodIsNone, GoodIsNone, BadIsFirst, SomeIsFound, EachWordIsRead, EachFieldIsWritten, DecodingIsExact}
@@ -40,18 +40,18 @@ wordOf table.Good = 0
 wordOf (table.Bad i k) = k
 
 isGoodItem : ItemCheck → Bool
-isGoodItem Good = true
-isGoodItem (Bad k) = false
+isGoodItem NoWord = true
+isGoodItem (Word k) = false
 
 pub item-good-is-none : ItemGoodIsNone
 unfolding isGoodItem
 item-good-is-none s i = (λ e. there (firstBroken s i) (item-is s i) e, λ a. back (firstBroken s i) (item-is s i) a)
   where
-    there : (c : ItemCheck) → ItemIs s i c → c ≡ Good → AllGood s i
+    there : (c : ItemCheck) → ItemIs s i c → c ≡ NoWord → AllGood s i
     there _ (item-good a) e = a
     there _ (item-bad k p q w) e = no (ap isGoodItem e) refl
 
-    back : (c : ItemCheck) → ItemIs s i c → AllGood s i → c ≡ Good
+    back : (c : ItemCheck) → ItemIs s i c → AllGood s i → c ≡ NoWord
     back _ (item-good a) n = refl
     back _ (item-bad k p q w) n = no q (n k p)
 

@@ -11,7 +11,7 @@ use Rattle.style.proofs.Laws.{takes-its-tags}
 use Rattle.style.specs.declared.resolve.Field.{Field}
 use Rattle.style.specs.declared.resolve.Field.the-variants as field
 use Rattle.style_record.specs.Record.{tag, number, kindOf, lengthKinds, lengthField, lengthWords, afterLengths, styleWords, item}
-use Rattle.style_record.specs.Check.{breaksAs, breaksRule, Good, Bad, firstFrom, orRest, firstBroken, checkedFrom}
+use Rattle.style_record.specs.Check.{breaksAs, breaksRule, NoWord, Word, firstFrom, orRest, firstBroken, checkedFrom}
 use Rattle.style_record.specs.declared.check.TableCheck.the-variants as table
 
 -- ---- a record's words, one by one
@@ -23,7 +23,7 @@ words-over : (k : ℕ) → styleWords ≤ k → styleWords - k ≡ 0
 words-over k h = omega arith
 
 module _ (r : ℕ → ℕ) (k : ℕ) where
-  word-bad : k < styleWords → breaksRule r k ≡ true → firstFrom r (styleWords - k) k ≡ Bad k
+  word-bad : k < styleWords → breaksRule r k ≡ true → firstFrom r (styleWords - k) k ≡ Word k
   unfolding firstFrom
   word-bad h e = rw (word-turn k h) (rw e refl)
 
@@ -31,7 +31,7 @@ module _ (r : ℕ → ℕ) (k : ℕ) where
   unfolding firstFrom
   word-good h e = rw (word-turn k h) (rw e refl)
 
-  words-done : styleWords ≤ k → firstFrom r (styleWords - k) k ≡ Good
+  words-done : styleWords ≤ k → firstFrom r (styleWords - k) k ≡ NoWord
   unfolding firstFrom
   words-done h = rw (words-over k h) refl
 
@@ -70,7 +70,7 @@ module _ (r : ℕ → ℕ) (k : ℕ) (h : k < afterLengths) (even : k % lengthWo
   unfolding breaksRule breaksAs
   value-rule = rw (value-kind k h even) refl
 
-  tag-bad : takes (lengthField (k / lengthWords)) (r k) ≡ false → firstFrom r (styleWords - k) k ≡ Bad k
+  tag-bad : takes (lengthField (k / lengthWords)) (r k) ≡ false → firstFrom r (styleWords - k) k ≡ Word k
   tag-bad e = word-bad r k (below k h) (tag-rule ∙ ap not e)
 
   tag-good : takes (lengthField (k / lengthWords)) (r k) ≡ true → firstFrom r (styleWords - k) k ≡ firstFrom r (styleWords - (k + lengthWords)) (k + lengthWords)
@@ -111,20 +111,20 @@ unfolding firstBroken
 all-words s i = refl
 
 module _ (s : List ℕ) (i k : ℕ) (here : From s i k) where
-  pub words-end : styleWords ≤ k → firstBroken s i ≡ Good
+  pub words-end : styleWords ≤ k → firstBroken s i ≡ NoWord
   words-end h = here ∙ words-done (item s i) k h
 
   pub word-on : k < styleWords → breaksRule (item s i) k ≡ false → From s i (k + 1)
   word-on h e = here ∙ word-good (item s i) k h e
 
-  pub word-stop : k < styleWords → breaksRule (item s i) k ≡ true → firstBroken s i ≡ Bad k
+  pub word-stop : k < styleWords → breaksRule (item s i) k ≡ true → firstBroken s i ≡ Word k
   word-stop h e = here ∙ word-bad (item s i) k h e
 
   module _ (f : Field) (from to : ℕ) (alike : TakenAs f from to) (p : from ≤ k) (q : k < to) (h : k < afterLengths) (even : k % lengthWords ≡ 0) where
     pub tag-on : takes f (item s i k) ≡ true → From s i (k + lengthWords)
     tag-on e = here ∙ tag-good (item s i) k h even (alike k p q _ ∙ e)
 
-    pub tag-stop : takes f (item s i k) ≡ false → firstBroken s i ≡ Bad k
+    pub tag-stop : takes f (item s i k) ≡ false → firstBroken s i ≡ Word k
     tag-stop e = here ∙ tag-bad (item s i) k h even (alike k p q _ ∙ e)
 
 -- ---- a table's items, one by one
@@ -136,11 +136,11 @@ items-over : (i n : ℕ) → n ≤ i → n - i ≡ 0
 items-over i n h = omega arith
 
 module _ (s : List ℕ) (i n : ℕ) (h : i < n) where
-  pub item-bad : {k : ℕ} → firstBroken s i ≡ Bad k → checkedFrom s (n - i) i ≡ table.Bad i k
+  pub item-bad : {k : ℕ} → firstBroken s i ≡ Word k → checkedFrom s (n - i) i ≡ table.Bad i k
   unfolding checkedFrom orRest
   item-bad e = rw (item-turn i n h) (rw e refl)
 
-  pub item-good : firstBroken s i ≡ Good → checkedFrom s (n - i) i ≡ checkedFrom s (n - (i + 1)) (i + 1)
+  pub item-good : firstBroken s i ≡ NoWord → checkedFrom s (n - i) i ≡ checkedFrom s (n - (i + 1)) (i + 1)
   unfolding checkedFrom orRest
   item-good e = rw (item-turn i n h) (rw e refl)
 

@@ -52,7 +52,7 @@ unfolding presentCode ratioBits
 ratio-back None f = refl
 ratio-back (Some x) f = ap (λ (y : Float). Some y) (ofBits-toBits binary32 x f)
 
-present-keyword : (k : AlignItemsKeyword) → eqb (keywordCode k) 10 ≡ false
+pub present-keyword : (k : AlignItemsKeyword) → eqb (keywordCode k) 10 ≡ false
 unfolding keywordCode
 present-keyword keyword.Normal = refl
 present-keyword keyword.Start = refl

@@ -23,26 +23,6 @@ breaksAs keyword before w = ltb 10 w
 breaksAs safety before w = safetyBreaks before w
 breaksAs contain before w = ltb 255 w
 
--- the last word of a kind that no rule of codes is broken by; of a tag or a float it is the last of all
-unfoldable pub lastCode : Kind → ℕ
-lastCode (tag f) = 4294967295
-lastCode number = 4294967295
-lastCode (upTo last) = last
-lastCode ratio = 4294967295
-lastCode keyword = 10
-lastCode safety = 2
-lastCode contain = 255
-
--- whether a word is the safety of an absent keyword, the word before it
-unfoldable pub isIgnored : Kind → ℕ → Bool
-isIgnored (tag f) before = false
-isIgnored number before = false
-isIgnored (upTo last) before = false
-isIgnored ratio before = false
-isIgnored keyword before = false
-isIgnored safety before = eqb before 10
-isIgnored contain before = false
-
 -- whether word k of a record breaks a rule
 unfoldable pub breaksRule : (ℕ → ℕ) → ℕ → Bool
 breaksRule r k = breaksAs (kindOf k) (r (k - 1)) (r k)
@@ -53,13 +33,13 @@ breaks s i k = breaksRule (item s i) k
 
 -- what is found in an item's words: nothing, or the first word that breaks a rule
 pub data ItemCheck : Type 0 where
-  Good : ItemCheck
-  Bad : ℕ → ItemCheck
+  NoWord : ItemCheck
+  Word : ℕ → ItemCheck
 
 -- the first of the n words of a record from word k on that breaks a rule
 unfoldable pub firstFrom : (ℕ → ℕ) → ℕ → ℕ → ItemCheck
-firstFrom r zero k = Good
-firstFrom r (suc n) k = cond (breaksRule r k) (Bad k) (firstFrom r n (k + 1))
+firstFrom r zero k = NoWord
+firstFrom r (suc n) k = cond (breaksRule r k) (Word k) (firstFrom r n (k + 1))
 
 -- the first of an item's words that breaks a rule
 unfoldable pub firstBroken : List ℕ → ℕ → ItemCheck
@@ -67,8 +47,8 @@ firstBroken s i = firstFrom (item s i) styleWords 0
 
 -- what an item's check finds, or else what the rest's does
 unfoldable pub orRest : ℕ → ItemCheck → TableCheck → TableCheck
-orRest i Good rest = rest
-orRest i (Bad k) rest = table.Bad i k
+orRest i NoWord rest = rest
+orRest i (Word k) rest = table.Bad i k
 
 -- the first of the n items from item i on with a word that breaks a rule, and its first such word
 unfoldable pub checkedFrom : List ℕ → ℕ → ℕ → TableCheck

@@ -1,12 +1,12 @@
 -- What the definitions of this crate mean, as statements. `proofs/Laws.antt` and `proofs/Front.antt` prove each, under its name in small letters.
 -- `fits binary32 x` says that x is a value of an f32: true of every f32 of a program. Assumes nothing.
 use Prim.Native.Nat.{ℕ, _+_, _*_, _<_, _≤_}
-use mathlib.Core.Logic.{_⊎_}
+use mathlib.Core.Logic.{_⊎_, _↔_}
 use mathlib.Core.Path.{_≡_}
-use mathlib.Core.Bool.{true, false}
+use mathlib.Core.Bool.{true, false, not, _&&_}
 use mathlib.Core.List.{List, _++_}
 use lib.ListN.{getD, length}
-use lib.Dec.{T}
+use lib.Dec.{T, ltb}
 use lib.Ieee.{fits, binary32}
 use Rattle.util.specs.declared.math.MaybeF32.{MaybeF32}
 use Rattle.util.specs.declared.math.MaybeF32.the-variants.{None, Some}
@@ -14,8 +14,11 @@ use Rattle.style.specs.declared.compact_length.LengthRect.{LengthRect}
 use Rattle.style.specs.declared.compact_length.LengthSize.{LengthSize}
 use Rattle.style.specs.declared.Style.{Style}
 use Rattle.style.specs.declared.resolve.Field.{Field}
-use Rattle.style_record.specs.Record.{lengthWords, codeWords, styleWords, lengthKinds, codeKinds, items}
-use Rattle.style_record.specs.Check.{breaks, Good, firstBroken, checked}
+use Rattle.style.specs.declared.resolve.Field.the-variants.{InsetOrMargin, PaddingOrBorder, Size, MinOrMax}
+use Rattle.style.specs.Laws.{tagsOf, among}
+use Rattle.style_record.specs.Record.{lengthWords, codeWords, afterLengths, styleWords, lengthKinds, codeKinds, kindOf, items}
+use Rattle.style_record.specs.Check.{breaksAs, breaks, NoWord, firstBroken, checked}
+use Rattle.style_record.specs.Codes.{lastCode, isIgnored}
 use Rattle.style_record.specs.Decode.{styleOf, styleAt}
 use Rattle.style_record.specs.Encode.{encoded, kept}
 use Rattle.style_record.specs.declared.check.TableCheck.{TableCheck}
@@ -46,7 +49,7 @@ pub record First (s : List ℕ) (i k : ℕ) : Type 0 where
 
 -- an item is good exactly where none of its words breaks a rule
 abbrev pub ItemGoodIsNone : Type 0
-ItemGoodIsNone = (s : List ℕ) (i : ℕ) → (firstBroken s i ≡ Good → AllGood s i) × (AllGood s i → firstBroken s i ≡ Good)
+ItemGoodIsNone = (s : List ℕ) (i : ℕ) → (firstBroken s i ≡ NoWord → AllGood s i) × (AllGood s i → firstBroken s i ≡ NoWord)
 
 -- a table is good exactly where no word of it breaks a rule
 abbrev pub GoodIsNone : Type 0
@@ -59,6 +62,37 @@ BadIsFirst = (s : List ℕ) (i k : ℕ) → (checked s ≡ table.Bad i k → Fir
 -- where some word of some item breaks a rule, there is a first one
 abbrev pub SomeIsFound : Type 0
 SomeIsFound = (s : List ℕ) (i k : ℕ) → i < items s → k < styleWords → breaks s i k ≡ true → (j : ℕ) × (l : ℕ) × (checked s ≡ table.Bad j l)
+
+-- as the code tests them, the words after the lengths break their rules
+abbrev pub CodesByTheLast : Type 0
+CodesByTheLast =
+    (k before w : ℕ) → afterLengths ≤ k → k < styleWords → w < 4294967296
+    → breaksAs (kindOf k) before w ≡ ltb (lastCode (kindOf k)) w && not (isIgnored (kindOf k) before)
+
+-- a style's tags, each one that its field takes (document 01, "Tags"), by the fields' names
+pub record TagsOfRect (f : Field) (r : LengthRect) : Type 0 where
+  pub left : among (tagsOf f) (r .left .tag) ≡ true
+  pub right : among (tagsOf f) (r .right .tag) ≡ true
+  pub top : among (tagsOf f) (r .top .tag) ≡ true
+  pub bottom : among (tagsOf f) (r .bottom .tag) ≡ true
+
+pub record TagsOfSize (f : Field) (s : LengthSize) : Type 0 where
+  pub width : among (tagsOf f) (s .width .tag) ≡ true
+  pub height : among (tagsOf f) (s .height .tag) ≡ true
+
+pub record TagsOfStyle (y : Style) : Type 0 where
+  pub inset : TagsOfRect InsetOrMargin (y .inset)
+  pub margin : TagsOfRect InsetOrMargin (y .margin)
+  pub padding : TagsOfRect PaddingOrBorder (y .padding)
+  pub border : TagsOfRect PaddingOrBorder (y .border)
+  pub size : TagsOfSize Size (y .size)
+  pub min : TagsOfSize MinOrMax (y .min)
+  pub max : TagsOfSize MinOrMax (y .max)
+
+-- a style, written as a record, breaks no rule exactly where each tag is its field's: its floats may be any, and every value of its codes has
+-- a code that is allowed. So which rule stands at which word is fixed by the fields' names
+abbrev pub WrittenIsGood : Type 0
+WrittenIsGood = (y : Style) → (checked (encoded y) ≡ table.Good) ↔ TagsOfStyle y
 
 -- the first item wins over the first word: any word that breaks a rule is of a later item than the word found, or of its item and not before it
 abbrev pub FirstItemWins : Type 0
@@ -95,7 +129,7 @@ PartIsPassedOver = (s t : List ℕ) (n : ℕ) → length s ≡ styleWords * n �
 
 -- an item that breaks no rule, decoded and written again
 abbrev pub EachWordIsRead : Type 0
-EachWordIsRead = (s : List ℕ) (i : ℕ) → firstBroken s i ≡ Good → encoded (styleAt s i) ≡ kept s i
+EachWordIsRead = (s : List ℕ) (i : ℕ) → firstBroken s i ≡ NoWord → encoded (styleAt s i) ≡ kept s i
 
 pub record FitsLengthRect (r : LengthRect) : Type 0 where
   pub left : T (fits binary32 (r .left .value))

@@ -31,13 +31,16 @@ TagRows =
     -- tag 2 is no field's; 257 is no tag 1
     × (checked (put 0 2 plain) ≡ Bad 0 0)
     × (checked (put 4 257 plain) ≡ Bad 0 4)
-    -- auto: in a margin, not in padding or border
-    × (checked (put 8 3 plain) ≡ Good)
+    -- auto: in insets and margins, not in padding or border
+    × (checked (put 0 3 (put 6 3 (put 8 3 (put 14 3 plain)))) ≡ Good)
     × (checked (put 16 3 plain) ≡ Bad 0 16)
+    × (checked (put 22 3 plain) ≡ Bad 0 22)
+    × (checked (put 24 3 plain) ≡ Bad 0 24)
     × (checked (put 30 3 plain) ≡ Bad 0 30)
-    -- min-content: in the size, min and max, not in a margin
+    -- min-content: in the size, min and max, not in an inset or a margin
+    × (checked (put 0 11 plain) ≡ Bad 0 0)
     × (checked (put 14 11 plain) ≡ Bad 0 14)
-    × (checked (put 32 11 (put 36 11 (put 42 11 plain))) ≡ Good)
+    × (checked (put 32 11 (put 34 11 (put 36 11 (put 38 11 (put 40 11 (put 42 11 plain)))))) ≡ Good)
     × (checked (put 36 2 plain) ≡ Bad 0 36)
     -- a value may be any bits
     × (checked (put 1 nan plain) ≡ Good)
@@ -46,15 +49,17 @@ TagRows =
 
 abbrev pub CodeRows : Type 0
 CodeRows =
-    -- ratio present; the ratio is any bits
+    -- ratio present; the ratio is any bits, present or not
     (checked (put 44 2 plain) ≡ Bad 0 44)
     × (checked (put 44 1 (put 45 nan plain)) ≡ Good)
+    × (checked (put 45 nan plain) ≡ Good)
     -- box sizing, flags, direction
+    × (checked (put 46 1 (put 47 3 (put 48 1 plain))) ≡ Good)
     × (checked (put 46 2 plain) ≡ Bad 0 46)
-    × (checked (put 47 3 plain) ≡ Good)
     × (checked (put 47 4 plain) ≡ Bad 0 47)
     × (checked (put 48 2 plain) ≡ Bad 0 48)
     -- overflow x, overflow y
+    × (checked (put 53 3 (put 54 3 plain)) ≡ Good)
     × (checked (put 53 4 plain) ≡ Bad 0 53)
     × (checked (put 54 4 plain) ≡ Bad 0 54)
     -- scrollbar width, contain
@@ -65,14 +70,16 @@ CodeRows =
 -- a keyword and its safety: words 49 and 50, 51 and 52
 abbrev pub SafetyRows : Type 0
 SafetyRows =
-    -- no keyword: it is named, its safety isn't
+    -- 11 is no keyword's code: it is named, not the safety behind it
     (checked (put 49 11 (put 50 7 plain)) ≡ Bad 0 49)
-    -- keyword 10 is absent: its safety is ignored
+    × (checked (put 51 11 plain) ≡ Bad 0 51)
+    -- keyword 10 is absent: its safety is ignored, the other's isn't
     × (checked (put 49 10 (put 50 7 plain)) ≡ Good)
     × (checked (put 51 10 (put 52 7 plain)) ≡ Good)
-    -- not another's
     × (checked (put 49 10 (put 52 7 plain)) ≡ Bad 0 52)
-    × (checked (put 49 9 (put 50 2 plain)) ≡ Good)
+    × (checked (put 51 10 (put 50 7 plain)) ≡ Bad 0 50)
+    -- the last safety is 2
+    × (checked (put 49 9 (put 50 2 (put 51 9 (put 52 2 plain)))) ≡ Good)
     × (checked (put 49 9 (put 50 3 plain)) ≡ Bad 0 50)
     × (checked (put 51 9 (put 52 3 plain)) ≡ Bad 0 52)
 

@@ -3,7 +3,8 @@ ghost use mathlib.Core.Path.{_≡_};
 ghost use Prim.Native.Nat.{_+_, _-_, _≤_, _<_};
 ghost use lib.ListN.{length};
 ghost use Rattle.style_record.specs.Record.{afterLengths, styleWords, kindOf, wordsFrom};
-ghost use Rattle.style_record.specs.Check.{lastCode, isIgnored, breaksRule, checked};
+ghost use Rattle.style_record.specs.Check.{breaksRule, checked};
+ghost use Rattle.style_record.specs.Codes.{lastCode, isIgnored};
 use crate::words;
 use style::resolve::Field;
 
@@ -59,9 +60,9 @@ fn code_breaks(styles: &[u32], at: usize, k: usize) -> bool
     !is_ignored(styles, at, k)
 }
 
-// The whole table, items that nobody names included, up to the first word that breaks a rule; a trailing part of a record is not
-// looked at. An item's tags are walked as document 01 has them: insets and margins, padding and borders, then the sizes, of which min and
-// max take what the size does.
+// The whole table, items that no candidate refers to included, up to the first word that breaks a rule; a trailing part of a record is
+// not looked at. An item's tags are walked as document 01 has them: insets and margins, padding and borders, then the sizes, of which min
+// and max take what the size does. The walk is left at item i and word k, or i reaches n.
 pub fn check_styles(styles: &[u32]) -> TableCheck
     ensures { λ r. ⌜ r ≡ checked (now (styles .entry)) ⌝ }
 {

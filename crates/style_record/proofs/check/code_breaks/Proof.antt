@@ -28,8 +28,10 @@ last-code-requires c κs = search needs
 returns : tie.Need-returns
 returns c =
     let start = c .before .before .before .before in
+    let k = start .args .k in
     let r = wordsFrom (start .args .styles .now) (start .args .at) in
-    sym (held r (start .args .k) (start .pre .1 .0) (start .pre .1 .1) (subst (λ (m : ℕ). r (start .args .k) ≤ m) (c .before .last-code .ensures) (c .if1 .taken)))
+    let word = c .before .before .shared-slice-known2 .given (start .args .at + k) in
+    sym (held r k (start .pre .1 .0) (start .pre .1 .1) (omega (arith, word)) (subst (λ (m : ℕ). r k ≤ m) (c .before .last-code .ensures) (c .if1 .taken)))
 
 is-ignored-requires : tie.Need-is-ignored-requires
 is-ignored-requires c κs = search needs
@@ -37,10 +39,11 @@ is-ignored-requires c κs = search needs
 returns-2 : tie.Need-returns-2
 returns-2 c =
     let start = c .before .before .before .before .before in
+    let k = start .args .k in
     let r = wordsFrom (start .args .styles .now) (start .args .at) in
-    let word = c .before .before .before .shared-slice-known2 .given (start .args .at + start .args .k) in
+    let word = c .before .before .before .shared-slice-known2 .given (start .args .at + k) in
     ap not (c .is-ignored .ensures)
-    ∙ above r (start .args .k) (start .pre .1 .0) (start .pre .1 .1) (subst (λ (m : ℕ). m < r (start .args .k)) (c .before .before .last-code .ensures) (c .before .if1 .left)) (omega (arith, word))
+    ∙ sym (above r k (start .pre .1 .0) (start .pre .1 .1) (omega (arith, word)) (subst (λ (m : ℕ). m < r k) (c .before .before .last-code .ensures) (c .before .if1 .left)))
 
 pub code-breaks-spec : {M : Type 1} → statement M
 code-breaks-spec =

@@ -4,7 +4,7 @@ use borrow.Author.Tests.{ne-eqb}
 use mathlib.Core.Bool.{false}
 use mathlib.Core.Path.{_≡_, refl, sym, _∙_}
 use Rattle.style_record.specs.Record.{kindOf, codeKinds, wordsFrom}
-use Rattle.style_record.specs.Check.{isIgnored}
+use Rattle.style_record.specs.Codes.{isIgnored}
 use Rattle.style_record.proofs.Codes.{ignoredOf, ignored-of}
 use Rattle.style_record.proofs.check.is_ignored.Statement.{statement}
 use Rattle.style_record.proofs.check.is_ignored.Tie as tie

@@ -2,7 +2,7 @@
 use borrow.Author.Tests.{ne-eqb}
 use mathlib.Core.Path.{_≡_, refl, sym, _∙_}
 use Rattle.style_record.specs.Record.{kindOf, codeKinds}
-use Rattle.style_record.specs.Check.{lastCode}
+use Rattle.style_record.specs.Codes.{lastCode}
 use Rattle.style_record.proofs.Codes.{lastOf, last-of}
 use Rattle.style_record.proofs.check.last_code.Statement.{statement}
 use Rattle.style_record.proofs.check.last_code.Tie as tie
