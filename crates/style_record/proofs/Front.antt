@@ -120,9 +120,16 @@ module _ (s t : List ℕ) (n : ℕ) (whole : length s ≡ styleWords * n) where
   all-front : NoneBreaks s → (h : ℕ) → h < n → AllGood (s ++ t) h
   all-front a h p l q = front-breaks h l p q ∙ a h (subst (λ (x : ℕ). h < x) (sym items-front) p) l q
 
-  all-behind : NoneBreaks t → (h : ℕ) → h < items (s ++ t) → n ≤ h → AllGood (s ++ t) h
-  all-behind a h p q l r =
-      ap (λ (x : ℕ). breaks (s ++ t) x l) (split n h q) ∙ behind-breaks (h - n) l ∙ a (h - n) (left n h (items t) q (subst (λ (x : ℕ). h < x) items-both p)) l r
+  all-behind : (h : ℕ) → n ≤ h → AllGood t (h - n) → AllGood (s ++ t) h
+  all-behind h q a l r = ap (λ (x : ℕ). breaks (s ++ t) x l) (split n h q) ∙ behind-breaks (h - n) l ∙ a l r
+
+  -- an item of both is one of the front, or one behind it
+  either : (h : ℕ) → NoneBreaks s → (n ≤ h → AllGood t (h - n)) → AllGood (s ++ t) h
+  either h a b = go (ltb h n) refl
+    where
+      go : (x : Bool) → ltb h n ≡ x → AllGood (s ++ t) h
+      go true q = all-front a h (ltb-true h n q)
+      go false q = all-behind h (ltb-false h n q) (b (ltb-false h n q))
 
   next : (c d : TableCheck) → TableIs s c → TableIs t d → checked s ≡ c → checked (s ++ t) ≡ orBehind n c d
   next _ d (bad i k f) v e =
@@ -137,11 +144,8 @@ module _ (s t : List ℕ) (n : ℕ) (whole : length s ≡ styleWords * n) where
 
       within : (i j k : ℕ) → j ≤ styleWords * i + k → k < styleWords → i < n → j < styleWords * n
       within i j k p q r = omega arith
-  next _ _ (good a) (good b) e = good-is-none (s ++ t) .1 (λ h p. either h p (ltb h n) refl)
-    where
-      either : (h : ℕ) → h < items (s ++ t) → (x : Bool) → ltb h n ≡ x → AllGood (s ++ t) h
-      either h p true q = all-front a h (ltb-true h n q)
-      either h p false q = all-behind b h p (ltb-false h n q)
+  next _ _ (good a) (good b) e =
+      good-is-none (s ++ t) .1 (λ h p. either h a (λ q. b (h - n) (left n h (items t) q (subst (λ (x : ℕ). h < x) items-both p))))
   next _ _ (good a) (bad i k f) e =
       bad-is-first (s ++ t) (n + i) k .1
       (record {
@@ -149,16 +153,11 @@ module _ (s t : List ℕ) (n : ℕ) (whole : length s ≡ styleWords * n) where
         word-there = f .word-there;
         breaks-it = behind-breaks i k ∙ f .breaks-it;
         words-before = λ j p. behind-breaks i j ∙ f .words-before j p;
-        items-before = λ h p l q. either h p l q (ltb h n) refl;
+        items-before = λ h p. either h a (λ q. f .items-before (h - n) (left n h i q p));
       })
     where
       on : (i m : ℕ) → i < m → n + i < n + m
       on i m p = omega arith
-
-      either : (h : ℕ) → h < n + i → (l : ℕ) → l < styleWords → (x : Bool) → ltb h n ≡ x → breaks (s ++ t) h l ≡ false
-      either h p l r true q = all-front a h (ltb-true h n q) l r
-      either h p l r false q =
-          ap (λ (x : ℕ). breaks (s ++ t) x l) (split n h (ltb-false h n q)) ∙ behind-breaks (h - n) l ∙ f .items-before (h - n) (left n h i (ltb-false h n q) p) l r
 
 pub behind-is-next : BehindIsNext
 behind-is-next s t n whole = next s t n whole (checked s) (checked t) (table-is s) (table-is t) refl

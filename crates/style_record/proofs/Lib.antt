@@ -6,4 +6,4 @@ pub mod First
 pub mod Written
 pub mod Laws
 pub mod Front
-pub mod Named
+pub mod Fields

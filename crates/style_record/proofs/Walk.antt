@@ -14,26 +14,28 @@ use Rattle.style_record.specs.Record.{tag, number, kindOf, lengthKinds, 
 use Rattle.style_record.specs.Check.{breaksAs, breaksRule, NoWord, Word, firstFrom, orRest, firstBroken, checkedFrom}
 use Rattle.style_record.specs.declared.check.TableCheck.the-variants as table
 
--- ---- a record's words, one by one
+-- ---- n numbers, one by one
 
-word-turn : (k : ℕ) → k < styleWords → styleWords - k ≡ suc (styleWords - (k + 1))
-word-turn k h = omega arith
+turn : (n i : ℕ) → i < n → n - i ≡ suc (n - (i + 1))
+turn n i h = omega arith
 
-words-over : (k : ℕ) → styleWords ≤ k → styleWords - k ≡ 0
-words-over k h = omega arith
+over : (n i : ℕ) → n ≤ i → n - i ≡ 0
+over n i h = omega arith
+
+-- ---- a record's words
 
 module _ (r : ℕ → ℕ) (k : ℕ) where
   word-bad : k < styleWords → breaksRule r k ≡ true → firstFrom r (styleWords - k) k ≡ Word k
   unfolding firstFrom
-  word-bad h e = rw (word-turn k h) (rw e refl)
+  word-bad h e = rw (turn styleWords k h) (rw e refl)
 
   word-good : k < styleWords → breaksRule r k ≡ false → firstFrom r (styleWords - k) k ≡ firstFrom r (styleWords - (k + 1)) (k + 1)
   unfolding firstFrom
-  word-good h e = rw (word-turn k h) (rw e refl)
+  word-good h e = rw (turn styleWords k h) (rw e refl)
 
   words-done : styleWords ≤ k → firstFrom r (styleWords - k) k ≡ NoWord
   unfolding firstFrom
-  words-done h = rw (words-over k h) refl
+  words-done h = rw (over styleWords k h) refl
 
 -- ---- a length starts with its tag, and no other word of it breaks a rule
 
@@ -78,27 +80,41 @@ module _ (r : ℕ → ℕ) (k : ℕ) (h : k < afterLengths) (even : k % lengthWo
       word-good r k (below k h) (tag-rule ∙ ap not e) ∙ word-good r (k + 1) (next-below k h) value-rule
       ∙ ap (λ (j : ℕ). firstFrom r (styleWords - j) j) (two-on k)
 
--- ---- what the tags from one word to another are held to
+-- ---- the tags from one word to another, all held to one field
 
-abbrev pub TakenAs : Field → ℕ → ℕ → Type 0
+abbrev TakenAs : Field → ℕ → ℕ → Type 0
 TakenAs f from to = (k : ℕ) → from ≤ k → k < to → (w : ℕ) → takes (lengthField (k / lengthWords)) w ≡ takes f w
 
-pub insets-and-margins : TakenAs field.InsetOrMargin 0 (8 * lengthWords)
-unfolding lengthField
-insets-and-margins k p q w = rw (lt-ltb (k / lengthWords) 8 (omega arith)) refl
+pub record Stretch (f : Field) (from to : ℕ) : Type 0 where
+  pub taken : TakenAs f from to
+  pub ends : to % lengthWords ≡ 0
+  pub inside : to ≤ afterLengths
 
-pub padding-and-borders : TakenAs field.PaddingOrBorder (8 * lengthWords) (16 * lengthWords)
+pub insets-and-margins : Stretch field.InsetOrMargin 0 (8 * lengthWords)
 unfolding lengthField
-padding-and-borders k p q w = rw (le-ltb (k / lengthWords) 8 (omega arith), lt-ltb (k / lengthWords) 16 (omega arith)) refl
+insets-and-margins = record { taken = held; ends = refl; inside = omega arith }
+  where
+    held : TakenAs field.InsetOrMargin 0 (8 * lengthWords)
+    held k p q w = rw (lt-ltb (k / lengthWords) 8 (omega arith)) refl
+
+pub padding-and-borders : Stretch field.PaddingOrBorder (8 * lengthWords) (16 * lengthWords)
+unfolding lengthField
+padding-and-borders = record { taken = held; ends = refl; inside = omega arith }
+  where
+    held : TakenAs field.PaddingOrBorder (8 * lengthWords) (16 * lengthWords)
+    held k p q w = rw (le-ltb (k / lengthWords) 8 (omega arith), lt-ltb (k / lengthWords) 16 (omega arith)) refl
 
 -- min and max take what the size does
-pub sizes : TakenAs field.Size (16 * lengthWords) afterLengths
+pub sizes : Stretch field.Size (16 * lengthWords) afterLengths
 unfolding lengthField
-sizes k p q w = rw (le-ltb (k / lengthWords) 8 (omega arith), le-ltb (k / lengthWords) 16 (omega arith)) (alike (ltb (k / lengthWords) 18))
+sizes = record { taken = held; ends = refl; inside = omega arith }
   where
-    alike : (b : Bool) → takes (cond b field.Size field.MinOrMax) w ≡ takes field.Size w
-    alike true = refl
-    alike false = takes-its-tags field.MinOrMax w ∙ sym (takes-its-tags field.Size w)
+    alike : (b : Bool) (w : ℕ) → takes (cond b field.Size field.MinOrMax) w ≡ takes field.Size w
+    alike true w = refl
+    alike false w = takes-its-tags field.MinOrMax w ∙ sym (takes-its-tags field.Size w)
+
+    held : TakenAs field.Size (16 * lengthWords) afterLengths
+    held k p q w = rw (le-ltb (k / lengthWords) 8 (omega arith), le-ltb (k / lengthWords) 16 (omega arith)) (alike (ltb (k / lengthWords) 18) w)
 
 -- ---- an item's words, from one on
 
@@ -120,30 +136,54 @@ module _ (s : List ℕ) (i k : ℕ) (here : From s i k) where
   pub word-stop : k < styleWords → breaksRule (item s i) k ≡ true → firstBroken s i ≡ Word k
   word-stop h e = here ∙ word-bad (item s i) k h e
 
-  module _ (f : Field) (from to : ℕ) (alike : TakenAs f from to) (p : from ≤ k) (q : k < to) (h : k < afterLengths) (even : k % lengthWords ≡ 0) where
-    pub tag-on : takes f (item s i k) ≡ true → From s i (k + lengthWords)
-    tag-on e = here ∙ tag-good (item s i) k h even (alike k p q _ ∙ e)
+-- a tag of a stretch is reached
+abbrev pub Tags : ℕ → ℕ → List ℕ → ℕ → ℕ → Type 0
+Tags from to s i k = (from ≤ k) × (k ≤ to) × (k % lengthWords ≡ 0) × From s i k
 
-    pub tag-stop : takes f (item s i k) ≡ false → firstBroken s i ≡ Word k
-    tag-stop e = here ∙ tag-bad (item s i) k h even (alike k p q _ ∙ e)
+-- the stretch is over, and the next begins
+pub next-tags : (from to end : ℕ) (s : List ℕ) (i k : ℕ) → to ≤ end → Tags from to s i k → to ≤ k → Tags to end s i k
+next-tags from to end s i k p here h = (h, omega arith, here .2, here .3)
 
--- ---- a table's items, one by one
+module _ (f : Field) (from to : ℕ) (stretch : Stretch f from to) (s : List ℕ) (i k : ℕ) (here : Tags from to s i k) (h : k < to) where
+  below-end : k < afterLengths
+  below-end = let p = stretch .inside in omega arith
 
-item-turn : (i n : ℕ) → i < n → n - i ≡ suc (n - (i + 1))
-item-turn i n h = omega arith
+  pub tag-on : takes f (item s i k) ≡ true → Tags from to s i (k + lengthWords)
+  tag-on e =
+      (later, within (stretch .ends) (here .2), even (here .2), here .3 ∙ tag-good (item s i) k below-end (here .2) (stretch .taken k (here .0) h _ ∙ e))
+    where
+      later : from ≤ k + lengthWords
+      later = let p = here .0 in omega arith
 
-items-over : (i n : ℕ) → n ≤ i → n - i ≡ 0
-items-over i n h = omega arith
+      within : to % lengthWords ≡ 0 → k % lengthWords ≡ 0 → k + lengthWords ≤ to
+      within a b = omega arith
+
+      even : k % lengthWords ≡ 0 → (k + lengthWords) % lengthWords ≡ 0
+      even a = omega arith
+
+  pub tag-stop : takes f (item s i k) ≡ false → firstBroken s i ≡ Word k
+  tag-stop e = here .3 ∙ tag-bad (item s i) k below-end (here .2) (stretch .taken k (here .0) h _ ∙ e)
+
+-- a test of `!b`
+pub was-true : (b : Bool) → not b ≡ false → b ≡ true
+was-true true e = refl
+was-true false e = sym e
+
+pub was-false : (b : Bool) → not b ≡ true → b ≡ false
+was-false true e = sym e
+was-false false e = refl
+
+-- ---- a table's items
 
 module _ (s : List ℕ) (i n : ℕ) (h : i < n) where
   pub item-bad : {k : ℕ} → firstBroken s i ≡ Word k → checkedFrom s (n - i) i ≡ table.Bad i k
   unfolding checkedFrom orRest
-  item-bad e = rw (item-turn i n h) (rw e refl)
+  item-bad e = rw (turn n i h) (rw e refl)
 
   pub item-good : firstBroken s i ≡ NoWord → checkedFrom s (n - i) i ≡ checkedFrom s (n - (i + 1)) (i + 1)
   unfolding checkedFrom orRest
-  item-good e = rw (item-turn i n h) (rw e refl)
+  item-good e = rw (turn n i h) (rw e refl)
 
 pub items-done : (s : List ℕ) (i n : ℕ) → n ≤ i → checkedFrom s (n - i) i ≡ table.Good
 unfolding checkedFrom
-items-done s i n h = rw (items-over i n h) refl
+items-done s i n h = rw (over n i h) refl

@@ -1,12 +1,11 @@
 -- Generated skeleton (tools/proof/write-skeletons), answers by hand.
-use Rattle.style_record.proofs.Walk.{From, all-words, words-end, word-on, word-stop, tag-on, tag-stop, insets-and-margins, padding-and-borders, sizes, item-bad, item-good, items-done}
+use Rattle.style_record.proofs.Walk.{From, all-words, words-end, word-on, word-stop, Tags, next-tags, tag-on, tag-stop, insets-and-margins, padding-and-borders, sizes, was-true, was-false, item-bad, item-good, items-done}
 use Rattle.style_record.specs.Check.{checked, checkedFrom}
 use Rattle.style_record.specs.Record.{lengthWords, afterLengths, styleWords, items}
 use native.Mathlib.Nat.{sub-zero}
 use native.Mathlib.Omega.{arith}
 use mathlib.Core.Logic.{⊎-elim}
-use mathlib.Core.Bool.{Bool, true, false, not}
-use mathlib.Core.Path.{_≡_, refl, sym, _∙_}
+use mathlib.Core.Path.{_≡_, sym, _∙_}
 use Prim.Native.Nat.{_*_, _-_, _%_, _≤_}
 use borrow.Author.Needs.{needs}
 use Rattle.style.specs.declared.resolve.Field.the-variants as field
@@ -17,24 +16,15 @@ use Rattle.style_record.proofs.check.check_styles.Lts as lts
 use Rattle.style.proofs.resolve.Field.takes.Reads as takes-reads
 use Rattle.style_record.proofs.check.code_breaks.Reads as code-breaks-reads
 
--- a test of `!b`
-taken : (b : Bool) → not b ≡ false → b ≡ true
-taken true e = refl
-taken false e = sym e
+-- the three walks over tags, and the one over codes
+abbrev Insets : tie.InvT-loop
+Insets styles n i k₀ at k = Tags 0 (8 * lengthWords) styles i k
 
-left : (b : Bool) → not b ≡ true → b ≡ false
-left true e = sym e
-left false e = refl
-
--- the three walks over tags, by the words that they start and end at, and the one over codes
-abbrev Edges : tie.InvT-loop
-Edges styles n i k₀ at k = (k ≤ 8 * lengthWords) × (k % lengthWords ≡ 0) × From styles i k
-
-abbrev Insides : tie.InvT-loop2
-Insides styles n i k₀ at k = (8 * lengthWords ≤ k) × (k ≤ 16 * lengthWords) × (k % lengthWords ≡ 0) × From styles i k
+abbrev Paddings : tie.InvT-loop2
+Paddings styles n i k₀ at k = Tags (8 * lengthWords) (16 * lengthWords) styles i k
 
 abbrev Sizes : tie.InvT-loop3
-Sizes styles n i k₀ at k = (16 * lengthWords ≤ k) × (k ≤ afterLengths) × (k % lengthWords ≡ 0) × From styles i k
+Sizes styles n i k₀ at k = Tags (16 * lengthWords) afterLengths styles i k
 
 abbrev Codes : tie.InvT-loop4
 Codes styles n i k₀ at k = (afterLengths ≤ k) × (k ≤ styleWords) × From styles i k
@@ -49,129 +39,123 @@ abbrev μ : tie.MeasureT-loop
 abbrev μ-items : tie.MeasureT-items
 μ-items styles n i₀ k₀ i k = n - i
 
-items-holds : tie.Need-items-holds Edges μ Insides μ Sizes μ Codes μ Items μ-items
+items-holds : tie.Need-items-holds Insets μ Paddings μ Sizes μ Codes μ Items μ-items
 items-holds c = (search needs, simp sub-zero)
 
-mul-at : tie.Need-mul-at Edges μ Insides μ Sizes μ Codes μ Items μ-items
+mul-at : tie.Need-mul-at Insets μ Paddings μ Sizes μ Codes μ Items μ-items
 mul-at c = search needs
 
-loop-holds : tie.Need-loop-holds Edges μ Insides μ Sizes μ Codes μ Items μ-items
-loop-holds c = (search needs, search needs, all-words _ _)
+loop-holds : tie.Need-loop-holds Insets μ Paddings μ Sizes μ Codes μ Items μ-items
+loop-holds c = (search needs, search needs, search needs, all-words _ _)
 
-add-takes : tie.Need-add-takes Edges μ Insides μ Sizes μ Codes μ Items μ-items
+add-takes : tie.Need-add-takes Insets μ Paddings μ Sizes μ Codes μ Items μ-items
 add-takes c = search needs
 
-mul-takes : tie.Need-mul-takes Edges μ Insides μ Sizes μ Codes μ Items μ-items
+mul-takes : tie.Need-mul-takes Insets μ Paddings μ Sizes μ Codes μ Items μ-items
 mul-takes c = search needs
 
-shared-slice-read-takes : tie.Need-shared-slice-read-takes Edges μ Insides μ Sizes μ Codes μ Items μ-items
+shared-slice-read-takes : tie.Need-shared-slice-read-takes Insets μ Paddings μ Sizes μ Codes μ Items μ-items
 shared-slice-read-takes c = search needs
 
-takes-requires : tie.Need-takes-requires Edges μ Insides μ Sizes μ Codes μ Items μ-items
+takes-requires : tie.Need-takes-requires Insets μ Paddings μ Sizes μ Codes μ Items μ-items
 takes-requires c κs = search needs
 
-add-k : tie.Need-add-k Edges μ Insides μ Sizes μ Codes μ Items μ-items
+add-k : tie.Need-add-k Insets μ Paddings μ Sizes μ Codes μ Items μ-items
 add-k c = search needs
 
-loop-less : tie.Need-loop-less Edges μ Insides μ Sizes μ Codes μ Items μ-items
+loop-less : tie.Need-loop-less Insets μ Paddings μ Sizes μ Codes μ Items μ-items
 loop-less c = search needs
 
-loop-again : tie.Need-loop-again Edges μ Insides μ Sizes μ Codes μ Items μ-items
-loop-again c =
-    let on = tag-on _ _ _ (c .before .before .before .before .loop .inv .2) field.InsetOrMargin _ _ insets-and-margins (omega arith) (c .before .before .before .loop-test .taken) (omega (arith, c .before .before .before .loop-test .taken)) (c .before .before .before .before .loop .inv .1) (sym (c .before .takes .ensures) ∙ taken _ (c .if1 .left)) in
-    (search needs, search needs, on)
+loop-again : tie.Need-loop-again Insets μ Paddings μ Sizes μ Codes μ Items μ-items
+loop-again c = tag-on field.InsetOrMargin _ _ insets-and-margins _ _ _ (c .before .before .before .before .loop .inv) (c .before .before .before .loop-test .taken) (sym (c .before .takes .ensures) ∙ was-true _ (c .if1 .left))
 
-loop2-holds : tie.Need-loop2-holds Edges μ Insides μ Sizes μ Codes μ Items μ-items
-loop2-holds c = (search needs, search needs, search needs, c .before .loop .inv .2)
+loop2-holds : tie.Need-loop2-holds Insets μ Paddings μ Sizes μ Codes μ Items μ-items
+loop2-holds c = next-tags _ _ _ _ _ _ (omega arith) (c .before .loop .inv) (c .loop-test .left)
 
-add-takes-2 : tie.Need-add-takes-2 Edges μ Insides μ Sizes μ Codes μ Items μ-items
+add-takes-2 : tie.Need-add-takes-2 Insets μ Paddings μ Sizes μ Codes μ Items μ-items
 add-takes-2 c = search needs
 
-mul-takes-2 : tie.Need-mul-takes-2 Edges μ Insides μ Sizes μ Codes μ Items μ-items
+mul-takes-2 : tie.Need-mul-takes-2 Insets μ Paddings μ Sizes μ Codes μ Items μ-items
 mul-takes-2 c = search needs
 
-shared-slice-read-takes-2 : tie.Need-shared-slice-read-takes-2 Edges μ Insides μ Sizes μ Codes μ Items μ-items
+shared-slice-read-takes-2 : tie.Need-shared-slice-read-takes-2 Insets μ Paddings μ Sizes μ Codes μ Items μ-items
 shared-slice-read-takes-2 c = search needs
 
-takes-requires-2 : tie.Need-takes-requires-2 Edges μ Insides μ Sizes μ Codes μ Items μ-items
+takes-requires-2 : tie.Need-takes-requires-2 Insets μ Paddings μ Sizes μ Codes μ Items μ-items
 takes-requires-2 c κs = search needs
 
-add-k-2 : tie.Need-add-k-2 Edges μ Insides μ Sizes μ Codes μ Items μ-items
+add-k-2 : tie.Need-add-k-2 Insets μ Paddings μ Sizes μ Codes μ Items μ-items
 add-k-2 c = search needs
 
-loop2-less : tie.Need-loop2-less Edges μ Insides μ Sizes μ Codes μ Items μ-items
+loop2-less : tie.Need-loop2-less Insets μ Paddings μ Sizes μ Codes μ Items μ-items
 loop2-less c = search needs
 
-loop2-again : tie.Need-loop2-again Edges μ Insides μ Sizes μ Codes μ Items μ-items
-loop2-again c =
-    let on = tag-on _ _ _ (c .before .before .before .before .loop2 .inv .3) field.PaddingOrBorder _ _ padding-and-borders (c .before .before .before .before .loop2 .inv .0) (c .before .before .before .loop2-test .taken) (omega (arith, c .before .before .before .loop2-test .taken)) (c .before .before .before .before .loop2 .inv .2) (sym (c .before .takes2 .ensures) ∙ taken _ (c .if2 .left)) in
-    (search needs, search needs, search needs, on)
+loop2-again : tie.Need-loop2-again Insets μ Paddings μ Sizes μ Codes μ Items μ-items
+loop2-again c = tag-on field.PaddingOrBorder _ _ padding-and-borders _ _ _ (c .before .before .before .before .loop2 .inv) (c .before .before .before .loop2-test .taken) (sym (c .before .takes2 .ensures) ∙ was-true _ (c .if2 .left))
 
-loop3-holds : tie.Need-loop3-holds Edges μ Insides μ Sizes μ Codes μ Items μ-items
-loop3-holds c = (search needs, search needs, search needs, c .before .loop2 .inv .3)
+loop3-holds : tie.Need-loop3-holds Insets μ Paddings μ Sizes μ Codes μ Items μ-items
+loop3-holds c = next-tags _ _ _ _ _ _ (omega arith) (c .before .loop2 .inv) (c .loop2-test .left)
 
-add-takes-3 : tie.Need-add-takes-3 Edges μ Insides μ Sizes μ Codes μ Items μ-items
+add-takes-3 : tie.Need-add-takes-3 Insets μ Paddings μ Sizes μ Codes μ Items μ-items
 add-takes-3 c = search needs
 
-mul-takes-3 : tie.Need-mul-takes-3 Edges μ Insides μ Sizes μ Codes μ Items μ-items
+mul-takes-3 : tie.Need-mul-takes-3 Insets μ Paddings μ Sizes μ Codes μ Items μ-items
 mul-takes-3 c = search needs
 
-shared-slice-read-takes-3 : tie.Need-shared-slice-read-takes-3 Edges μ Insides μ Sizes μ Codes μ Items μ-items
+shared-slice-read-takes-3 : tie.Need-shared-slice-read-takes-3 Insets μ Paddings μ Sizes μ Codes μ Items μ-items
 shared-slice-read-takes-3 c = search needs
 
-takes-requires-3 : tie.Need-takes-requires-3 Edges μ Insides μ Sizes μ Codes μ Items μ-items
+takes-requires-3 : tie.Need-takes-requires-3 Insets μ Paddings μ Sizes μ Codes μ Items μ-items
 takes-requires-3 c κs = search needs
 
-add-k-3 : tie.Need-add-k-3 Edges μ Insides μ Sizes μ Codes μ Items μ-items
+add-k-3 : tie.Need-add-k-3 Insets μ Paddings μ Sizes μ Codes μ Items μ-items
 add-k-3 c = search needs
 
-loop3-less : tie.Need-loop3-less Edges μ Insides μ Sizes μ Codes μ Items μ-items
+loop3-less : tie.Need-loop3-less Insets μ Paddings μ Sizes μ Codes μ Items μ-items
 loop3-less c = search needs
 
-loop3-again : tie.Need-loop3-again Edges μ Insides μ Sizes μ Codes μ Items μ-items
-loop3-again c =
-    let on = tag-on _ _ _ (c .before .before .before .before .loop3 .inv .3) field.Size _ _ sizes (c .before .before .before .before .loop3 .inv .0) (c .before .before .before .loop3-test .taken) (omega (arith, c .before .before .before .loop3-test .taken)) (c .before .before .before .before .loop3 .inv .2) (sym (c .before .takes3 .ensures) ∙ taken _ (c .if3 .left)) in
-    (search needs, search needs, search needs, on)
+loop3-again : tie.Need-loop3-again Insets μ Paddings μ Sizes μ Codes μ Items μ-items
+loop3-again c = tag-on field.Size _ _ sizes _ _ _ (c .before .before .before .before .loop3 .inv) (c .before .before .before .loop3-test .taken) (sym (c .before .takes3 .ensures) ∙ was-true _ (c .if3 .left))
 
-loop4-holds : tie.Need-loop4-holds Edges μ Insides μ Sizes μ Codes μ Items μ-items
+loop4-holds : tie.Need-loop4-holds Insets μ Paddings μ Sizes μ Codes μ Items μ-items
 loop4-holds c = (search needs, search needs, c .before .loop3 .inv .3)
 
-code-breaks-requires : tie.Need-code-breaks-requires Edges μ Insides μ Sizes μ Codes μ Items μ-items
+code-breaks-requires : tie.Need-code-breaks-requires Insets μ Paddings μ Sizes μ Codes μ Items μ-items
 code-breaks-requires c κs = search needs
 
-add-k-4 : tie.Need-add-k-4 Edges μ Insides μ Sizes μ Codes μ Items μ-items
+add-k-4 : tie.Need-add-k-4 Insets μ Paddings μ Sizes μ Codes μ Items μ-items
 add-k-4 c = search needs
 
-loop4-less : tie.Need-loop4-less Edges μ Insides μ Sizes μ Codes μ Items μ-items
+loop4-less : tie.Need-loop4-less Insets μ Paddings μ Sizes μ Codes μ Items μ-items
 loop4-less c = search needs
 
-loop4-again : tie.Need-loop4-again Edges μ Insides μ Sizes μ Codes μ Items μ-items
+loop4-again : tie.Need-loop4-again Insets μ Paddings μ Sizes μ Codes μ Items μ-items
 loop4-again c = (search needs, search needs, word-on _ _ _ (c .before .before .before .loop4 .inv .2) (c .before .before .loop4-test .taken) (sym (c .before .code-breaks .ensures) ∙ c .if4 .left))
 
-add-i : tie.Need-add-i Edges μ Insides μ Sizes μ Codes μ Items μ-items
+add-i : tie.Need-add-i Insets μ Paddings μ Sizes μ Codes μ Items μ-items
 add-i c = search needs
 
-items-less : tie.Need-items-less Edges μ Insides μ Sizes μ Codes μ Items μ-items
+items-less : tie.Need-items-less Insets μ Paddings μ Sizes μ Codes μ Items μ-items
 items-less c = search needs
 
-items-again : tie.Need-items-again Edges μ Insides μ Sizes μ Codes μ Items μ-items
+items-again : tie.Need-items-again Insets μ Paddings μ Sizes μ Codes μ Items μ-items
 items-again c = (search needs, c .before .before .before .before .before .before .before .before .before .items .inv .1 ∙ item-good _ _ _ (c .before .before .before .before .before .before .before .before .items-test .taken) (words-end _ _ _ (c .before .loop4 .inv .2) (search needs)))
 
 -- left at an item's tag or code: its own test is not the way here
-returns : tie.Need-returns Edges μ Insides μ Sizes μ Codes μ Items μ-items
+returns : tie.Need-returns Insets μ Paddings μ Sizes μ Codes μ Items μ-items
 unfolding checked items
 returns c =
     ⊎-elim (λ w. absurd (omega (arith, w .0 .left, c .if5 .taken)))
     (⊎-elim
-    (λ w. rw (w .6) (sym (c .before .before .items .inv .1 ∙ item-bad _ _ _ (w .0 .taken) (tag-stop _ _ _ (w .1 .inv .2) field.InsetOrMargin _ _ insets-and-margins (omega arith) (w .2 .taken) (omega (arith, w .2 .taken)) (w .1 .inv .1) (sym (w .4 .ensures) ∙ left _ (w .5 .taken))))))
+    (λ w. rw (w .6) (sym (c .before .before .items .inv .1 ∙ item-bad _ _ _ (w .0 .taken) (tag-stop field.InsetOrMargin _ _ insets-and-margins _ _ _ (w .1 .inv) (w .2 .taken) (sym (w .4 .ensures) ∙ was-false _ (w .5 .taken))))))
     (⊎-elim
-    (λ w. rw (w .8) (sym (c .before .before .items .inv .1 ∙ item-bad _ _ _ (w .0 .taken) (tag-stop _ _ _ (w .3 .inv .3) field.PaddingOrBorder _ _ padding-and-borders (w .3 .inv .0) (w .4 .taken) (omega (arith, w .4 .taken)) (w .3 .inv .2) (sym (w .6 .ensures) ∙ left _ (w .7 .taken))))))
+    (λ w. rw (w .8) (sym (c .before .before .items .inv .1 ∙ item-bad _ _ _ (w .0 .taken) (tag-stop field.PaddingOrBorder _ _ padding-and-borders _ _ _ (w .3 .inv) (w .4 .taken) (sym (w .6 .ensures) ∙ was-false _ (w .7 .taken))))))
     (⊎-elim
-    (λ w. rw (w .10) (sym (c .before .before .items .inv .1 ∙ item-bad _ _ _ (w .0 .taken) (tag-stop _ _ _ (w .5 .inv .3) field.Size _ _ sizes (w .5 .inv .0) (w .6 .taken) (omega (arith, w .6 .taken)) (w .5 .inv .2) (sym (w .8 .ensures) ∙ left _ (w .9 .taken))))))
+    (λ w. rw (w .10) (sym (c .before .before .items .inv .1 ∙ item-bad _ _ _ (w .0 .taken) (tag-stop field.Size _ _ sizes _ _ _ (w .5 .inv) (w .6 .taken) (sym (w .8 .ensures) ∙ was-false _ (w .9 .taken))))))
     (λ w. rw (w .11) (sym (c .before .before .items .inv .1 ∙ item-bad _ _ _ (w .0 .taken) (word-stop _ _ _ (w .7 .inv .2) (w .8 .taken) (sym (w .9 .ensures) ∙ w .10 .taken))))))))
     (c .before .items-test .came)
 
-returns-2 : tie.Need-returns-2 Edges μ Insides μ Sizes μ Codes μ Items μ-items
+returns-2 : tie.Need-returns-2 Insets μ Paddings μ Sizes μ Codes μ Items μ-items
 unfolding checked items
 returns-2 c = sym (c .before .before .items .inv .1 ∙ items-done _ _ _ (c .if5 .left))
 
@@ -179,9 +163,9 @@ pub check-styles-spec : {M : Type 1} → statement M
 check-styles-spec =
     tie.close
     (tie.spec
-    Edges
+    Insets
     μ
-    Insides
+    Paddings
     μ
     Sizes
     μ

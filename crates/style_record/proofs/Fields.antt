@@ -1,7 +1,7 @@
 -- Which rule stands at which word, by the fields' names. Assumes nothing.
 use Prim.Native.Nat.{ℕ, _<_}
 use native.Mathlib.Omega.{arith}
-use mathlib.Core.Path.{_≡_, refl, sym, _∙_, ap}
+use mathlib.Core.Path.{_≡_, refl, sym, _∙_}
 use mathlib.Core.Bool.{Bool, true, false, not}
 use lib.Dec.{ltb}
 use Rattle.util.specs.declared.math.MaybeF32.{MaybeF32}
@@ -20,37 +20,47 @@ use Rattle.style.specs.declared.alignment.AlignItemsKeyword.{AlignItemsKeyword}
 use Rattle.style.specs.declared.alignment.AlignItemsKeyword.the-variants as keyword
 use Rattle.style.specs.declared.alignment.AlignmentSafety.{AlignmentSafety}
 use Rattle.style.specs.declared.alignment.AlignmentSafety.the-variants.{Default, Unsafe, Safe}
+use Rattle.style.specs.declared.compact_length.LengthRect.{LengthRect}
+use Rattle.style.specs.declared.compact_length.LengthSize.{LengthSize}
 use Rattle.style.specs.declared.Style.{Style}
 use Rattle.style.specs.declared.resolve.Field.{Field}
 use Rattle.style.specs.declared.resolve.Field.the-variants as field
 use Rattle.style_record.specs.Record.{lengthField, lengthKinds, codeKinds, kindOf, items, styleWords}
 use Rattle.style_record.specs.Check.{safetyBreaks, breaksAs, breaksRule, breaks, firstFrom, firstBroken, orRest, checkedFrom, checked}
 use Rattle.style_record.specs.Encode.{presentCode, lengthWordsOf, rectWordsOf, sizeWordsOf, alignWordsOf, encoded}
-use Rattle.style_record.specs.Laws.{NoneBreaks, TagsOfStyle, WrittenIsGood}
+use Rattle.style_record.specs.Laws.{TagsOfRect, TagsOfSize, TagsOfStyle, WrittenIsGood}
 use Rattle.style_record.specs.declared.check.TableCheck.the-variants as table
 use Rattle.style_record.proofs.Laws.{good-is-none}
+use Rattle.style_record.proofs.Walk.{was-true}
 use Rattle.style_record.proofs.Written.{present-keyword}
 
--- a tag that breaks no rule
-taken : (f : Field) (w : ℕ) → not (takes f w) ≡ false → among (tagsOf f) w ≡ true
-taken f w e = sym (takes-its-tags f w) ∙ go (takes f w) e
-  where
-    go : (b : Bool) → not b ≡ false → b ≡ true
-    go true e = refl
-    go false e = sym e
+-- ---- tags that break no rule
+
+module _ (f : Field) where
+  taken : (w : ℕ) → not (takes f w) ≡ false → among (tagsOf f) w ≡ true
+  taken w e = sym (takes-its-tags f w) ∙ was-true (takes f w) e
+
+  rect :
+      (r : LengthRect)
+      → not (takes f (r .left .tag)) ≡ false → not (takes f (r .right .tag)) ≡ false → not (takes f (r .top .tag)) ≡ false → not (takes f (r .bottom .tag)) ≡ false
+      → TagsOfRect f r
+  rect r a b c d = record { left = taken _ a; right = taken _ b; top = taken _ c; bottom = taken _ d }
+
+  size : (s : LengthSize) → not (takes f (s .width .tag)) ≡ false → not (takes f (s .height .tag)) ≡ false → TagsOfSize f s
+  size s a b = record { width = taken _ a; height = taken _ b }
 
 tags-of : (y : Style) → checked (encoded y) ≡ table.Good → TagsOfStyle y
 unfolding items breaks breaksRule breaksAs kindOf lengthField lengthKinds encoded rectWordsOf sizeWordsOf lengthWordsOf alignWordsOf
 tags-of y e =
     let word : (k : ℕ) → k < styleWords → breaks (encoded y) 0 k ≡ false = good-is-none (encoded y) .0 e 0 (omega arith) in
     record {
-      inset = record { left = taken field.InsetOrMargin _ (word 0 (omega arith)); right = taken field.InsetOrMargin _ (word 2 (omega arith)); top = taken field.InsetOrMargin _ (word 4 (omega arith)); bottom = taken field.InsetOrMargin _ (word 6 (omega arith)) };
-      margin = record { left = taken field.InsetOrMargin _ (word 8 (omega arith)); right = taken field.InsetOrMargin _ (word 10 (omega arith)); top = taken field.InsetOrMargin _ (word 12 (omega arith)); bottom = taken field.InsetOrMargin _ (word 14 (omega arith)) };
-      padding = record { left = taken field.PaddingOrBorder _ (word 16 (omega arith)); right = taken field.PaddingOrBorder _ (word 18 (omega arith)); top = taken field.PaddingOrBorder _ (word 20 (omega arith)); bottom = taken field.PaddingOrBorder _ (word 22 (omega arith)) };
-      border = record { left = taken field.PaddingOrBorder _ (word 24 (omega arith)); right = taken field.PaddingOrBorder _ (word 26 (omega arith)); top = taken field.PaddingOrBorder _ (word 28 (omega arith)); bottom = taken field.PaddingOrBorder _ (word 30 (omega arith)) };
-      size = record { width = taken field.Size _ (word 32 (omega arith)); height = taken field.Size _ (word 34 (omega arith)) };
-      min = record { width = taken field.MinOrMax _ (word 36 (omega arith)); height = taken field.MinOrMax _ (word 38 (omega arith)) };
-      max = record { width = taken field.MinOrMax _ (word 40 (omega arith)); height = taken field.MinOrMax _ (word 42 (omega arith)) };
+      inset = rect field.InsetOrMargin (y .inset) (word 0 (omega arith)) (word 2 (omega arith)) (word 4 (omega arith)) (word 6 (omega arith));
+      margin = rect field.InsetOrMargin (y .margin) (word 8 (omega arith)) (word 10 (omega arith)) (word 12 (omega arith)) (word 14 (omega arith));
+      padding = rect field.PaddingOrBorder (y .padding) (word 16 (omega arith)) (word 18 (omega arith)) (word 20 (omega arith)) (word 22 (omega arith));
+      border = rect field.PaddingOrBorder (y .border) (word 24 (omega arith)) (word 26 (omega arith)) (word 28 (omega arith)) (word 30 (omega arith));
+      size = size field.Size (y .size) (word 32 (omega arith)) (word 34 (omega arith));
+      min = size field.MinOrMax (y .min) (word 36 (omega arith)) (word 38 (omega arith));
+      max = size field.MinOrMax (y .max) (word 40 (omega arith)) (word 42 (omega arith));
     }
 
 -- ---- every value has a code that is allowed
@@ -109,7 +119,17 @@ took f w e = takes-its-tags f w ∙ e
 good-of : (y : Style) → TagsOfStyle y → checked (encoded y) ≡ table.Good
 unfolding checked checkedFrom orRest firstBroken firstFrom breaksRule breaksAs safetyBreaks items kindOf lengthField lengthKinds codeKinds encoded rectWordsOf sizeWordsOf lengthWordsOf alignWordsOf
 good-of y t =
-    rw (took field.InsetOrMargin _ (t .inset .left), took field.InsetOrMargin _ (t .inset .right), took field.InsetOrMargin _ (t .inset .top), took field.InsetOrMargin _ (t .inset .bottom), took field.InsetOrMargin _ (t .margin .left), took field.InsetOrMargin _ (t .margin .right), took field.InsetOrMargin _ (t .margin .top), took field.InsetOrMargin _ (t .margin .bottom), took field.PaddingOrBorder _ (t .padding .left), took field.PaddingOrBorder _ (t .padding .right), took field.PaddingOrBorder _ (t .padding .top), took field.PaddingOrBorder _ (t .padding .bottom), took field.PaddingOrBorder _ (t .border .left), took field.PaddingOrBorder _ (t .border .right), took field.PaddingOrBorder _ (t .border .top), took field.PaddingOrBorder _ (t .border .bottom), took field.Size _ (t .size .width), took field.Size _ (t .size .height), took field.MinOrMax _ (t .min .width), took field.MinOrMax _ (t .min .height), took field.MinOrMax _ (t .max .width), took field.MinOrMax _ (t .max .height), present-allowed (y .ratio), sizing-allowed (y .sizing), bits-allowed 3 refl refl refl refl (y .replaced) (y .table), direction-allowed (y .direction), keyword-allowed (y .justify .keyword), present-keyword (y .justify .keyword), safety-allowed (y .justify .safety), keyword-allowed (y .align .keyword), present-keyword (y .align .keyword), safety-allowed (y .align .safety), overflow-allowed (y .overflow .x), overflow-allowed (y .overflow .y), bits-allowed 255 refl refl refl refl (y .contain .layout) (y .contain .paint)) refl
+    rw (took field.InsetOrMargin _ (t .inset .left), took field.InsetOrMargin _ (t .inset .right), took field.InsetOrMargin _ (t .inset .top), took field.InsetOrMargin _ (t .inset .bottom))
+    (rw (took field.InsetOrMargin _ (t .margin .left), took field.InsetOrMargin _ (t .margin .right), took field.InsetOrMargin _ (t .margin .top), took field.InsetOrMargin _ (t .margin .bottom))
+    (rw (took field.PaddingOrBorder _ (t .padding .left), took field.PaddingOrBorder _ (t .padding .right), took field.PaddingOrBorder _ (t .padding .top), took field.PaddingOrBorder _ (t .padding .bottom))
+    (rw (took field.PaddingOrBorder _ (t .border .left), took field.PaddingOrBorder _ (t .border .right), took field.PaddingOrBorder _ (t .border .top), took field.PaddingOrBorder _ (t .border .bottom))
+    (rw (took field.Size _ (t .size .width), took field.Size _ (t .size .height))
+    (rw (took field.MinOrMax _ (t .min .width), took field.MinOrMax _ (t .min .height))
+    (rw (took field.MinOrMax _ (t .max .width), took field.MinOrMax _ (t .max .height))
+    (rw (present-allowed (y .ratio), sizing-allowed (y .sizing), bits-allowed 3 refl refl refl refl (y .replaced) (y .table), direction-allowed (y .direction))
+    (rw (keyword-allowed (y .justify .keyword), present-keyword (y .justify .keyword), safety-allowed (y .justify .safety))
+    (rw (keyword-allowed (y .align .keyword), present-keyword (y .align .keyword), safety-allowed (y .align .safety))
+    (rw (overflow-allowed (y .overflow .x), overflow-allowed (y .overflow .y), bits-allowed 255 refl refl refl refl (y .contain .layout) (y .contain .paint)) refl))))))))))
 
 pub written-is-good : WrittenIsGood
 written-is-good y = (tags-of y, good-of y)
