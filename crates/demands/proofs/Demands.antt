@@ -34,7 +34,7 @@ use Rattle.run.specs.declared.Step.{Step}
 use Rattle.run.specs.declared.Answer.the-variants.{Refused}
 use Rattle.run.specs.Call.{Lent, Outcome, outcome}
 use Rattle.run.specs.Conditions.{StyleIsBad, FirstIs, NoneHolds}
-use Rattle.run.specs.Theorems.{WroteSize, openIn, oneIfAsked, isRefused, askedFor, Heard, Loan, own, other, Turn, next, nextWith, turned, Lends, AllLend, called, Stands, heededIn, courseOf, laidSoFar}
+use Rattle.run.specs.Theorems.{Names, WroteSize, openIn, oneIfAsked, isRefused, askedFor, Heard, Loan, own, other, Turn, next, nextWith, turned, Lends, AllLend, called, Stands, heededIn, courseOf, laidSoFar}
 use Rattle.run.specs.Run.{extentsOf, boxAtHand, opened, replied, takenBy, laidOut}
 use Rattle.run.proofs.Refusals.{refused-reply-keeps, refused-opening-keeps, saying, turn-refused}
 use Rattle.run.proofs.Exactly.{opening-refused-exactly, opening-accepted-exactly, reply-refused-exactly, reply-accepted-exactly, unresolved-exactly}
@@ -63,7 +63,7 @@ use Rattle.pixels_laws.specs.Laws.{HasEdges}
 use Rattle.pixels_laws.proofs.Run.{run-has-edges}
 use Rattle.pixels_laws.proofs.Tests.{refused-first, edges-first}
 use Rattle.demands.specs.Entries.{Opens, RepliesTo, AnyCalls, Takes, Run, RefusedSince, BothRuns, AfterEach}
-use Rattle.demands.specs.Demands.{OpeningDemands, ReplyDemands, AlignmentDemands, PixelsDemands, ReachDemands, CheckDemands, ScreenDemands, IsNamed, OpeningsGoByTheCheck, RepliesGoByTheCheck, ThreeQuestionsEach, EqualsStraightRun, SizedLayout, SizeLaw, LaidOutAsAsked, MirrorImage, MirroredReach, QuartersHaveEdges, QuartersAreAnswered}
+use Rattle.demands.specs.Demands.{OpeningDemands, ReplyDemands, AlignmentDemands, PixelsDemands, ReachDemands, CheckDemands, ScreenDemands, OpeningsGoByTheCheck, RepliesGoByTheCheck, ThreeQuestionsEach, EqualsStraightRun, SizedLayout, SizeLaw, LaidOutAsAsked, MirrorImage, MirroredReach, QuartersHaveEdges, QuartersAreAnswered}
 
 -- ---- one call
 
@@ -114,17 +114,17 @@ module _ {m n p q : ℕ} (m3 : eqb 3 m ≡ false) (n3 : eqb 3 n ≡ false) (p3 :
       there (inr (_, inr (_, inr (_, inr (_, inl (_, e)))))) = no (eq-eqb 3 q e) q3
       there (inr (_, inr (_, inr (_, inr (_, inr r))))) = absurd (r .1)
 
-named : {P : Type 0} (styles : List ℕ) → P ↔ StyleIsBad styles → P ↔ IsNamed styles
+named : {P : Type 0} (styles : List ℕ) → P ↔ StyleIsBad styles → P ↔ Names (checked styles)
 named styles p = let n = named-where-bad styles in Iff·trans p (n .1, n .0)
 
 pub openings-go-by-the-check : OpeningsGoByTheCheck
 openings-go-by-the-check o candidates lent has c none =
-    subst (λ (x : Outcome). (x .step .answer ≡ Refused BadStyle) ↔ IsNamed (lent .styles)) (sym c)
+    subst (λ (x : Outcome). (x .step .answer ≡ Refused BadStyle) ↔ Names (checked (lent .styles))) (sym c)
     (named (lent .styles) (Iff·trans (opening-refused-exactly o candidates lent BadStyle) (third-is-first refl refl refl refl none)))
 
 pub replies-go-by-the-check : RepliesGoByTheCheck
 replies-go-by-the-check s reply surfaced lent has c none =
-    subst (λ (x : Outcome). (x .step .answer ≡ Refused BadStyle) ↔ IsNamed (lent .styles)) (sym c)
+    subst (λ (x : Outcome). (x .step .answer ≡ Refused BadStyle) ↔ Names (checked (lent .styles))) (sym c)
     (named (lent .styles) (Iff·trans (reply-refused-exactly s reply surfaced lent BadStyle) (third-is-first refl refl refl refl none)))
 
 -- ---- at most three questions

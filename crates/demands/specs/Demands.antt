@@ -1,7 +1,7 @@
 -- The three demands, of every entry. Refusals 1 to 6 are those of `open` and `reply`, 7 of `from_alignment`, 8 of the programs, 9 of
--- `pixel_edges`; `reach` has 2, 6, 4 and 9, `check_styles` none. The demands of the C entries stand in demands_c/specs. No entry asks anything of its caller, and a
--- proved function ends, without a panic: so each of these holds for any bits in any number and slices of any length. `proofs/Demands.antt`
--- proves each, under its name in small letters.
+-- `pixel_edges`; `reach` has 2, 6, 4 and 9, `check_styles` none. The demands of the C entries stand in demands_c/specs. No entry asks anything
+-- of its caller, and a proved function ends, without a panic: so each of these holds for any bits in any number and slices of any length.
+-- `proofs/Demands.antt` proves each, under its name in small letters.
 -- What document 01 leaves free is fixed by the definition all the same: what is asked and written where words were rewritten between calls or
 -- a state was forged (oof_box/specs/Cut.antt), and the numbers of a refused opening's state, which are zeros.
 -- Assumes nothing.
@@ -46,7 +46,7 @@ use Rattle.run.specs.declared.Answer.the-variants.{Ask, Refused}
 use Rattle.run.specs.Call.{Lent, Outcome, unwritten}
 use Rattle.run.specs.Run.{closed, boxAtHand, extentsOf, claimsOf}
 use Rattle.run.specs.Conditions.{StyleIsBad, FirstNotAllowed, AllAllowed, FirstIs, NoneHolds, SideIsUnresolved, openingTests, replyTests}
-use Rattle.run.specs.Theorems.{isRefused, own, StageTellsKind, WroteSize, Turn, Stands, heededIn, courseOf, laidSoFar}
+use Rattle.run.specs.Theorems.{Names, isRefused, own, StageTellsKind, WroteSize, Turn, Stands, heededIn, courseOf, laidSoFar}
 use Rattle.mirror_run.specs.Image.{imageStyles}
 use Rattle.mirror_run.specs.Quarter.{AreaInQuarters, QuarterArea, QuarterTable, QuarterCandidates}
 use Rattle.mirror_run.specs.Runs.{Message, MirroredRuns, unclaimedAtOpening, layoutOfBox}
@@ -121,7 +121,7 @@ pub record CheckDemands (styles : List ℕ) (r : TableCheck) : Type 0 where
   pub call : r ≡ checked styles
   pub named : (i k : ℕ) → (r ≡ check.Bad i k) ↔ FirstNotAllowed styles i k
   pub nothing : (r ≡ check.Good) ↔ AllAllowed styles
-  pub some : ((i : ℕ) × (k : ℕ) × (r ≡ check.Bad i k)) ↔ StyleIsBad styles
+  pub some : Names r ↔ StyleIsBad styles
 
 -- the programs: 8, then 1, 3 and 4 of the run that the screen scripts. Each prints the refusal's line, or its list: of boxes or of verdicts
 pub record ScreenDemands (listing : Listing) (text : List ℕ) (r : ℕ) (before after : List ℕ) : Type 0 where
@@ -132,21 +132,18 @@ pub record ScreenDemands (listing : Listing) (text : List ℕ) (r : ℕ) (before
 -- request #103: the check and refusal 3 agree. Once the two tests before 3 are passed, an opening is refused with 3 exactly where the check
 -- names a word of its styles, and so is a reply. ("Every call's answer stays as it was": what `OpeningDemands`, `ReplyDemands` and
 -- `EqualsStraightRun` say of calls is as before. "Its time doesn't grow with the table": no statement here speaks of time. `is_style_bad` of
--- placer_check calls `check_styles`, for openings and replies alike, and bench measures both.)
-abbrev pub IsNamed : List ℕ → Type 0
-IsNamed styles = (i : ℕ) × (k : ℕ) × (checked styles ≡ check.Bad i k)
-
+-- placer_check calls `check_styles`, for openings and replies alike; bench measures the check alone and an opening.)
 abbrev pub OpeningsGoByTheCheck : Type 0
 OpeningsGoByTheCheck =
     (o : Opening) (candidates : List ℕ) (lent : Lent) (has : Outcome) → Opens o candidates lent has
     → NoneHolds (take 2 (openingTests o candidates lent))
-    → (has .step .answer ≡ Refused BadStyle) ↔ IsNamed (lent .styles)
+    → (has .step .answer ≡ Refused BadStyle) ↔ Names (checked (lent .styles))
 
 abbrev pub RepliesGoByTheCheck : Type 0
 RepliesGoByTheCheck =
     (s : State) (reply : Reply) (surfaced : List ℕ) (lent : Lent) (has : Outcome) → RepliesTo s reply surfaced lent has
     → NoneHolds (take 2 (replyTests s reply surfaced lent))
-    → (has .step .answer ≡ Refused BadStyle) ↔ IsNamed (lent .styles)
+    → (has .step .answer ≡ Refused BadStyle) ↔ Names (checked (lent .styles))
 
 -- "A run asks at most three questions for each box hoisted", whatever words the host rewrites between calls: at most three for each box, none
 -- for one that isn't hoisted, and no others

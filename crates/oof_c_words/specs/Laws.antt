@@ -52,7 +52,7 @@ StateBack = (s : State) → Floats s → Counted s → stateOf (stateWords s) �
 abbrev pub ZeroState : Type 0
 ZeroState = stateOf (replicate 27 0) ≡ closed (record { styles = []; layouts = []; working = []; unclaimed = [] })
 
--- ---- a call whose result isn't 0 writes no lent word
+-- ---- a call of a run whose result isn't 0 writes no lent word
 
 -- a refused opening leaves the state of a finished run with all counts 0 and the lengths as lent; every other word stays
 abbrev pub RefusedOpeningCloses : Type 0

@@ -6,7 +6,7 @@ use style_record::check::TableCheck;
 
 pub const FOUND: usize = 2;
 
-// 1 if a word breaks a rule, else 0. Only then item and word are written.
+// 1, and item and word are written, if a word breaks a rule; else 0, and nothing is.
 pub fn tell(check: TableCheck, found: &mut [u32; FOUND]) -> u32
     ensures { λ r. ⌜ record { result = r; found = now (found .exit) } ≡ checkTold check (now (found .entry)) ⌝ }
 {

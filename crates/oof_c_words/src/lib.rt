@@ -1,4 +1,5 @@
-// What a C call is lent and leaves, apart from the run itself: the words of a state and of an answer, and what a call writes of both.
+// What a C call is lent and leaves, apart from the run itself: the words of a state and of an answer, what a call writes of both, and the
+// two words of what a check finds.
 ghost use mathlib.Core.Path.{_≡_};
 ghost use Rattle.run.specs.Theorems.{isRefused};
 ghost use Rattle.oof_c_words.specs.Entry.{resultOf, answerLeft, stateLeft, told};

@@ -1,16 +1,12 @@
 -- The check of a table by document 01's condition of refusal 3. Assumes nothing.
-use Prim.Native.Nat.{ℕ, _<_}
-use mathlib.Core.Logic.{_↔_}
+use Prim.Native.Nat.{ℕ}
 use mathlib.Core.Path.{_≡_, refl}
 use mathlib.Core.Bool.{Bool, true, false}
 use mathlib.Core.List.{List}
-use Rattle.util.proofs.Floats.{no}
-use Rattle.style_record.specs.Check.{breaks, checked}
-use Rattle.style_record.specs.declared.check.TableCheck.{TableCheck}
-use Rattle.style_record.specs.declared.check.TableCheck.the-variants.{Good, Bad}
+use Rattle.style_record.specs.Check.{breaks}
 use Rattle.style_record.specs.Laws.{First}
 use Rattle.style_record.proofs.Laws.{good-is-none, bad-is-first, some-is-found}
-use Rattle.run.specs.Conditions.{WordIsAllowed, StyleIsBad, FirstNotAllowed, AllAllowed}
+use Rattle.run.specs.Conditions.{WordIsAllowed, FirstNotAllowed}
 use Rattle.run.specs.Theorems.{NamedExactly, NothingExactly, NamedWhereBad}
 use Rattle.run.proofs.Conditions.{word-exactly, word-decided}
 

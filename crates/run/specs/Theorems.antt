@@ -22,6 +22,7 @@ use Rattle.records.specs.Records.{written}
 use Rattle.tree_record.specs.Layout.{layoutWidth, layoutWords}
 use Rattle.style_record.specs.Check.{checked}
 use Rattle.style_record.specs.Decode.{styleAt}
+use Rattle.style_record.specs.declared.check.TableCheck.{TableCheck}
 use Rattle.style_record.specs.declared.check.TableCheck.the-variants.{Good, Bad}
 use Rattle.sweep.specs.Sweep.{firstCandidates, candidatesIn, appended}
 use Rattle.oof_resolve.specs.declared.ContainingBlock.{ContainingBlock}
@@ -88,6 +89,10 @@ StageTellsKind =
 -- ---- The check of a table names exactly its first word that is not allowed, and nothing exactly where every word is (request #103). It names
 -- one exactly where refusal 3's condition holds.
 
+-- some item and word is named
+abbrev pub Names : TableCheck → Type 0
+Names found = (i : ℕ) × (k : ℕ) × (found ≡ Bad i k)
+
 abbrev pub NamedExactly : Type 0
 NamedExactly = (styles : List ℕ) (i k : ℕ) → (checked styles ≡ Bad i k) ↔ FirstNotAllowed styles i k
 
@@ -95,7 +100,7 @@ abbrev pub NothingExactly : Type 0
 NothingExactly = (styles : List ℕ) → (checked styles ≡ Good) ↔ AllAllowed styles
 
 abbrev pub NamedWhereBad : Type 0
-NamedWhereBad = (styles : List ℕ) → ((i : ℕ) × (k : ℕ) × (checked styles ≡ Bad i k)) ↔ StyleIsBad styles
+NamedWhereBad = (styles : List ℕ) → Names (checked styles) ↔ StyleIsBad styles
 
 -- ---- A refused call writes no lent word and returns the state as it came; a refused opening, that of a finished run with all counts 0.
 

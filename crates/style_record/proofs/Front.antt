@@ -1,4 +1,4 @@
--- The words after the first that breaks a rule have no say. Assumes nothing.
+-- The first item wins; the words after the first that breaks a rule have no say; a table behind another, and a trailing part. Assumes nothing.
 use Prim.Native.Nat.{ℕ, _+_, _*_, _-_, _/_, _<_, _≤_}
 use native.Mathlib.Omega.{arith}
 use mathlib.Core.Logic.{_⊎_, inl, inr, ⊎-elim}

@@ -1,4 +1,4 @@
--- What the definitions of this crate mean, as statements. `proofs/Laws.antt` and `proofs/Front.antt` prove each, under its name in small letters.
+-- What the definitions of this crate mean, as statements. `proofs/` proves each, under its name in small letters.
 -- `fits binary32 x` says that x is a value of an f32: true of every f32 of a program. Assumes nothing.
 use Prim.Native.Nat.{ℕ, _+_, _*_, _<_, _≤_}
 use mathlib.Core.Logic.{_⊎_, _↔_}
@@ -90,7 +90,8 @@ pub record TagsOfStyle (y : Style) : Type 0 where
   pub max : TagsOfSize MinOrMax (y .max)
 
 -- a style, written as a record, breaks no rule exactly where each tag is its field's: its floats may be any, and every value of its codes has
--- a code that is allowed. So which rule stands at which word is fixed by the fields' names
+-- a code that is allowed. So which tags are taken at which word is fixed by the fields' names, and no code rule is too strict. (That none is too
+-- lax: `EachWordIsRead` and the rows)
 abbrev pub WrittenIsGood : Type 0
 WrittenIsGood = (y : Style) → (checked (encoded y) ≡ table.Good) ↔ TagsOfStyle y
 
