@@ -1,6 +1,6 @@
 //! The static library, over words lent once.
 use crate::scene::{Scene, MEASURED};
-use oof::ffi::{self, Lent, Reply, ANSWER, FOUND, STATE};
+use oof::ffi::{self, Lent, Reply, ANSWER, STATE};
 use oracle::case::{CANDIDATE, LAYOUT};
 
 pub struct Words {
@@ -12,12 +12,6 @@ pub struct Words {
     working: Vec<u32>,
     pub state: [u32; STATE],
     pub answer: [u32; ANSWER],
-}
-
-/// Item and word of the first word of a table that breaks a rule
-pub fn first_bad_word(styles: &[u32]) -> Option<[u32; FOUND]> {
-    let mut found = [0; FOUND];
-    (ffi::first_bad_word(styles, &mut found) == 1).then_some(found)
 }
 
 impl Words {

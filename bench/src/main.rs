@@ -4,14 +4,16 @@
 //!     bench [ROUNDS]
 //!     bench profile rust|library ITEMS BOXES RUNS      # one side alone on 64 tables in turn, for a profiler
 //!
-//! Each figure is the median of ROUNDS (101 unless said) rounds, in CPU time, so that a busy machine matters less; the two
-//! sides take turns. Nothing is asserted about times; that both place the boxes alike is, and what the calls answer.
+//! Each figure is the median of ROUNDS (101 unless said) rounds, in CPU time, so that a busy machine matters less; what is
+//! compared takes turns. Nothing is asserted about times; that both place the boxes alike is, and what the calls answer.
 mod library;
 mod rust;
 mod scene;
 
-use library::{first_bad_word, Words};
+use library::Words;
 use oof::ffi::Reply;
+use oof::words::STYLE;
+use oof::{first_bad_word, BadWord};
 use rust::Tree;
 use scene::{scene, Scene};
 use std::hint::black_box;
@@ -148,15 +150,16 @@ fn one_call(rounds: usize, items: usize) {
 }
 
 /// Where a table has its one bad word, if any: the first item's first word, its last, the last item's last
-fn places(items: usize) -> [Option<[u32; 2]>; 4] {
-    [None, Some([0, 0]), Some([0, 56]), Some([items as u32 - 1, 56])]
+fn places(items: usize) -> [Option<BadWord>; 4] {
+    let at = |item, word| Some(BadWord { item, word });
+    [None, at(0, 0), at(0, STYLE - 1), at(items - 1, STYLE - 1)]
 }
 
 /// A table with a bad word: no tag as word 0, no contain as word 56
-fn with_bad(scene: &Scene, place: Option<[u32; 2]>) -> Words {
+fn with_bad(scene: &Scene, place: Option<BadWord>) -> Words {
     let mut words = Words::new(scene);
-    if let Some([item, word]) = place {
-        words.styles[57 * item as usize + word as usize] = if word == 0 { 2 } else { 256 };
+    if let Some(BadWord { item, word }) = place {
+        words.styles[STYLE * item + word] = if word == 0 { 2 } else { 256 };
     }
     words
 }
@@ -176,11 +179,12 @@ fn bad_words(rounds: usize, items: usize) {
         let mut words = with_bad(&scene, place);
         move || assert_eq!(black_box(words.open()), if place.is_some() { 3 } else { 0 })
     });
-    let [sum] = medians(rounds, [&mut sum]);
-    let finds = medians(rounds, finds.each_mut().map(|find| find as &mut dyn FnMut()));
-    let opens = medians(rounds, opens.each_mut().map(|open| open as &mut dyn FnMut()));
-    for (called, times) in [("the function", finds), ("an opening", opens)] {
-        println!("| {items} | {} | {called} | {} |", shown(sum), times.map(shown).join(" | "));
+    let [find_0, find_1, find_2, find_3] = finds.each_mut();
+    let [open_0, open_1, open_2, open_3] = opens.each_mut();
+    let [sum, times @ ..] = medians(rounds, [&mut sum, find_0, find_1, find_2, find_3, open_0, open_1, open_2, open_3]);
+    let sum = shown(sum);
+    for (called, times) in ["the function", "an opening"].iter().zip(times.map(shown).chunks(4)) {
+        println!("| {items} | {sum} | {called} | {} |", times.join(" | "));
     }
 }
 
