@@ -7,35 +7,35 @@
 The words of a screen's items go to the entry as they stand. What it names must be what explain-screen finds first, and what its last line
 says of a screen that is refused with 3. Texts that are no screen have no words and are left out. Stops at the first difference."""
 import contextlib
-import importlib.machinery
-import importlib.util
+import functools
 import io
 import pathlib
 import random
+import runpy
 import struct
 import subprocess
 import sys
-import tempfile
+import types
 
 root = pathlib.Path(__file__).resolve().parent.parent.parent
-sys.dont_write_bytecode = True
-loader = importlib.machinery.SourceFileLoader("run_screens", str(root / "tools/run-screens"))
-run_screens = importlib.util.module_from_spec(importlib.util.spec_from_loader(loader.name, loader))
-loader.exec_module(run_screens)
+run_screens = types.SimpleNamespace(**runpy.run_path(str(root / "tools/run-screens")))
 explain = run_screens.explain
+fail = functools.partial(run_screens.fail, part="diff/words")
 
-FIRST_LINE, ITEM_LINE, WIDTH = 111, 694, 11
+WIDTH = explain.WIDTH
+# bytes of a line, with its line feed
+FIRST_LINE, ITEM_LINE = (WIDTH * len(fields) + 1 for fields in (explain.FIRST, explain.ITEM))
 NUMBERS = [*range(13), 15, 27, 35, 43, 59, 75, 76, 255, 256, 257, 259, 261, 266, 65537, 2147483653, 4294967295]
 
 
 def replaced(r, text):
     """Up to three style words of the items replaced, floats by numbers that are no line's fault."""
-    n = int(text[8 * WIDTH:9 * WIDTH])
+    n = int(text[WIDTH * explain.ITEM_COUNT:][:WIDTH])
     for _ in range(r.randrange(4) if n else 0):
-        k = r.randrange(57)
+        k = r.randrange(len(explain.STYLE))
         at = FIRST_LINE + ITEM_LINE * r.randrange(n) + WIDTH * k
         number = r.randrange(-99, 9999) if explain.STYLE[k].is_float else r.choice(NUMBERS)
-        text = text[:at] + b"%11d" % number + text[at + WIDTH:]
+        text = text[:at] + b"%*d" % (WIDTH, number) + text[at + WIDTH:]
     return text
 
 
@@ -49,21 +49,18 @@ def explained(text):
     """The table of a screen, and what is said of it: the first bad word, or a dash. None if the text is no screen."""
     explainer = explain.Explainer(True)
     explainer.explain(text)
-    if any(refusal == explain.BAD_LINE for refusal, _ in explainer.faults):
+    refusals = {refusal for refusal, _ in explainer.faults}
+    if explain.BAD_LINE in refusals:
         return None
+    named = "%d %d" % explainer.bad_words[0] if explainer.bad_words else "-"
+    if (named == "-") == (explain.BAD_STYLE in refusals):
+        fail(f"explain-screen finds {named}, and as refusals {sorted(refusals)}", text)
     with contextlib.redirect_stdout(io.StringIO()) as said:
         explainer.verdict()
-    named = "%d %d" % explainer.bad_words[0] if explainer.bad_words else "-"
     last = said.getvalue().splitlines()[-1]
     if last.startswith("refused 3,") and not last.endswith(": the first bad word is item %s, word %s, both from 0" % tuple(named.split())):
-        fail(text, f"explain-screen finds {named}, and its last line is '{last}'")
+        fail(f"explain-screen finds {named}, and its last line is '{last}'", text)
     return " ".join(str(word) for numbers in explainer.items for word in style_words(numbers)), named
-
-
-def fail(text, why):
-    with tempfile.NamedTemporaryFile(delete=False, suffix=".screen") as f:
-        f.write(text)
-    sys.exit(f"diff/words: {why} (the text is in {f.name})")
 
 
 def main(program, seed, count):
@@ -78,10 +75,10 @@ def main(program, seed, count):
     tables = "".join(table + "\n" for _, table, _ in told).encode()
     answers = subprocess.run([program, "tables"], input=tables, stdout=subprocess.PIPE, check=True).stdout.decode().splitlines()
     if len(answers) != len(told):
-        sys.exit(f"diff/words: {len(answers)} answers on {len(told)} tables")
+        fail(f"{len(answers)} answers on {len(told)} tables")
     for (text, _, named), answer in zip(told, answers):
         if named != answer:
-            fail(text, f"explain-screen finds {named}, the entry names {answer}")
+            fail(f"explain-screen finds {named}, the entry names {answer}", text)
     bad = sum(answer != "-" for answer in answers)
     print(f"diff/words screens, seed {seed}: {len(told)} screens, {bad} with a bad word, which explain-screen and the entry name alike; "
           f"{len(texts) - len(told)} texts that are no screen")
