@@ -2,7 +2,7 @@
 //!
 //! The model has for each word of a style the values that it may take. It lists every word of the whole table that breaks a rule, and takes
 //! the first. It shares no code with the entry, which walks over the table and stops. An opening over the same table must be refused with 3
-//! exactly where a word is named. Before the entry, wrong ones are tried: each must be found out.
+//! exactly where a word is named and 2 doesn't come first. Before the entry, wrong ones are tried: each must be found out.
 //!
 //!     words [THOUSANDS] [SEED]     random tables, after directed ones
 //!     words tables                 reads tables, a line each, and prints what the entry names, or a dash
@@ -463,23 +463,58 @@ fn opened(table: &[u32], named: Option<Place>) -> Result<u32, String> {
     (result == wanted).then_some(result).ok_or_else(|| format!("{}: opened with {result}, not {wanted}", show(table)))
 }
 
+/// What tables of a class have, and how many there were.
+type Class = (&'static str, u64);
+
+/// Of tables with nothing named
+const NOTHING: [&str; 5] = [
+    "no word at all",
+    "whole records alone",
+    "a trailing part",
+    "a trailing part in which a word would break a rule",
+    "an ignored safety above 2",
+];
+
+/// With a word named
+const BESIDE: [&str; 5] = [
+    "no other bad word",
+    "another bad word in its item",
+    "a bad word in a later item",
+    "a trailing part",
+    "1,024 items before it",
+];
+
+const OPENED: [&str; 3] = ["an opening accepted", "an opening refused with 2", "an opening refused with 3"];
+
+fn count<const N: usize>(classes: &mut [Class; N], holds: [bool; N]) {
+    (0..N).for_each(|k| classes[k].1 += u64::from(holds[k]));
+}
+
 /// Classes of tables, each of which must be met.
 struct Figures {
     tables: u64,
     /// by the word that is named
     named: [u64; WORDS],
-    /// nothing named: no word at all; whole records; a trailing part; a word in it that would break a rule; an ignored safety above 2
-    nothing: [u64; 5],
-    /// named: alone; beside another of its item; of a later item; with a trailing part; an item from 1,024 on
-    beside: [u64; 5],
-    /// openings accepted, refused with 2 and with 3
-    opened: [u64; 3],
+    nothing: [Class; 5],
+    beside: [Class; 5],
+    opened: [Class; 3],
 }
 
 impl Figures {
+    fn new() -> Figures {
+        let none = |name| (name, 0);
+        Figures {
+            tables: 0,
+            named: [0; WORDS],
+            nothing: NOTHING.map(none),
+            beside: BESIDE.map(none),
+            opened: OPENED.map(none),
+        }
+    }
+
     fn note(&mut self, table: &[u32], named: Option<Place>, opened: u32) {
         self.tables += 1;
-        self.opened[[0, 2, 3].iter().position(|&n| n == opened).expect("a result")] += 1;
+        count(&mut self.opened, [0, 2, 3].map(|result| result == opened));
         let trailing = table.chunks_exact(WORDS).remainder();
         let Some((item, word)) = named else {
             let ignored = |r: &[u32]| KEYWORDS.iter().any(|&k| r[k] == ABSENT && r[k + 1] > 2);
@@ -490,8 +525,7 @@ impl Figures {
                 (0..trailing.len()).any(|k| breaks(trailing, k)),
                 table.chunks_exact(WORDS).any(ignored),
             ];
-            (0..5).for_each(|k| self.nothing[k] += u64::from(nothing[k]));
-            return;
+            return count(&mut self.nothing, nothing);
         };
         self.named[word] += 1;
         let all = bad(table, breaks);
@@ -502,15 +536,23 @@ impl Figures {
             !trailing.is_empty(),
             item >= MOST_ITEMS,
         ];
-        (0..5).for_each(|k| self.beside[k] += u64::from(beside[k]));
+        count(&mut self.beside, beside);
     }
 
     /// A class that no table was of, or a float that was named.
     fn missed(&self) -> Option<String> {
-        let words = (0..WORDS).find(|&k| (self.named[k] == 0) != matches!(allowed(k), Any));
-        let classes = [("nothing", &self.nothing[..]), ("named", &self.beside), ("opened", &self.opened)];
-        let missed = |(name, counts): &(&str, &[u64])| Some(format!("{name} {}", counts.iter().position(|&n| n == 0)?));
-        words.map(|k| format!("word {k}")).or_else(|| classes.iter().find_map(missed))
+        let word = |k: usize| match (self.named[k], allowed(k)) {
+            (1.., Any) => Some(format!("word {k} is named, a float")),
+            (0, OneOf(_) | Below(_)) => Some(format!("no table with word {k} named")),
+            _ => None,
+        };
+        let kinds =
+            [("nothing named and ", &self.nothing[..]), ("a word named and ", &self.beside), ("", &self.opened)];
+        let missed = |(kind, classes): &(&str, &[Class])| {
+            let (name, _) = classes.iter().find(|class| class.1 == 0)?;
+            Some(format!("no table with {kind}{name}"))
+        };
+        (0..WORDS).find_map(word).or_else(|| kinds.iter().find_map(missed))
     }
 
     fn named(&self) -> u64 {
@@ -520,7 +562,7 @@ impl Figures {
 
 // ---- directed tables
 
-/// The least word that a place takes, and the greatest; NaNs for floats.
+/// The least word that a place takes; a NaN for a float.
 fn plain(k: usize) -> u32 {
     match allowed(k) {
         Any => 0x7FC0_0001,
@@ -529,7 +571,8 @@ fn plain(k: usize) -> u32 {
     }
 }
 
-fn rich(k: usize) -> u32 {
+/// The greatest one
+fn greatest(k: usize) -> u32 {
     match allowed(k) {
         Any => u32::MAX,
         OneOf(words) => words[words.len() - 1],
@@ -605,8 +648,8 @@ struct Trial<'a> {
 
 impl Trial<'_> {
     fn new(entry: &Entry, seed: u64) -> Trial<'_> {
-        let figures = Figures { tables: 0, named: [0; WORDS], nothing: [0; 5], beside: [0; 5], opened: [0; 3] };
-        Trial { entry, random: Random(seed.wrapping_mul(0x9E37_79B9_7F4A_7C15) | 1), figures }
+        let random = Random(seed.wrapping_mul(0x9E37_79B9_7F4A_7C15) | 1);
+        Trial { entry, random, figures: Figures::new() }
     }
 
     /// A table and its opening; and, where a word is named, that the words behind it have no say, and that none is named without its item's
@@ -632,7 +675,7 @@ impl Trial<'_> {
 
     fn rows(&mut self) -> Result<(), String> {
         for (words, replaced, named) in ROWS {
-            for word in [plain, rich] {
+            for word in [plain, greatest] {
                 let mut table = filled(words, word);
                 replaced.iter().for_each(|&(at, word)| table[at] = word);
                 self.known(&table, named)?;
@@ -645,9 +688,13 @@ impl Trial<'_> {
     fn values(&mut self) -> Result<(), String> {
         for value in values() {
             for k in 0..WORDS {
-                for (items, item, word) in
-                    [(1, 0, plain as fn(usize) -> u32), (1, 0, rich), (3, 0, rich), (3, 1, plain), (3, 2, rich)]
-                {
+                for (items, item, word) in [
+                    (1, 0, plain as fn(usize) -> u32),
+                    (1, 0, greatest),
+                    (3, 0, greatest),
+                    (3, 1, plain),
+                    (3, 2, greatest),
+                ] {
                     let mut table = filled(WORDS * items, word);
                     table[WORDS * item + k] = value;
                     self.check(&table)?;
@@ -680,7 +727,7 @@ impl Trial<'_> {
         for keyword in (0..=12).chain([255, 266, 1 << 31 | 10]) {
             for safety in [0, 1, 2, 3, 4, 7, 10, 255, 256, 258, 1 << 31, u32::MAX] {
                 for (k, other) in [(0, 0), (0, 10), (1, 0), (1, 10)] {
-                    let mut table = filled(WORDS * 2, if keyword % 2 == 0 { plain } else { rich });
+                    let mut table = filled(WORDS * 2, if keyword % 2 == 0 { plain } else { greatest });
                     let (at, beside) = (WORDS + KEYWORDS[k], WORDS + KEYWORDS[1 - k]);
                     table[at..at + 2].copy_from_slice(&[keyword, safety]);
                     table[beside..beside + 2].copy_from_slice(&[other, 0]);
@@ -699,7 +746,7 @@ impl Trial<'_> {
     /// Many items, with a bad word in the first, in the last, and around 1,024; and a trailing part, whose first word is bad.
     fn large(&mut self) -> Result<(), String> {
         for (items, trailing) in [1023, 1024, 1025, 1150, 1300].iter().flat_map(|&n| [(n, 0), (n, 1), (n, 56)]) {
-            let mut table = filled(WORDS * items + trailing, rich);
+            let mut table = filled(WORDS * items + trailing, greatest);
             table.iter_mut().skip(WORDS * items).take(1).for_each(|word| *word = 2);
             self.known(&table, None)?;
             for item in [0, 1, 127, 128, 1022, 1023, 1024, items - 1].into_iter().filter(|&item| item < items) {
@@ -814,18 +861,17 @@ fn run(thousands: u64, seed: u64) -> Result<String, String> {
     let tried = trial.figures.tables;
     trial.random(thousands * 1000)?;
     let f = trial.figures;
-    if let Some(class) = f.missed() {
-        return Err(format!("seed {seed}: no table of {class}"));
+    if let Some(missed) = f.missed() {
+        return Err(format!("seed {seed}: {missed}"));
     }
-    let [accepted, extent, style] = f.opened;
+    let [accepted, extent, style] = f.opened.map(|class| class.1);
+    let [_, of_item, of_later, ..] = f.beside.map(|class| class.1);
     Ok(format!(
-        "seed {seed}: {tried} directed tables and {} random ones, {} with a word named ({} beside another of its item, {} before a later \
-         item's), each again with random words behind it, {} with none; {accepted} openings accepted, {extent} refused with 2, {style} with \
-         3: no difference; {} wrong entries found out",
+        "seed {seed}: {tried} directed tables and {} random ones, {} with a word named ({of_item} beside another of its item, \
+         {of_later} before a later item's), each again with random words behind it, {} with none; {accepted} openings accepted, \
+         {extent} refused with 2, {style} with 3: no difference; {} wrong entries found out",
         f.tables - tried,
         f.named(),
-        f.beside[1],
-        f.beside[2],
         f.tables - f.named(),
         wrong.len()
     ))
