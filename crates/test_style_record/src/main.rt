@@ -198,9 +198,10 @@ fn main() {
     both_replaced(&mut table, 56, 256, 57, 2);
     io::write_all(1, b"\n");
     // a trailing part of a record is not looked at
+    let before = table[57];
     table[57] = 2;
     part(&table, 58);
-    table[57] = 1;
+    table[57] = before;
     table[58311] = 2;
     part(&table, 58368);
     part(&table, 58367);
