@@ -116,7 +116,7 @@ pub record ReachDemands (place : ℕ) (s : State) (lent : Lent) (r : Reached) : 
 
 -- request #103. `check_styles` refuses nothing: "it names that item and the first of its words, in record order from 0, that breaks one, or
 -- nothing exactly when no word of the table does". The rules are refusal 3's, and it names a word exactly where 3's condition holds. The table
--- is its whole records, however many: a part of one behind them is no item, and a call that lends it is refused before 3
+-- is its whole records, however many: a part of one behind them is no item, and an opening or a reply that lends it is refused before 3
 pub record CheckDemands (styles : List ℕ) (r : TableCheck) : Type 0 where
   pub call : r ≡ checked styles
   pub named : (i k : ℕ) → (r ≡ check.Bad i k) ↔ FirstNotAllowed styles i k
@@ -130,9 +130,9 @@ pub record ScreenDemands (listing : Listing) (text : List ℕ) (r : ℕ) (before
   pub listed : IsList listing (printed listing text) ↔ NoneHolds (programTests text)
 
 -- request #103: the check and refusal 3 agree. Once the two tests before 3 are passed, an opening is refused with 3 exactly where the check
--- names a word of its styles, and so is a reply. ("Every call's answer stays as it was": what `OpeningDemands`, `ReplyDemands` and
--- `EqualsStraightRun` say of calls is as before. "Its time doesn't grow with the table": no statement here speaks of time. `is_style_bad` of
--- placer_check calls `check_styles`, for openings and replies alike; bench measures the check alone and an opening.)
+-- names a word of its styles, and so is a reply. ("Every call's answer stays as it was" is no statement here: the conditions in `openingTests`
+-- and `replyTests` are the ones that were there, and `OpeningDemands` and `ReplyDemands` go by them. Nor does one speak of time: for openings
+-- and replies alike `is_style_bad` of placer_check calls `check_styles`, and bench measures the check alone and an opening.)
 abbrev pub OpeningsGoByTheCheck : Type 0
 OpeningsGoByTheCheck =
     (o : Opening) (candidates : List ℕ) (lent : Lent) (has : Outcome) → Opens o candidates lent has

@@ -82,8 +82,9 @@ pub record ReachDemands (place : ℕ) (lent : Lent) (state before : List ℕ) (h
   pub kept : has .result ≢ 0 → has .verdict ≡ before
   pub written : has .result ≡ 0 → VerdictIn (reached place (stateOf state) lent) (has .verdict)
 
--- request #103, `oof_first_bad_word`. It refuses nothing. Result 1: a word breaks a rule, and the two words are written, the item modulo 2 ^ 32
--- as all counts are. Result 0: none does. This 1 is not refusal 1
+-- request #103, `oof_first_bad_word`. It refuses nothing. Result 1: a word is not allowed, by refusal 3's rules, and the two words are written:
+-- the item, modulo 2 ^ 32 as all counts are, then its word. Result 0: every word is allowed, and the two words stay. This 1 is not refusal 1.
+-- `some` has the condition of 3 that `OpeningDemands` and `ReplyDemands` go by
 pub record BadWordDemands (styles before : List ℕ) (has : CheckReturned) : Type 0 where
   pub call : has ≡ checkInWords styles before
   pub told : (has .result ≡ 1) ⊎ (has .result ≡ 0)

@@ -1,6 +1,6 @@
--- When a call is refused: each row of document 01's table but 8, as a proposition, with document 01's numbers, and the order in which they
--- are tested. `Theorems.antt` states that a call is refused exactly so. Row 8 is of the program: `IsScreen` of screen/specs/Laws.antt.
--- Assumes nothing.
+-- When a call is refused: rows 1 to 7 of document 01's table, each as a proposition, with document 01's numbers, and the order in which they
+-- are tested. `Theorems.antt` states that a call is refused exactly so. Row 8 is of the programs: `IsScreen` of screen/specs/Laws.antt; row 9
+-- stands in pixels/specs and reach/specs. Assumes nothing.
 use Prim.Native.Nat.{ℕ, _+_, _*_, _-_, _/_, _<_, _≤_}
 use mathlib.Core.Logic.{_⊎_, _≢_}
 use mathlib.Core.Path.{_≡_}

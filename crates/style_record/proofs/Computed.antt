@@ -7,7 +7,7 @@ use Rattle.style_record.specs.Rows.{TagRows, CodeRows, SafetyRows, Table
 
 pub tag-rows : TagRows
 unfolding checked checkedFrom orRest firstBroken firstFrom breaksRule breaksAs safetyBreaks items kindOf lengthField lengthKinds codeKinds takes resolved byTag
-tag-rows = (refl, refl, refl, refl, refl, refl, refl, refl, refl, refl, refl, refl, refl)
+tag-rows = (refl, refl, refl, refl, refl, refl, refl, refl, refl, refl, refl, refl, refl, refl, refl, refl, refl, refl, refl)
 
 pub code-rows : CodeRows
 unfolding checked checkedFrom orRest firstBroken firstFrom breaksRule breaksAs safetyBreaks items kindOf lengthField lengthKinds codeKinds takes resolved byTag

@@ -5,7 +5,7 @@ use mathlib.Core.Bool.{Bool, false}
 use lib.Dec.{eqb}
 use Rattle.style_record.specs.Record.{Kind, tag, number, upTo, ratio, keyword, safety, contain}
 
--- the last code of a kind. Any word is a float, so theirs is the last word; no tag stands after the lengths
+-- the last code of a kind. A float may be any word, so its last is the largest of 32 bits; no tag stands after the lengths
 unfoldable pub lastCode : Kind → ℕ
 lastCode (tag f) = 4294967295
 lastCode number = 4294967295

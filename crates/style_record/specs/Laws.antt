@@ -63,7 +63,7 @@ BadIsFirst = (s : List ℕ) (i k : ℕ) → (checked s ≡ table.Bad i k → Fir
 abbrev pub SomeIsFound : Type 0
 SomeIsFound = (s : List ℕ) (i k : ℕ) → i < items s → k < styleWords → breaks s i k ≡ true → (j : ℕ) × (l : ℕ) × (checked s ≡ table.Bad j l)
 
--- as the code tests them, the words after the lengths break their rules
+-- a word after the lengths breaks its rule exactly where it is above the last code of its kind and isn't ignored: so the code tests it
 abbrev pub CodesByTheLast : Type 0
 CodesByTheLast =
     (k before w : ℕ) → afterLengths ≤ k → k < styleWords → w < 4294967296
@@ -90,8 +90,9 @@ pub record TagsOfStyle (y : Style) : Type 0 where
   pub max : TagsOfSize MinOrMax (y .max)
 
 -- a style, written as a record, breaks no rule exactly where each tag is its field's: its floats may be any, and every value of its codes has
--- a code that is allowed. So which tags are taken at which word is fixed by the fields' names, and no code rule is too strict. (That none is too
--- lax: `EachWordIsRead` and the rows)
+-- a code that is allowed. So which tags are taken at which word is fixed by the fields' names, and no code that a value is written as is
+-- refused. (Codes that none is written as, keyword 10, a safety behind it and contain from 4 on, have rows; that no rule is too lax:
+-- `EachWordIsRead` and the rows)
 abbrev pub WrittenIsGood : Type 0
 WrittenIsGood = (y : Style) → (checked (encoded y) ≡ table.Good) ↔ TagsOfStyle y
 
@@ -117,7 +118,7 @@ orBehind n (table.Bad i k) behind = table.Bad i k
 orBehind n table.Good table.Good = table.Good
 orBehind n table.Good (table.Bad i k) = table.Bad (n + i) k
 
--- a table behind n whole items is looked at exactly where none of theirs is bad, and its items count on from theirs
+-- a table behind n whole items has a say exactly where none of theirs is bad, and its items count on from theirs
 abbrev pub BehindIsNext : Type 0
 BehindIsNext = (s t : List ℕ) (n : ℕ) → length s ≡ styleWords * n → checked (s ++ t) ≡ orBehind n (checked s) (checked t)
 
@@ -125,8 +126,8 @@ BehindIsNext = (s t : List ℕ) (n : ℕ) → length s ≡ styleWords * n → ch
 abbrev pub PartIsPassedOver : Type 0
 PartIsPassedOver = (s t : List ℕ) (n : ℕ) → length s ≡ styleWords * n → length t < styleWords → checked (s ++ t) ≡ checked s
 
--- ---- the decoding: `encoded` has document 01's words in their order, and decoding is its inverse. So no word is dropped, none is read
--- as another's, and the words that decoding passes over are those that `kept` names.
+-- ---- the decoding: `encoded` has document 01's words in their order, which is to be read there, and decoding is its inverse. So no word is
+-- dropped, none is read as another's, and the words that decoding passes over are those that `kept` names.
 
 -- an item that breaks no rule, decoded and written again
 abbrev pub EachWordIsRead : Type 0

@@ -37,13 +37,21 @@ TagRows =
     × (checked (put 22 3 plain) ≡ Bad 0 22)
     × (checked (put 24 3 plain) ≡ Bad 0 24)
     × (checked (put 30 3 plain) ≡ Bad 0 30)
-    -- min-content: in the size, min and max, not in an inset or a margin
+    -- percent: everywhere
+    × (checked (put 0 5 (put 8 5 (put 16 5 (put 24 5 plain)))) ≡ Good)
+    -- min-content: in the size, min and max, not in the others
     × (checked (put 0 11 plain) ≡ Bad 0 0)
     × (checked (put 14 11 plain) ≡ Bad 0 14)
+    × (checked (put 16 11 plain) ≡ Bad 0 16)
+    × (checked (put 30 11 plain) ≡ Bad 0 30)
     × (checked (put 32 11 (put 34 11 (put 36 11 (put 38 11 (put 40 11 (put 42 11 plain)))))) ≡ Good)
+    -- and so are all other tags, and no others
+    × (checked (put 32 3 (put 34 5 (put 36 15 (put 38 27 (put 40 35 (put 42 43 plain)))))) ≡ Good)
+    × (checked (put 32 59 (put 34 75 (put 36 59 (put 38 75 (put 40 59 (put 42 75 plain)))))) ≡ Good)
+    × (checked (put 32 2 plain) ≡ Bad 0 32)
     × (checked (put 36 2 plain) ≡ Bad 0 36)
     -- a value may be any bits
-    × (checked (put 1 nan plain) ≡ Good)
+    × (checked (put 1 nan (put 43 0xFFFF_FFFF plain)) ≡ Good)
 
 -- ---- the words after the lengths
 
@@ -52,7 +60,7 @@ CodeRows =
     -- ratio present; the ratio is any bits, present or not
     (checked (put 44 2 plain) ≡ Bad 0 44)
     × (checked (put 44 1 (put 45 nan plain)) ≡ Good)
-    × (checked (put 45 nan plain) ≡ Good)
+    × (checked (put 45 0xFFFF_FFFF plain) ≡ Good)
     -- box sizing, flags, direction
     × (checked (put 46 1 (put 47 3 (put 48 1 plain))) ≡ Good)
     × (checked (put 46 2 plain) ≡ Bad 0 46)

@@ -14,7 +14,7 @@ pub enum TableCheck {
     Bad { item: usize, word: usize },
 }
 
-// The last code of word k, after the lengths. Of the ratio and the scrollbar width, which are floats, any word is one.
+// The last code of word k, after the lengths. The ratio and the scrollbar width are floats, which may be any word.
 fn last_code(k: usize) -> u32
     requires { ⌜ (afterLengths ≤ k) × (k < styleWords) ⌝ }
     ensures { λ r. ⌜ r ≡ lastCode (kindOf k) ⌝ }
