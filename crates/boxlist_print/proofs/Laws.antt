@@ -1,5 +1,5 @@
 -- Proofs of the statements of `specs/Laws.antt`. Assumes nothing.
-use Prim.Native.Nat.{ℕ, _<_, _≤_}
+use Prim.Native.Nat.{ℕ, _+_, _<_, _≤_}
 use native.Mathlib.Omega.{arith}
 use mathlib.Core.Path.{_≡_, refl, sym, ap, _∙_}
 use mathlib.Core.Bool.{Bool, true, false, cond}
@@ -12,7 +12,7 @@ use Rattle.refusal.specs.declared.Refusal.the-variants.{BadScreenLine}
 use Rattle.refusal.specs.Refusal.{numberOf}
 use Rattle.boxlist_lines.specs.Lines.{refusalText}
 use Rattle.boxlist_lines.proofs.Laws.{list-bytes, refusal-bytes}
-use Rattle.screen_fields.specs.Format.{MAX-CANDIDATES}
+use Rattle.screen_fields.specs.Format.{MAX-CANDIDATES, MAX-BYTES}
 use Rattle.screen.specs.Screen.{isScreen, itemCount, headerOf, stylesOf, repliesOf, candidatesOf}
 use Rattle.screen.proofs.Laws.{screen-size}
 use Rattle.run.specs.declared.Opening.{Opening}
@@ -75,7 +75,7 @@ pub long-is-refused : LongIsRefused
 unfolding printed
 long-is-refused listing text h = go (isScreen text) refl
   where
-    too-long : (n : ℕ) → 125807 < n → n ≤ 125807 → ⊥
+    too-long : (n : ℕ) → MAX-BYTES < n → n ≤ MAX-BYTES → ⊥
     too-long n h k = omega arith
 
     go : (b : Bool) → isScreen text ≡ b
@@ -85,16 +85,16 @@ long-is-refused listing text h = go (isScreen text) refl
     go false e = refl
 
 pub cut-is-enough : CutIsEnough
-cut-is-enough listing text = go (leb (length text) 125808) refl
+cut-is-enough listing text = go (leb (length text) (MAX-BYTES + 1)) refl
   where
-    long : (n : ℕ) → 125808 < n → 125807 < n
+    long : (n : ℕ) → (MAX-BYTES + 1) < n → MAX-BYTES < n
     long n h = omega arith
 
-    cut : 125808 < length text → 125807 < length (take 125808 text)
-    cut h = rw (length-take-le 125808 text (omega arith)) (omega arith)
+    cut : (MAX-BYTES + 1) < length text → MAX-BYTES < length (take (MAX-BYTES + 1) text)
+    cut h = rw (length-take-le (MAX-BYTES + 1) text (omega arith)) (omega arith)
 
-    go : (b : Bool) → leb (length text) 125808 ≡ b → printed listing (take 125808 text) ≡ printed listing text
-    go true e = ap (printed listing) (take-all 125808 text (leb-true (length text) 125808 e))
+    go : (b : Bool) → leb (length text) (MAX-BYTES + 1) ≡ b → printed listing (take (MAX-BYTES + 1) text) ≡ printed listing text
+    go true e = ap (printed listing) (take-all (MAX-BYTES + 1) text (leb-true (length text) (MAX-BYTES + 1) e))
     go false e =
-        let h = leb-false (length text) 125808 e in
-        long-is-refused listing (take 125808 text) (cut h) ∙ sym (long-is-refused listing text (long (length text) h))
+        let h = leb-false (length text) (MAX-BYTES + 1) e in
+        long-is-refused listing (take (MAX-BYTES + 1) text) (cut h) ∙ sym (long-is-refused listing text (long (length text) h))

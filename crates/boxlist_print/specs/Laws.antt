@@ -1,5 +1,5 @@
 -- What `printed` means, as statements. `proofs/` proves each, under its name in small letters. Assumes nothing.
-use Prim.Native.Nat.{ℕ, _<_, _≤_}
+use Prim.Native.Nat.{ℕ, _+_, _<_, _≤_}
 use mathlib.Core.Logic.{_↔_, _⊎_, _≢_}
 use mathlib.Core.Path.{_≡_}
 use mathlib.Core.Bool.{not}
@@ -11,7 +11,7 @@ use Rattle.refusal.specs.declared.Refusal.the-variants.{BadArea, BadStyle, BadC
 use Rattle.refusal.specs.Refusal.{numberOf}
 use Rattle.boxlist_lines.specs.declared.list.Row.{Row}
 use Rattle.boxlist_lines.specs.Lines.{listText, refusalText}
-use Rattle.screen_fields.specs.Format.{MAX-CANDIDATES}
+use Rattle.screen_fields.specs.Format.{MAX-CANDIDATES, MAX-BYTES}
 use Rattle.screen.specs.Screen.{isScreen, headerOf, stylesOf, candidatesOf}
 use Rattle.screen.specs.Laws.{IsScreen}
 use Rattle.run.specs.Conditions.{AreaIsBad, StyleIsBad, places, CandidateIsBad, FirstIs, NoneHolds}
@@ -99,8 +99,8 @@ PrintedFits = (listing : Listing) (text : List ℕ) → length (printed listing 
 -- ---- a text longer than the longest screen is refused with 8
 
 abbrev pub LongIsRefused : Type 0
-LongIsRefused = (listing : Listing) (text : List ℕ) → 125807 < length text → printed listing text ≡ refusalText 8
+LongIsRefused = (listing : Listing) (text : List ℕ) → MAX-BYTES < length text → printed listing text ≡ refusalText 8
 
--- so nothing is lost where the programs read no more than 125,808 bytes
+-- so nothing is lost where the programs read no more than one byte beyond it
 abbrev pub CutIsEnough : Type 0
-CutIsEnough = (listing : Listing) (text : List ℕ) → printed listing (take 125808 text) ≡ printed listing text
+CutIsEnough = (listing : Listing) (text : List ℕ) → printed listing (take (MAX-BYTES + 1) text) ≡ printed listing text

@@ -68,11 +68,11 @@ module _ (area : OofPositioningArea) (ws : List ℕ) where
       → good (candidateKinds n) (imageCandidates area ws) (candidateWidth * i) ≡ good (candidateKinds n) ws (candidateWidth * i)
   unfolding good breaks
   same-record n i h =
-      same-every 13 (λ k. not (wrong (getD (candidateKinds n) k whole) (getD (imageCandidates area ws) (13 * i + k) 0)))
-      (λ k. not (wrong (getD (candidateKinds n) k whole) (getD ws (13 * i + k) 0)))
+      same-every candidateWidth (λ k. not (wrong (getD (candidateKinds n) k whole) (getD (imageCandidates area ws) (candidateWidth * i + k) 0)))
+      (λ k. not (wrong (getD (candidateKinds n) k whole) (getD ws (candidateWidth * i + k) 0)))
       (λ k l.
-      ap (λ (w : ℕ). not (wrong (getD (candidateKinds n) k whole) w)) (each-word 13 (imageCandidate area) ws i k l h)
-      ∙ ap not (image-wrong area (λ j. getD ws (13 * i + j) 0) n k))
+      ap (λ (w : ℕ). not (wrong (getD (candidateKinds n) k whole) w)) (each-word candidateWidth (imageCandidate area) ws i k l h)
+      ∙ ap not (image-wrong area (λ j. getD ws (candidateWidth * i + j) 0) n k))
 
   pub same-candidates : (n : ℕ)
       → goodRecords (candidateKinds n) (imageCandidates area ws) (length (imageCandidates area ws) / candidateWidth)
@@ -80,8 +80,8 @@ module _ (area : OofPositioningArea) (ws : List ℕ) where
   unfolding goodRecords
   same-candidates n =
       rw (each-length candidateWidth (imageCandidate area) ws)
-      (ap (λ (b : Bool). leb (length ws / 13) (length ws / 13) && b)
-      (same-every (length ws / 13) (λ i. good (candidateKinds n) (imageCandidates area ws) (13 * i)) (λ i. good (candidateKinds n) ws (13 * i)) (same-record n)))
+      (ap (λ (b : Bool). leb (length ws / candidateWidth) (length ws / candidateWidth) && b)
+      (same-every (length ws / candidateWidth) (λ i. good (candidateKinds n) (imageCandidates area ws) (candidateWidth * i)) (λ i. good (candidateKinds n) ws (candidateWidth * i)) (same-record n)))
 
 -- ---- a record decoded
 
@@ -123,6 +123,6 @@ module _ (area : OofPositioningArea) (ws : List ℕ) (i : ℕ) (h : i < length w
       → getD (recordAt candidateWidth (imageCandidates area ws) i) k 0 ≡ imageCandidate area (λ j. getD (recordAt candidateWidth ws i) j 0) k
   unfolding imageCandidate
   record-words k l =
-      word-of-record 13 (imageCandidates area ws) i k l
-      ∙ each-word 13 (imageCandidate area) ws i k l h
-      ∙ rw (← word-of-record 13 ws i 3 (lit< tt), ← word-of-record 13 ws i 4 (lit< tt), ← word-of-record 13 ws i k l) refl
+      word-of-record candidateWidth (imageCandidates area ws) i k l
+      ∙ each-word candidateWidth (imageCandidate area) ws i k l h
+      ∙ rw (← word-of-record candidateWidth ws i 3 (lit< tt), ← word-of-record candidateWidth ws i 4 (lit< tt), ← word-of-record candidateWidth ws i k l) refl

@@ -1,5 +1,5 @@
 -- Screens that are computed: one that meets all that demand 3 asks, and for each thing asked one that lacks it alone. Assumes nothing.
-use Prim.Native.Nat.{ℕ, _+_}
+use Prim.Native.Nat.{ℕ, _+_, _*_}
 use mathlib.Core.Path.{_≡_, refl}
 use mathlib.Core.Bool.{true, false}
 use mathlib.Core.List.{List, [], _∷_, _++_, foldl, map}
@@ -11,13 +11,16 @@ use Rattle.geometry.specs.Geometry as geometry-geometry
 use Rattle.style.specs.Resolve as style-resolve
 use Rattle.style.specs.Values as style-values
 use Rattle.style.specs.Codes as style-codes
+use Rattle.style_record.specs.Record.{styleWords}
 use Rattle.style_record.specs.Record as style-record-record
 use Rattle.style_record.specs.Check as style-record-check
 use Rattle.style_record.specs.Decode as style-record-decode
 use Rattle.records.specs.Records as records-records
 use Rattle.tree.specs.Static as tree-static
 use Rattle.tree_record.specs.Codes as tree-record-codes
+use Rattle.tree_record.specs.Candidate.{candidateWidth}
 use Rattle.tree_record.specs.Candidate as tree-record-candidate
+use Rattle.tree_record.specs.Layout.{layoutWidth}
 use Rattle.tree_record.specs.Layout as tree-record-layout
 use Rattle.sweep.specs.Sweep as sweep-sweep
 use Rattle.oof_axis.specs.Axis as oof-axis-axis
@@ -95,10 +98,15 @@ screen width height x =
       overflowy = 0;
     }
 
--- all words of layouts and lists are one word
+-- layouts and lists of so many records, whose words are all one word
 abbrev lentWith : List ℕ → ℕ → ℕ → ℕ → ℕ → Lent
 lentWith styles filler layouts working unclaimed =
-    record { styles = styles; layouts = replicate layouts filler; working = replicate working filler; unclaimed = replicate unclaimed filler }
+    record {
+      styles = styles;
+      layouts = replicate (layoutWidth * layouts) filler;
+      working = replicate (candidateWidth * working) filler;
+      unclaimed = replicate (candidateWidth * unclaimed) filler;
+    }
 
 abbrev pub turn : Reply → List ℕ → Loan → Turn
 turn reply surfaced loan = record { heard = record { reply = reply; surfaced = surfaced }; loan = loan }
@@ -126,17 +134,17 @@ four = candidate 2 0 0 0 0 ++ candidate 3 1 1106247680 0 0 ++ candidate 2 1 1106
 
 -- the words of the run's lists are zeros at first, those of its image sevens
 abbrev pub lent : Lent
-lent = lentWith table 0 46 39 26
+lent = lentWith table 0 2 3 2
 
 abbrev pub lent' : Lent
-lent' = lentWith (imageStyles table) 7 46 39 26
+lent' = lentWith (imageStyles table) 7 2 3 2
 
 -- a width of NaN for a box that is to be laid out: refused, so that any words may be lent
 abbrev pub wrongKind : Message
 wrongKind =
     record {
-      turn = turn (Width (word 2143289344)) (1 ∷ []) (other (lentWith (replicate 114 1) 1 46 39 26));
-      image = turn (Width (word 2143289344)) (2 ∷ []) (other (lentWith (replicate 114 2) 2 46 39 26));
+      turn = turn (Width (word 2143289344)) (1 ∷ []) (other (lentWith (replicate (styleWords * 2) 1) 1 2 3 2));
+      image = turn (Width (word 2143289344)) (2 ∷ []) (other (lentWith (replicate (styleWords * 2) 2) 2 2 3 2));
     }
 
 -- the first box is laid out, and surfaces a fixed one at 0
@@ -152,7 +160,7 @@ laidOut = toBoth nothing []
 
 -- slices of other lengths
 abbrev pub wrongLengths : Message
-wrongLengths = record { turn = turn nothing [] (other (lentWith [] 1 0 13 0)); image = turn nothing [] (other (lentWith [] 2 0 13 0)) }
+wrongLengths = record { turn = turn nothing [] (other (lentWith [] 1 0 1 0)); image = turn nothing [] (other (lentWith [] 2 0 1 0)) }
 
 abbrev pub replies : List Message
 replies = wrongKind ∷ surfacesFixed ∷ measured ∷ laidOut ∷ wrongLengths ∷ laidOut ∷ []
@@ -187,16 +195,16 @@ unclaimedWords o = map (λ (c : OofCandidate). toBits binary32 (c .place .x .are
 
 -- a run and its image, over lists of two records
 abbrev pub ran : Opening → List ℕ → List ℕ → List Message → Outcome
-ran o styles candidates messages = foldl (runNext styles) (opened o candidates (lentWith styles 0 23 26 26)) messages
+ran o styles candidates messages = foldl (runNext styles) (opened o candidates (lentWith styles 0 1 2 2)) messages
 
 abbrev pub imageRan : Opening → List ℕ → List ℕ → List Message → Outcome
 imageRan o styles candidates messages =
-    foldl (imageNext (imageStyles styles)) (opened (imageOpening o) (imageCandidates (o .area) candidates) (lentWith (imageStyles styles) 0 23 26 26)) messages
+    foldl (imageNext (imageStyles styles)) (opened (imageOpening o) (imageCandidates (o .area) candidates) (lentWith (imageStyles styles) 0 1 2 2)) messages
 
 -- the image over the run's own styles
 abbrev pub unflipped : Opening → List ℕ → List ℕ → List Message → Outcome
 unflipped o styles candidates messages =
-    foldl (imageNext styles) (opened (imageOpening o) (imageCandidates (o .area) candidates) (lentWith styles 0 23 26 26)) messages
+    foldl (imageNext styles) (opened (imageOpening o) (imageCandidates (o .area) candidates) (lentWith styles 0 1 2 2)) messages
 
 -- a box of no size; as wide as its content; between insets of 0.05 and 0.1; 2 wide and 0.25 high, its left inset -1
 abbrev pub still : List ℕ
@@ -246,11 +254,11 @@ tenth = toBoth (Width (word 1036831949)) [] ∷ laidOut ∷ []
 
 -- it is laid out, and the image alone is lent slices of other lengths
 abbrev pub shorter : List Message
-shorter = record { turn = turn nothing [] own; image = turn nothing [] (other (lentWith [] 0 0 13 0)) } ∷ []
+shorter = record { turn = turn nothing [] own; image = turn nothing [] (other (lentWith [] 0 0 1 0)) } ∷ []
 
 -- it is laid out, and the run alone is lent a table of twos, which is no table of styles
 abbrev pub badTable : List Message
-badTable = record { turn = turn nothing [] (other (lentWith (replicate 57 2) 0 23 26 26)); image = turn nothing [] own } ∷ []
+badTable = record { turn = turn nothing [] (other (lentWith (replicate styleWords 2) 0 1 2 2)); image = turn nothing [] own } ∷ []
 
 -- one number that an answer tells: the space across that a question offers, or how far a finish reaches to the left
 abbrev spaceIn : Question → AvailableSpace

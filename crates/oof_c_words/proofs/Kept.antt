@@ -50,8 +50,8 @@ unfolding badList
 few-records list e = ltb-false 4096 (length list / candidateWidth) (neither (ragged candidateWidth list) (ltb 4096 (length list / candidateWidth)) e .1)
 
 -- so many records of so many words fit in a count of one word
-records-in-a-word : (n : ℕ) → n / 13 ≤ 4096 → InAWord n
-records-in-a-word n h = let g : n < 13 * (n / 13 + 1) = lt-mul-div-succ n (lit< tt) in omega (arith, g, h)
+records-in-a-word : (n : ℕ) → n / candidateWidth ≤ 4096 → InAWord n
+records-in-a-word n h = let g : n < candidateWidth * (n / candidateWidth + 1) = lt-mul-div-succ n (lit< tt) in omega (arith, g, h)
 
 items-in-a-word : (n : ℕ) → n / 57 ≤ 1024 → InAWord n
 items-in-a-word n h = let g : n < 57 * (n / 57 + 1) = lt-mul-div-succ n (lit< tt) in omega (arith, g, h)

@@ -13,7 +13,7 @@ use Rattle.util.proofs.Floats.{no}
 use Rattle.style.specs.Laws.{tagsOf, among}
 use Rattle.style.proofs.Laws.{takes-its-tags}
 use Rattle.records.specs.Records.{room, good, goodRecords}
-use Rattle.tree_record.specs.Candidate.{axisKinds, candidateKinds}
+use Rattle.tree_record.specs.Candidate.{candidateWidth, axisKinds, candidateKinds}
 use Rattle.tree_record.proofs.Good.{good-axis, good-record}
 use Rattle.style_record.specs.Record.{Kind, tag, number, upTo, ratio, keyword, safety, contain, kindOf, item, items}
 use Rattle.style_record.specs.Check.{safetyBreaks, breaksAs, breaksRule, breaks, checked}
@@ -59,10 +59,10 @@ area-decided o = regroup (regroup (either (either (either (below 1 (o .direction
 same : (m n : ℕ) → m ≡ n → not (eqb m n) ≡ false
 same m n e = ap not (eq-eqb m n e)
 
-pub whole-decided : (list : List ℕ) → Decides (ragged 13 list) (¬ Whole list)
+pub whole-decided : (list : List ℕ) → Decides (ragged candidateWidth list) (¬ Whole list)
 whole-decided list =
-    refutes (λ f. (length list / 13, let e = eqb-true (length list % 13) 0 (not-false _ f) in omega arith))
-    (λ h. let e = h .1 in same (length list % 13) 0 (omega arith))
+    refutes (λ f. (length list / candidateWidth, let e = eqb-true (length list % candidateWidth) 0 (not-false _ f) in omega arith))
+    (λ h. let e = h .1 in same (length list % candidateWidth) 0 (omega arith))
 
 list-decided : (list : List ℕ) → Decides (badList list) (¬ GoodList list)
 unfolding badList
@@ -71,15 +71,15 @@ list-decided list = refutes there back
     there : badList list ≡ false → GoodList list
     there f =
         let parts = neither _ _ f in
-        let e = eqb-true (length list % 13) 0 (not-false _ (parts .0)) in
-        let h = ltb-false _ (length list / 13) (parts .1) in
-        (length list / 13, h, omega arith)
+        let e = eqb-true (length list % candidateWidth) 0 (not-false _ (parts .0)) in
+        let h = ltb-false _ (length list / candidateWidth) (parts .1) in
+        (length list / candidateWidth, h, omega arith)
 
     back : GoodList list → badList list ≡ false
     back g =
         let h = g .1 in
         let e = g .2 in
-        both-fail (same (length list % 13) 0 (omega arith)) (le-ltb _ (length list / 13) (omega arith))
+        both-fail (same (length list % candidateWidth) 0 (omega arith)) (le-ltb _ (length list / candidateWidth) (omega arith))
 
 table-decided : (styles layouts : List ℕ) → Decides (badTable styles layouts) (¬ GoodTable styles layouts)
 unfolding badTable items
@@ -185,27 +185,27 @@ style-decided styles = record { holds = λ t. there (checked styles) refl t; fai
 
 -- ---- 4
 
-axis-decided : (list : List ℕ) (i k : ℕ) → Decides (not (good axisKinds list (13 * i + k))) (AxisIsBad list i k)
+axis-decided : (list : List ℕ) (i k : ℕ) → Decides (not (good axisKinds list (candidateWidth * i + k))) (AxisIsBad list i k)
 axis-decided list i k =
-    rw (good-axis list (13 * i + k), add-assoc (13 * i) k 2, add-assoc (13 * i) k 3, add-assoc (13 * i) k 4)
+    rw (good-axis list (candidateWidth * i + k), add-assoc (candidateWidth * i) k 2, add-assoc (candidateWidth * i) k 3, add-assoc (candidateWidth * i) k 4)
     (guard _ (at-most 3 (word list i (k + 2))) (guard _ (at-most 3 (word list i (k + 3))) (last (at-most 3 (word list i (k + 4))))))
 
-record-decided : (n : ℕ) (list : List ℕ) (i : ℕ) → Decides (not (good (candidateKinds n) list (13 * i))) (RecordIsBad n list i)
+record-decided : (n : ℕ) (list : List ℕ) (i : ℕ) → Decides (not (good (candidateKinds n) list (candidateWidth * i))) (RecordIsBad n list i)
 record-decided n list i =
-    rw (good-record n list (13 * i), add-zero)
-    (guard _ (at-most n (getD list (13 * i) 0)) (guard _ (at-most 5 (word list i 2)) (decides.both (good axisKinds list (13 * i + 3)) (good axisKinds list (13 * i + 8)) (axis-decided list i 3) (axis-decided list i 8))))
+    rw (good-record n list (candidateWidth * i), add-zero)
+    (guard _ (at-most n (getD list (candidateWidth * i) 0)) (guard _ (at-most 5 (word list i 2)) (decides.both (good axisKinds list (candidateWidth * i + 3)) (good axisKinds list (candidateWidth * i + 8)) (axis-decided list i 3) (axis-decided list i 8))))
 
 pub candidate-decided : (styles list : List ℕ) (count : ℕ) → count ≤ places list → Decides (badCandidate styles list count) (CandidateIsBad styles list count)
 unfolding badCandidate goodRecords
 candidate-decided styles list count h =
-    rw (le-leb count (length list / 13) h)
-    (not-every count (λ i. good (candidateKinds (items styles)) list (13 * i)) (RecordIsBad (items styles) list) (record-decided (items styles) list))
+    rw (le-leb count (length list / candidateWidth) h)
+    (not-every count (λ i. good (candidateKinds (items styles)) list (candidateWidth * i)) (RecordIsBad (items styles) list) (record-decided (items styles) list))
 
 -- ---- 5
 
-exceeds : (held more l : ℕ) → Decides (not (room 13 l held more)) (l / 13 < held + more)
+exceeds : (held more l : ℕ) → Decides (not (room candidateWidth l held more)) (l / candidateWidth < held + more)
 unfolding room
-exceeds held more l = by-iff (opposite (at-most (held + more) (l / 13))) (λ n. omega arith, λ h k. absurd (omega arith))
+exceeds held more l = by-iff (opposite (at-most (held + more) (l / candidateWidth))) (λ n. omega arith, λ h k. absurd (omega arith))
 
 pub full-decided : (by : ContainingBlockClaims) (lent : Lent) (filled : Filled) (candidates : List ℕ)
     → Decides (listFull by lent filled candidates) (Exceeds by (candidatesIn candidates) (lent .working) (lent .unclaimed) filled)

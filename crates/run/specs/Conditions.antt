@@ -38,13 +38,17 @@ AreaIsBad o = (1 < o .direction) ⊎ (3 < o .claims) ⊎ (3 < o .overflowx) ⊎ 
 abbrev pub GoodTable : List ℕ → List ℕ → Type 0
 GoodTable styles layouts = (n : ℕ) × (n ≤ 1024) × (length styles ≡ 57 * n) × (length layouts ≡ 23 * n)
 
--- whole records of 13 words: of candidates
+-- "Candidate, 13 words"
+abbrev pub recordWords : ℕ
+recordWords = 13
+
+-- whole records of candidates
 abbrev pub Whole : List ℕ → Type 0
-Whole list = (n : ℕ) × (length list ≡ 13 * n)
+Whole list = (n : ℕ) × (length list ≡ recordWords * n)
 
 -- at most 4,096 of them: a working or an unclaimed list
 abbrev pub GoodList : List ℕ → Type 0
-GoodList list = (n : ℕ) × (n ≤ 4096) × (length list ≡ 13 * n)
+GoodList list = (n : ℕ) × (n ≤ 4096) × (length list ≡ recordWords * n)
 
 abbrev pub SlicesAreBad : Lent → Type 0
 SlicesAreBad lent = (¬ GoodTable (lent .styles) (lent .layouts)) ⊎ (¬ GoodList (lent .working)) ⊎ (¬ GoodList (lent .unclaimed))
@@ -94,11 +98,11 @@ AllAllowed styles = (i : ℕ) → i < items styles → (k : ℕ) → k < 57 → 
 
 -- how many whole records a list has places for
 abbrev pub places : List ℕ → ℕ
-places list = length list / 13
+places list = length list / recordWords
 
 -- word k of record i
 abbrev pub word : List ℕ → ℕ → ℕ → ℕ
-word list i k = getD list (13 * i + k) 0
+word list i k = getD list (recordWords * i + k) 0
 
 -- edge, safety, fallback edge of an axis, whose words are those from k on
 abbrev pub AxisIsBad : List ℕ → ℕ → ℕ → Type 0

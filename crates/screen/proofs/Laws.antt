@@ -5,16 +5,21 @@ use native.Mathlib.Nat.{zero-mul, suc-mul}
 use mathlib.Core.Path.{_≡_, refl, sym, _∙_}
 use mathlib.Core.List.{List}
 use lib.ListN.{length, drop, length-append}
+use Rattle.style_record.specs.Record.{styleWords}
+use Rattle.tree_record.specs.Candidate.{candidateWidth}
 use Rattle.screen_fields.specs.declared.format.Kind.{Kind}
 use Rattle.screen_fields.specs.declared.format.Line.{Line}
 use Rattle.screen_fields.specs.declared.format.Line.the-variants.{Item, Candidate}
-use Rattle.screen_fields.specs.Format.{styleFields, replyFields, candidateFields, bytesOf}
+use Rattle.screen_fields.specs.Format.{styleFields, replyWidth, replyFields, candidateFields, bytesOf}
 use Rattle.screen.specs.Screen.{wordsOf, rowsOf, itemCount, candidateCount, answerOf, stylesOf, repliesOf, candidatesOf, written}
-use Rattle.screen.specs.Laws.{ScreenSize, ScreenWords, RefusalWritesNothing}
+use Rattle.screen.specs.Laws.{BytesInNumbers, ScreenSize, ScreenWords, RefusalWritesNothing}
 use Rattle.screen.proofs.Lines.{words-length}
 use Rattle.screen.proofs.Whole.{screen-told}
 
 -- ---- a screen
+
+pub bytes-in-numbers : BytesInNumbers
+bytes-in-numbers = (refl, refl, refl, refl)
 
 pub screen-size : ScreenSize
 screen-size text e =
@@ -37,7 +42,7 @@ rows-length ks w l (suc n) text e =
 pub screen-words : ScreenWords
 unfolding stylesOf repliesOf candidatesOf styleFields replyFields candidateFields
 screen-words text =
-    (rows-length styleFields 57 Item (itemCount text) _ refl, rows-length replyFields 6 Item (itemCount text) _ refl, rows-length candidateFields 13 Candidate (candidateCount text) _ refl)
+    (rows-length styleFields styleWords Item (itemCount text) _ refl, rows-length replyFields replyWidth Item (itemCount text) _ refl, rows-length candidateFields candidateWidth Candidate (candidateCount text) _ refl)
 
 pub refusal-writes-nothing : RefusalWritesNothing
 unfolding answerOf written

@@ -8,24 +8,26 @@ use lib.ListN.{length, take, drop, List·getD-eq-default}
 use lib.Seq.{sets}
 use lib.Dec.{eqb, leb, lit<}
 use borrow.Author.Tests.{le-leb, lt-leb, leb-true, eq-eqb, ne-eqb, eqb-true}
+use Rattle.style_record.specs.Record.{styleWords}
+use Rattle.tree_record.specs.Candidate.{candidateWidth}
 use Rattle.screen_fields.specs.declared.format.Kind.the-variants.{Code}
 use Rattle.screen_fields.specs.declared.format.Line.the-variants.{First, Item, Candidate}
 use Rattle.screen.specs.declared.Screen.the-variants.{BadLine, Read}
-use Rattle.screen_fields.specs.Format.{firstFields, styleFields, replyFields, candidateFields, fieldsOf, ITEM-COUNT, CANDIDATE-COUNT, COLUMNS, bytesOf, MAX-ITEMS, MAX-CANDIDATES}
+use Rattle.screen_fields.specs.Format.{firstFields, styleFields, replyFields, candidateFields, fieldsOf, ITEM-COUNT, CANDIDATE-COUNT, COLUMNS, headerWidth, replyWidth, bytesOf, FIRST-BYTES, ITEM-BYTES, CANDIDATE-BYTES, MAX-ITEMS, MAX-CANDIDATES}
 use Rattle.screen_fields.specs.Field.{wordOf, valueOf}
 use Rattle.screen_fields.specs.Place.{part}
 use Rattle.screen.specs.Screen.{goodFields, goodLine, goodLines, wordsOf, rowsOf, headerOf, itemCount, candidateCount, candidatesAt, screenBytes, isScreen, answerOf, stylesOf, repliesOf, candidatesOf, written}
 use Rattle.screen_fields.proofs.Text.{apart}
-use Rattle.screen_fields.proofs.Table.{FIRST, ITEM, CANDIDATE, first-width, first-bytes, item-bytes, candidate-bytes}
+use Rattle.screen_fields.proofs.Table.{first-width, first-bytes, item-bytes, candidate-bytes}
 use Rattle.screen.proofs.Lines.{words-at}
 
 -- ---- sizes
 
-pub candidates-at : (n : ℕ) → candidatesAt n ≡ FIRST + n * ITEM
+pub candidates-at : (n : ℕ) → candidatesAt n ≡ FIRST-BYTES + n * ITEM-BYTES
 unfolding candidatesAt
 candidates-at n = rw (first-bytes, item-bytes) refl
 
-pub screen-bytes : (n m : ℕ) → screenBytes n m ≡ FIRST + n * ITEM + m * CANDIDATE
+pub screen-bytes : (n m : ℕ) → screenBytes n m ≡ FIRST-BYTES + n * ITEM-BYTES + m * CANDIDATE-BYTES
 unfolding screenBytes
 screen-bytes n m = rw (candidates-at n, candidate-bytes) refl
 
@@ -47,7 +49,7 @@ module _ (text : List ℕ) where
   unfolding answerOf isScreen
   first-bad e = rw e refl
 
-  pub too-short : length text < FIRST → BadLine ≡ answerOf text
+  pub too-short : length text < FIRST-BYTES → BadLine ≡ answerOf text
   too-short h = first-bad none
     where
       none : goodLine First text ≡ false
@@ -64,25 +66,25 @@ module _ (text : List ℕ) where
       candidates-over h = rw (f, ← p, ← q, le-leb n MAX-ITEMS a, lt-leb m MAX-CANDIDATES h) refl
 
       module _ (b : m ≤ MAX-CANDIDATES) where
-        pub bytes-differ : (length text ≡ FIRST + n * ITEM + m * CANDIDATE → ⊥) → BadLine ≡ answerOf text
+        pub bytes-differ : (length text ≡ FIRST-BYTES + n * ITEM-BYTES + m * CANDIDATE-BYTES → ⊥) → BadLine ≡ answerOf text
         unfolding answerOf isScreen
-        bytes-differ d = rw (f, ← p, ← q, le-leb n MAX-ITEMS a, le-leb m MAX-CANDIDATES b, screen-bytes n m, ne-eqb (length text) (FIRST + n * ITEM + m * CANDIDATE) d) refl
+        bytes-differ d = rw (f, ← p, ← q, le-leb n MAX-ITEMS a, le-leb m MAX-CANDIDATES b, screen-bytes n m, ne-eqb (length text) (FIRST-BYTES + n * ITEM-BYTES + m * CANDIDATE-BYTES) d) refl
 
-        module _ (s : length text ≡ FIRST + n * ITEM + m * CANDIDATE) where
-          pub items-bad : goodLines Item n (drop FIRST text) ≡ false → BadLine ≡ answerOf text
+        module _ (s : length text ≡ FIRST-BYTES + n * ITEM-BYTES + m * CANDIDATE-BYTES) where
+          pub items-bad : goodLines Item n (drop FIRST-BYTES text) ≡ false → BadLine ≡ answerOf text
           unfolding answerOf isScreen
           items-bad g =
-              rw (f, ← p, ← q, le-leb n MAX-ITEMS a, le-leb m MAX-CANDIDATES b, screen-bytes n m, eq-eqb (length text) (FIRST + n * ITEM + m * CANDIDATE) s, first-bytes, g) refl
+              rw (f, ← p, ← q, le-leb n MAX-ITEMS a, le-leb m MAX-CANDIDATES b, screen-bytes n m, eq-eqb (length text) (FIRST-BYTES + n * ITEM-BYTES + m * CANDIDATE-BYTES) s, first-bytes, g) refl
 
-          pub candidates-bad : goodLines Item n (drop FIRST text) ≡ true → goodLines Candidate m (drop (FIRST + n * ITEM) text) ≡ false → BadLine ≡ answerOf text
+          pub candidates-bad : goodLines Item n (drop FIRST-BYTES text) ≡ true → goodLines Candidate m (drop (FIRST-BYTES + n * ITEM-BYTES) text) ≡ false → BadLine ≡ answerOf text
           unfolding answerOf isScreen
           candidates-bad g h =
-              rw (f, ← p, ← q, le-leb n MAX-ITEMS a, le-leb m MAX-CANDIDATES b, screen-bytes n m, eq-eqb (length text) (FIRST + n * ITEM + m * CANDIDATE) s, first-bytes, g, candidates-at n, h) refl
+              rw (f, ← p, ← q, le-leb n MAX-ITEMS a, le-leb m MAX-CANDIDATES b, screen-bytes n m, eq-eqb (length text) (FIRST-BYTES + n * ITEM-BYTES + m * CANDIDATE-BYTES) s, first-bytes, g, candidates-at n, h) refl
 
-          pub all-good : goodLines Item n (drop FIRST text) ≡ true → goodLines Candidate m (drop (FIRST + n * ITEM) text) ≡ true → Read n m ≡ answerOf text
+          pub all-good : goodLines Item n (drop FIRST-BYTES text) ≡ true → goodLines Candidate m (drop (FIRST-BYTES + n * ITEM-BYTES) text) ≡ true → Read n m ≡ answerOf text
           unfolding answerOf isScreen
           all-good g h =
-              rw (f, ← p, ← q, le-leb n MAX-ITEMS a, le-leb m MAX-CANDIDATES b, screen-bytes n m, eq-eqb (length text) (FIRST + n * ITEM + m * CANDIDATE) s, first-bytes, g, candidates-at n, h) refl
+              rw (f, ← p, ← q, le-leb n MAX-ITEMS a, le-leb m MAX-CANDIDATES b, screen-bytes n m, eq-eqb (length text) (FIRST-BYTES + n * ITEM-BYTES + m * CANDIDATE-BYTES) s, first-bytes, g, candidates-at n, h) refl
 
 -- ---- what an answer tells
 
@@ -100,7 +102,7 @@ pub record Told (text : List ℕ) (n m : ℕ) : Type 0 where
   pub candidates : m ≡ candidateCount text
   pub fewItems : n ≤ 128
   pub fewCandidates : m ≤ 256
-  pub bytes : length text ≡ FIRST + n * ITEM + m * CANDIDATE
+  pub bytes : length text ≡ FIRST-BYTES + n * ITEM-BYTES + m * CANDIDATE-BYTES
 
 pub screen-told : (text : List ℕ) → isScreen text ≡ true → Told text (itemCount text) (candidateCount text)
 unfolding isScreen
@@ -140,36 +142,36 @@ bad-told text e = go (isScreen text) refl e
 
 -- ---- the four lists
 
-header-part : part (fieldsOf First) 0 10 ≡ firstFields
+header-part : part (fieldsOf First) 0 headerWidth ≡ firstFields
 unfolding part fieldsOf firstFields
 header-part = refl
 
-styles-part : part (fieldsOf Item) 0 57 ≡ styleFields
+styles-part : part (fieldsOf Item) 0 styleWords ≡ styleFields
 unfolding part fieldsOf styleFields replyFields
 styles-part = refl
 
-replies-part : part (fieldsOf Item) 57 6 ≡ replyFields
+replies-part : part (fieldsOf Item) styleWords replyWidth ≡ replyFields
 unfolding part fieldsOf styleFields replyFields
 replies-part = refl
 
-candidates-part : part (fieldsOf Candidate) 0 13 ≡ candidateFields
+candidates-part : part (fieldsOf Candidate) 0 candidateWidth ≡ candidateFields
 unfolding part fieldsOf candidateFields
 candidates-part = refl
 
 -- what is left of a list that was read into
 module _ (text l after : List ℕ) (n m : ℕ) (t : Told text n m) where
-  pub header-read : after ≡ sets l 0 (wordsOf (part (fieldsOf First) 0 10) text) → after ≡ written (isScreen text) l (headerOf text)
+  pub header-read : after ≡ sets l 0 (wordsOf (part (fieldsOf First) 0 headerWidth) text) → after ≡ written (isScreen text) l (headerOf text)
   unfolding written headerOf
   header-read e = e ∙ rw (t .good, header-part) refl
 
-  pub styles-read : after ≡ sets l 0 (rowsOf (part (fieldsOf Item) 0 57) Item n (drop FIRST text)) → after ≡ written (isScreen text) l (stylesOf text)
+  pub styles-read : after ≡ sets l 0 (rowsOf (part (fieldsOf Item) 0 styleWords) Item n (drop FIRST-BYTES text)) → after ≡ written (isScreen text) l (stylesOf text)
   unfolding written stylesOf
   styles-read e = e ∙ rw (t .good, styles-part, ← t .items, first-bytes) refl
 
-  pub replies-read : after ≡ sets l 0 (rowsOf (part (fieldsOf Item) 57 6) Item n (drop (FIRST + COLUMNS * 57) text)) → after ≡ written (isScreen text) l (repliesOf text)
+  pub replies-read : after ≡ sets l 0 (rowsOf (part (fieldsOf Item) styleWords replyWidth) Item n (drop (FIRST-BYTES + COLUMNS * styleWords) text)) → after ≡ written (isScreen text) l (repliesOf text)
   unfolding written repliesOf styleFields
   replies-read e = e ∙ rw (t .good, replies-part, ← t .items, first-bytes) refl
 
-  pub candidates-read : after ≡ sets l 0 (rowsOf (part (fieldsOf Candidate) 0 13) Candidate m (drop (FIRST + n * ITEM) text)) → after ≡ written (isScreen text) l (candidatesOf text)
+  pub candidates-read : after ≡ sets l 0 (rowsOf (part (fieldsOf Candidate) 0 candidateWidth) Candidate m (drop (FIRST-BYTES + n * ITEM-BYTES) text)) → after ≡ written (isScreen text) l (candidatesOf text)
   unfolding written candidatesOf
   candidates-read e = e ∙ rw (t .good, candidates-part, ← t .items, ← t .candidates, candidates-at n) refl

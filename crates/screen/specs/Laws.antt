@@ -6,10 +6,12 @@ use mathlib.Core.Path.{_≡_}
 use mathlib.Core.Bool.{true, false}
 use mathlib.Core.List.{List, [], _∷_, _++_}
 use lib.ListN.{length}
+use Rattle.style_record.specs.Record.{styleWords}
+use Rattle.tree_record.specs.Candidate.{candidateWidth}
 use Rattle.screen_fields.specs.declared.format.Kind.{Kind}
 use Rattle.screen_fields.specs.declared.format.Line.{Line}
 use Rattle.screen_fields.specs.declared.format.Line.the-variants.{First, Item, Candidate}
-use Rattle.screen_fields.specs.Format.{fieldsOf}
+use Rattle.screen_fields.specs.Format.{replyWidth, fieldsOf, FIRST-BYTES, ITEM-BYTES, CANDIDATE-BYTES, MAX-BYTES}
 use Rattle.screen_fields.specs.Laws.{GoodField}
 use Rattle.screen.specs.declared.Screen.{Screen}
 use Rattle.screen.specs.declared.Screen.the-variants.{BadLine}
@@ -43,17 +45,24 @@ ScreenExactly = (text : List ℕ) → (isScreen text ≡ true) ↔ IsScreen text
 
 -- ---- a screen
 
--- the bytes of a screen follow from its counts, and are at most 125,807
+-- the bytes of the three lines and of the longest screen, in numbers
+abbrev pub BytesInNumbers : Type 0
+BytesInNumbers = (FIRST-BYTES ≡ 111) × (ITEM-BYTES ≡ 694) × (CANDIDATE-BYTES ≡ 144) × (MAX-BYTES ≡ 125807)
+
+-- the bytes of a screen follow from its counts
 abbrev pub ScreenSize : Type 0
 ScreenSize =
     (text : List ℕ) → isScreen text ≡ true
-    → (length text ≡ 111 + itemCount text * 694 + candidateCount text * 144) × (itemCount text ≤ 128) × (candidateCount text ≤ 256) × (length text ≤ 125807)
+    → (length text ≡ FIRST-BYTES + itemCount text * ITEM-BYTES + candidateCount text * CANDIDATE-BYTES)
+    × (itemCount text ≤ 128)
+    × (candidateCount text ≤ 256)
+    × (length text ≤ MAX-BYTES)
 
 -- and so do its words
 abbrev pub ScreenWords : Type 0
 ScreenWords =
     (text : List ℕ)
-    → (length (stylesOf text) ≡ itemCount text * 57) × (length (repliesOf text) ≡ itemCount text * 6) × (length (candidatesOf text) ≡ candidateCount text * 13)
+    → (length (stylesOf text) ≡ itemCount text * styleWords) × (length (repliesOf text) ≡ itemCount text * replyWidth) × (length (candidatesOf text) ≡ candidateCount text * candidateWidth)
 
 -- what is no screen is refused, and no word is written
 abbrev pub RefusalWritesNothing : Type 0

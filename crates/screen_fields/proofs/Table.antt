@@ -6,11 +6,13 @@ use mathlib.Core.Bool.{Bool, true, false, cond}
 use mathlib.Core.List.{List, [], _∷_}
 use lib.Dec.{T, ltb, leb, eqb}
 use lib.ListN.{length, getD}
+use Rattle.style_record.specs.Record.{styleWords}
+use Rattle.tree_record.specs.Candidate.{candidateWidth}
 use Rattle.screen_fields.specs.declared.format.Kind.{Kind}
 use Rattle.screen_fields.specs.declared.format.Kind.the-variants.{Code, Eighths}
 use Rattle.screen_fields.specs.declared.format.Line.{Line}
 use Rattle.screen_fields.specs.declared.format.Line.the-variants.{First, Item, Candidate}
-use Rattle.screen_fields.specs.Format.{isFloat, firstFields, styleFields, replyFields, candidateFields, fieldsOf, bytesOf}
+use Rattle.screen_fields.specs.Format.{isFloat, headerWidth, firstFields, styleFields, replyWidth, replyFields, candidateFields, fieldsOf, bytesOf, FIRST-BYTES, ITEM-BYTES, CANDIDATE-BYTES}
 use Rattle.screen_fields.proofs.Text.{apart}
 
 -- the test that the code makes
@@ -73,37 +75,28 @@ unfolding isFloat
 code-is Code e = refl
 code-is Eighths e = absurd (apart (sym e))
 
--- ---- sizes in numbers
+-- ---- sizes by the records' widths
 
-abbrev pub FIRST : ℕ
-FIRST = 111
-
-abbrev pub ITEM : ℕ
-ITEM = 694
-
-abbrev pub CANDIDATE : ℕ
-CANDIDATE = 144
-
-pub first-width : length (fieldsOf First) ≡ 10
+pub first-width : length (fieldsOf First) ≡ headerWidth
 unfolding fieldsOf firstFields
 first-width = refl
 
-pub item-width : length (fieldsOf Item) ≡ 63
+pub item-width : length (fieldsOf Item) ≡ styleWords + replyWidth
 unfolding fieldsOf styleFields replyFields
 item-width = refl
 
-pub candidate-width : length (fieldsOf Candidate) ≡ 13
+pub candidate-width : length (fieldsOf Candidate) ≡ candidateWidth
 unfolding fieldsOf candidateFields
 candidate-width = refl
 
-pub first-bytes : bytesOf First ≡ FIRST
+pub first-bytes : bytesOf First ≡ FIRST-BYTES
 unfolding bytesOf
 first-bytes = rw first-width refl
 
-pub item-bytes : bytesOf Item ≡ ITEM
+pub item-bytes : bytesOf Item ≡ ITEM-BYTES
 unfolding bytesOf
 item-bytes = rw item-width refl
 
-pub candidate-bytes : bytesOf Candidate ≡ CANDIDATE
+pub candidate-bytes : bytesOf Candidate ≡ CANDIDATE-BYTES
 unfolding bytesOf
 candidate-bytes = rw candidate-width refl

@@ -3,6 +3,8 @@ use Prim.Native.Nat.{ℕ, zero, suc, _+_, _*_}
 use mathlib.Core.Bool.{Bool, true, false}
 use mathlib.Core.List.{List, [], _∷_, _++_}
 use lib.ListN.{length, replicate}
+use Rattle.style_record.specs.Record.{styleWords}
+use Rattle.tree_record.specs.Candidate.{candidateWidth}
 use Rattle.screen_fields.specs.declared.format.Kind.{Kind}
 use Rattle.screen_fields.specs.declared.format.Kind.the-variants.{Code, Eighths}
 use Rattle.screen_fields.specs.declared.format.Line.{Line}
@@ -18,6 +20,10 @@ isFloat Eighths = true
 abbrev pub times : ℕ → List Kind → List Kind
 times zero ks = []
 times (suc n) ks = ks ++ times n ks
+
+-- how many fields the first line has
+abbrev pub headerWidth : ℕ
+headerWidth = 10
 
 -- area width, height, offset x, offset y; direction, claims, overflow x, overflow y, item count, candidate count
 unfoldable pub firstFields : List Kind
@@ -61,8 +67,22 @@ COLUMNS = 11
 unfoldable pub bytesOf : Line → ℕ
 bytesOf l = COLUMNS * length (fieldsOf l) + 1
 
+-- the same, by the records' widths
+abbrev pub FIRST-BYTES : ℕ
+FIRST-BYTES = COLUMNS * headerWidth + 1
+
+abbrev pub ITEM-BYTES : ℕ
+ITEM-BYTES = COLUMNS * (styleWords + replyWidth) + 1
+
+abbrev pub CANDIDATE-BYTES : ℕ
+CANDIDATE-BYTES = COLUMNS * candidateWidth + 1
+
 abbrev pub MAX-ITEMS : ℕ
 MAX-ITEMS = 128
 
 abbrev pub MAX-CANDIDATES : ℕ
 MAX-CANDIDATES = 256
+
+-- the bytes of the longest screen
+abbrev pub MAX-BYTES : ℕ
+MAX-BYTES = FIRST-BYTES + MAX-ITEMS * ITEM-BYTES + MAX-CANDIDATES * CANDIDATE-BYTES

@@ -1,8 +1,9 @@
 // What the programs share: a screen is read from standard input, and what `list_screen` makes of it goes to standard output. What a stream
 // holds isn't modelled, so `run` promises nothing: it is to be read.
 ghost use mathlib.Core.Path.{_≡_};
-ghost use Prim.Native.Nat.{_≤_};
+ghost use Prim.Native.Nat.{_+_, _≤_};
 ghost use lib.ListN.{length};
+ghost use Rattle.screen_fields.specs.Format.{MAX-BYTES};
 ghost use Rattle.screen_program.specs.Input.{bytesOf};
 use boxlist_print::LIST_BYTES;
 use boxlist_print::Listing;
@@ -14,7 +15,7 @@ use screen_fields::format;
 const ROOM: usize = format::MAX_BYTES + 1;
 
 fn room() -> [u8; ROOM]
-    ensures { λ r. ⌜ 125808 ≡ length r ⌝ }
+    ensures { λ r. ⌜ MAX-BYTES + 1 ≡ length r ⌝ }
 {
     [0; ROOM]
 }

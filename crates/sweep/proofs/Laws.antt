@@ -129,8 +129,8 @@ unfolding listWords records
 words-back [] f = refl
 words-back (c ∷ cs) f =
     rw (
-      take-at (candidateWords c) (listWords cs) 13 (candidate-widths .1 c),
-      drop-at (candidateWords c) (listWords cs) 13 (candidate-widths .1 c),
+      take-at (candidateWords c) (listWords cs) candidateWidth (candidate-widths .1 c),
+      drop-at (candidateWords c) (listWords cs) candidateWidth (candidate-widths .1 c),
       candidate-back c (f .0),
       words-back cs (f .1),
     )

@@ -78,7 +78,7 @@ words-records : (cs : List OofCandidate) → records candidateWidth (length cs) 
 unfolding listWords records
 words-records [] = refl
 words-records (c ∷ cs) =
-    rw (take-at (candidateWords c) (listWords cs) 13 (candidate-widths .1 c), drop-at (candidateWords c) (listWords cs) 13 (candidate-widths .1 c), words-records cs) refl
+    rw (take-at (candidateWords c) (listWords cs) candidateWidth (candidate-widths .1 c), drop-at (candidateWords c) (listWords cs) candidateWidth (candidate-widths .1 c), words-records cs) refl
 
 module _ (w : List ℕ) (cs : List OofCandidate) (room : candidateWidth * length cs ≤ length w) where
   listed : records candidateWidth (length cs) (appended w 0 cs) ≡ map candidateWords cs
@@ -101,5 +101,5 @@ module _ (w : List ℕ) (cs : List OofCandidate) (room : candidateWidth * length
             ap (wrong (getD (candidateKinds n) k whole))
             (sym (word-of-record candidateWidth (appended w 0 cs) i k l) ∙ ap (λ (r : List ℕ). getD r k 0) (record-listed i h)
             ∙ ap (λ (j : ℕ). getD r j 0) (sym (zero-add k)))
-            ∙ not-true _ (every-is 13 (λ k. not (breaks (candidateKinds n) r 0 k)) .0 (each-good n cs i a h) k l),
+            ∙ not-true _ (every-is candidateWidth (λ k. not (breaks (candidateKinds n) r 0 k)) .0 (each-good n cs i a h) k l),
       )

@@ -93,8 +93,8 @@ words-length [] = refl
 words-length (c ∷ cs) =
     length-append (candidateWords c) (listWords cs) ∙ rw (candidate-widths .1 c, words-length cs) (more (length cs))
   where
-    more : (n : ℕ) → 13 + 13 * n ≡ 13 * suc n
-    more n = omega (arith, mul-suc 13 n)
+    more : (n : ℕ) → candidateWidth + candidateWidth * n ≡ candidateWidth * suc n
+    more n = omega (arith, mul-suc candidateWidth n)
 
 pub appended-none : (ws : List ℕ) (k : ℕ) → appended ws k [] ≡ ws
 unfolding listWords written

@@ -11,15 +11,16 @@ use screen_fields::format;
 use style_record::words::STYLE_WORDS;
 use tree_record::candidate::CANDIDATE_WORDS;
 use util::bits;
-ghost use Prim.Native.Nat.{_≤_};
+ghost use Prim.Native.Nat.{_+_, _≤_};
 ghost use mathlib.Core.Path.{_≡_};
 ghost use lib.ListN.{length};
+ghost use Rattle.screen_fields.specs.Format.{MAX-BYTES};
 
 // One byte more than the longest screen.
 const ROOM: usize = format::MAX_BYTES + 1;
 
 fn room() -> [u8; ROOM]
-    ensures { λ r. ⌜ 125808 ≡ length r ⌝ }
+    ensures { λ r. ⌜ MAX-BYTES + 1 ≡ length r ⌝ }
 {
     [0; ROOM]
 }

@@ -23,7 +23,7 @@ use Rattle.tree.specs.declared.layout.AxisStaticEdge.{AxisStaticEdge}
 use Rattle.tree.specs.declared.layout.AxisStaticEdge.the-variants.{Start, Center, End}
 use Rattle.tree_record.specs.Codes.{positionOf, positionCode, edgeOf, edgeCode}
 use Rattle.style.specs.Codes.{safetyOf, safetyCode}
-use Rattle.tree_record.specs.Candidate.{candidateKinds, axisOf, candidateOf, candidateWords}
+use Rattle.tree_record.specs.Candidate.{candidateWidth, candidateKinds, axisOf, candidateOf, candidateWords}
 use Rattle.tree_record.specs.Layout.{rectOf, layoutOf, layoutWords}
 use Rattle.tree_record.specs.Laws.{CandidateWidths, DecodedFits, CandidateBack, RecordRewritten, LayoutWidths, FitsSize, FitsPoint, FitsRect, LayoutBack, LayoutRewritten}
 
@@ -104,9 +104,9 @@ candidate-back c f =
     refl
 
 -- a code of a good record is in its list
-in-list : (n : ℕ) (r : List ℕ) → good (candidateKinds n) r 0 ≡ true → (k : ℕ) → k < 13 → breaks (candidateKinds n) r 0 k ≡ false
+in-list : (n : ℕ) (r : List ℕ) → good (candidateKinds n) r 0 ≡ true → (k : ℕ) → k < candidateWidth → breaks (candidateKinds n) r 0 k ≡ false
 unfolding good
-in-list n r g k h = not-true (breaks (candidateKinds n) r 0 k) (every-is 13 (λ k. not (breaks (candidateKinds n) r 0 k)) .0 g k h)
+in-list n r g k h = not-true (breaks (candidateKinds n) r 0 k) (every-is candidateWidth (λ k. not (breaks (candidateKinds n) r 0 k)) .0 g k h)
 
 pub record-rewritten : RecordRewritten
 unfolding candidateOf candidateWords axisOf canonicalFrom canonicalWord breaks wrong

@@ -47,7 +47,7 @@ pub candidate-place : (ws : List ℕ) (i : ℕ) → candidateOf (recordAt candid
 unfolding candidateOf
 candidate-place ws i =
     rw
-    (first 13 ws i (lit< tt), word-of-record 13 ws i 1 (lit< tt), word-of-record 13 ws i 2 (lit< tt), axis-place 13 ws i 3 (lit≤ tt), axis-place 13 ws i 8 (lit≤ tt))
+    (first candidateWidth ws i (lit< tt), word-of-record candidateWidth ws i 1 (lit< tt), word-of-record candidateWidth ws i 2 (lit< tt), axis-place candidateWidth ws i 3 (lit≤ tt), axis-place candidateWidth ws i 8 (lit≤ tt))
     refl
 
 abbrev pub layoutFrom : List ℕ → ℕ → Layout
@@ -67,16 +67,16 @@ pub layout-place : (ws : List ℕ) (i : ℕ) → layoutOf (recordAt layoutWidth 
 unfolding layoutOf
 layout-place ws i =
     rw (
-      first 23 ws i (lit< tt),
-      word-of-record 23 ws i 1 (lit< tt),
-      word-of-record 23 ws i 2 (lit< tt),
-      rect-place 23 ws i 3 (lit≤ tt),
-      word-of-record 23 ws i 7 (lit< tt),
-      word-of-record 23 ws i 8 (lit< tt),
-      word-of-record 23 ws i 9 (lit< tt),
-      word-of-record 23 ws i 10 (lit< tt),
-      rect-place 23 ws i 11 (lit≤ tt),
-      rect-place 23 ws i 15 (lit≤ tt),
-      rect-place 23 ws i 19 (lit≤ tt),
+      first layoutWidth ws i (lit< tt),
+      word-of-record layoutWidth ws i 1 (lit< tt),
+      word-of-record layoutWidth ws i 2 (lit< tt),
+      rect-place layoutWidth ws i 3 (lit≤ tt),
+      word-of-record layoutWidth ws i 7 (lit< tt),
+      word-of-record layoutWidth ws i 8 (lit< tt),
+      word-of-record layoutWidth ws i 9 (lit< tt),
+      word-of-record layoutWidth ws i 10 (lit< tt),
+      rect-place layoutWidth ws i 11 (lit≤ tt),
+      rect-place layoutWidth ws i 15 (lit≤ tt),
+      rect-place layoutWidth ws i 19 (lit≤ tt),
     )
     refl
