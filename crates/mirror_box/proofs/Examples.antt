@@ -119,7 +119,7 @@ abbrev placeAt : Float → AxisStaticEdge → AxisStaticPosition
 placeAt x edge = record { area = x to x; align = record { keyword = edge; safety = Safe; fallback = Start } }
 
 abbrev candidateAt : Float → AxisStaticEdge → OofCandidate
-candidateAt x edge = record { node = 0; order = 0; position = Absolute; place = record { x = placeAt x edge; y = placeAt 0f Start } }
+candidateAt x edge = record { node = 0; order = 0; position = Absolute; place = record { x = placeAt x edge; y = placeAt 0f Start }; layer = 0 }
 
 abbrev replied : Float → Replies
 replied w = record { keyword = reply.Width w; fill = fill.None }

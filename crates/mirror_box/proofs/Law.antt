@@ -58,6 +58,7 @@ image-is-exact container candidate hb hc =
       end = (sum, mirrored-total (hb .offset) (hb .width) (hc .end), total);
       align = refl;
       y = refl;
+      layer = refl;
     }
 
 other-twice : (d : Direction) → otherDirection (otherDirection d) ≡ d

@@ -55,7 +55,8 @@ imageStyle s =
 unfoldable pub edgeSum : OofPositioningArea → Float
 edgeSum a = 2f ⊗ a .offset .x ⊕ a .size .width
 
--- the x area becomes 2 × offset + width - end to 2 × offset + width - start, start and end exchanged in edge and fallback edge
+-- the x area becomes 2 × offset + width - end to 2 × offset + width - start, start and end exchanged in edge and fallback edge; all else
+-- stays, and "the mirrored screens keep equal layers" (request #104)
 unfoldable pub imageCandidate : OofPositioningArea → OofCandidate → OofCandidate
 imageCandidate a c =
     record {
@@ -63,4 +64,5 @@ imageCandidate a c =
       order = c .order;
       position = c .position;
       place = record { x = reflectedPlace (edgeSum a) (c .place .x); y = c .place .y };
+      layer = c .layer;
     }

@@ -39,6 +39,7 @@ pub record CandidateImage (a : OofPositioningArea) (c c' : OofCandidate) : Type 
   pub end : MirrorSum a (c .place .x .area .end ∷ c' .place .x .area .start ∷ [])
   pub align : c' .place .x .align ≡ otherAlign (c .place .x .align)
   pub y : c' .place .y ≡ c .place .y
+  pub layer : c' .layer ≡ c .layer
 
 -- ---- questions
 

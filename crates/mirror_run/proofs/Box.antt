@@ -22,7 +22,7 @@ use Rattle.mirror_run.proofs.Linked.{Frame, QuarterFrame, Own, Ready, B
 module _ (f : Frame) (q : QuarterFrame f) (p p' : Own) (blocks : Blocks f p p') (style : badStyle (f .styles) ≡ false) (c c' : OofCandidate)
     (ready : Ready (f .container .area) (items (f .styles)) c c') (replies : Replies) (given : QuarterReplies replies) where
   style-of-image : styleAt (imageStyles (f .styles)) (c' .node) ≡ box.imageStyle (styleAt (f .styles) (c .node))
-  style-of-image = ap (styleAt (imageStyles (f .styles))) (ready .image .node) ∙ image-style (f .styles) style (c .node) (ready .there)
+  style-of-image = ap (styleAt (imageStyles (f .styles))) (ready .image .node) ∙ image-style (f .styles) style (c .node) (ready .there .0)
 
   -- what holds of a style's image and of the block's, holds of the image table's item and of the second run's block
   by-words : {A : Type 0} (g : ContainingBlock → Style → OofCandidate → A) (R : A → A → Type 0)
@@ -33,7 +33,7 @@ module _ (f : Frame) (q : QuarterFrame f) (p p' : Own) (blocks : Blocks f p p') 
       (subst (R (g (f .container) (styleAt (f .styles) (c .node)) c)) (ap₂ (λ (b : ContainingBlock) (s : Style). g b s c') (sym (blocks .1)) (sym style-of-image)) h)
 
   fit : QuarterStyle (styleAt (f .styles) (c .node))
-  fit = q .style style (c .node) (ready .there)
+  fit = q .style style (c .node) (ready .there .0)
 
   pub asked-same : SameAsked (askedAfter (p .container) (styleAt (f .styles) (c .node)) c replies)
       (askedAfter (p' .container) (styleAt (imageStyles (f .styles)) (c' .node)) c' replies)

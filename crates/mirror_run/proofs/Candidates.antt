@@ -15,7 +15,7 @@ use Rattle.tree.specs.declared.layout.OofPositioningArea.{OofPositioningArea}
 use Rattle.records.specs.Records.{whole, recordAt, every, wrong, breaks, good, goodRecords}
 use Rattle.records.proofs.Laws.{word-of-record}
 use Rattle.tree_record.specs.Codes.{edgeOf}
-use Rattle.tree_record.specs.Candidate.{candidateWidth, candidateKinds, axisOf, candidateOf}
+use Rattle.tree_record.specs.Candidate.{candidateWidth, layerWord, candidateKinds, axisOf, candidateOf}
 use Rattle.mirror_axis.specs.Image as axis
 use Rattle.mirror_box.specs.Image as box
 use Rattle.mirror_run.specs.Image.{otherEdge, reflectedWord, imageCandidate, imageCandidates}
@@ -103,6 +103,7 @@ module _ (area : OofPositioningArea) (r r' : List ℕ) (words : (k : ℕ) → k 
         words 10 (lit< tt),
         words 11 (lit< tt),
         words 12 (lit< tt),
+        words layerWord (lit< tt),
         float-back (box.edgeSum area ⊖ ofBits binary32 (getD r 4 0)) (sub-fits binary32 _ _),
         float-back (box.edgeSum area ⊖ ofBits binary32 (getD r 3 0)) (sub-fits binary32 _ _),
         edge-decoded (getD r 5 0) h,

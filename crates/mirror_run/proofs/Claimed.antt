@@ -12,12 +12,12 @@ use Rattle.tree.specs.declared.layout.OofCandidate.{OofCandidate}
 use Rattle.tree.specs.declared.layout.OofPositioningArea.{OofPositioningArea}
 use Rattle.records.specs.Records.{whole, recordAt, records, wrong, breaks, goodRecords}
 use Rattle.records.proofs.Laws.{word-of-record, good-is-unbroken}
-use Rattle.tree_record.specs.Candidate.{candidateWidth, candidateKinds, candidateOf}
+use Rattle.tree_record.specs.Candidate.{candidateWidth, layerWord, layers, candidateKinds, candidateOf}
 use Rattle.tree_record.proofs.Laws.{decoded-fits}
 use Rattle.sweep.specs.Sweep.{firstCandidates, candidatesIn, keep, appended}
 use Rattle.sweep.specs.Laws.{AllFit}
 use Rattle.sweep.proofs.Laws.{kept-fits}
-use Rattle.sweep.proofs.Listed.{AllBelow, listed-good}
+use Rattle.sweep.proofs.Listed.{IsBelow, AllBelow, listed-good}
 use Rattle.run.proofs.Worlds.{list-back}
 use Rattle.oof_resolve.specs.declared.ContainingBlock.{ContainingBlock}
 use Rattle.mirror_box.specs.Quarter.{QuarterContainer, QuarterCandidate}
@@ -60,6 +60,11 @@ module _ (n : ℕ) (ws : List ℕ) (g : goodRecords (candidateKinds n) ws (lengt
   unfolding candidateOf wrong
   node-there = leb-false n (getD (recordAt candidateWidth ws i) 0 0) (word-good 0 (lit< tt))
 
+  -- and its layer
+  pub below-there : IsBelow n (candidateOf (recordAt candidateWidth ws i))
+  unfolding candidateOf wrong
+  below-there = (node-there, leb-false layers (getD (recordAt candidateWidth ws i) layerWord 0) (word-good layerWord (lit< tt)))
+
   pub edge-there : getD (recordAt candidateWidth ws i) 5 0 < 3
   unfolding wrong
   edge-there = leb-false 3 (getD (recordAt candidateWidth ws i) 5 0) (word-good 5 (lit< tt))
@@ -83,7 +88,7 @@ all-ready container hb n ws g q =
           (edge-there n ws g i h) (fallback-there n ws g i h)))
           (image-is-exact container c hb quarter);
       quarter = quarter;
-      there = node-there n ws g i h;
+      there = below-there n ws g i h;
     })
 
 -- ---- a list that is filled from its front
@@ -109,10 +114,10 @@ opened-images (one r e) = image (r .image) (opened-images e)
 
 -- ---- its words break no rule
 
-below : (n : ℕ) (cs : List OofCandidate) → ((i : ℕ) → i < length cs → getD cs i nobody .node < n) → AllBelow n cs
+below : (n : ℕ) (cs : List OofCandidate) → ((i : ℕ) → i < length cs → IsBelow n (getD cs i nobody)) → AllBelow n cs
 below n [] nodes = tt
 below n (c ∷ cs) nodes = (nodes 0 (omega arith), below n cs (λ i h. nodes (suc i) (omega arith)))
 
 pub front-good : (w : List ℕ) (cs : List OofCandidate) → candidateWidth * (0 + length cs) ≤ length w
-    → (n : ℕ) → ((i : ℕ) → i < length cs → getD cs i nobody .node < n) → goodRecords (candidateKinds n) (appended w 0 cs) (length cs) ≡ true
+    → (n : ℕ) → ((i : ℕ) → i < length cs → IsBelow n (getD cs i nobody)) → goodRecords (candidateKinds n) (appended w 0 cs) (length cs) ≡ true
 front-good w cs room n nodes = listed-good w cs (omega arith) n (below n cs nodes)

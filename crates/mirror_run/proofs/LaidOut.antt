@@ -94,7 +94,7 @@ module _ (f : Frame) (c : Counts) (p p' : Own) (lists : Lists f (c .filled) p p'
 
   here-there : here < items (f .styles)
   unfolding here
-  here-there = ready (c .begun - 1) (omega arith) .there
+  here-there = ready (c .begun - 1) (omega arith) .there .0
 
   here-same : here' ≡ here
   unfolding here here'

@@ -16,6 +16,7 @@ use Rattle.style_record.specs.Record.{items}
 use Rattle.style_record.specs.Decode.{styleAt}
 use Rattle.sweep.specs.Sweep.{firstCandidates}
 use Rattle.sweep.specs.declared.Filled.{Filled}
+use Rattle.sweep.proofs.Listed.{IsBelow}
 use Rattle.oof_resolve.specs.declared.ContainingBlock.{ContainingBlock}
 use Rattle.oof_box.specs.declared.question.Replies.{Replies}
 use Rattle.oof_box.specs.declared.question.Stage.{Stage}
@@ -81,11 +82,11 @@ outcomeOf f s p a =
 abbrev pub slicesOf : List ℕ → Own → Lent
 slicesOf styles p = record { styles = styles; layouts = p .layouts; working = p .working; unclaimed = p .unclaimed }
 
--- a claimed candidate, its image, and its item
+-- a claimed candidate, its image, its item and its layer
 pub record Ready (area : OofPositioningArea) (n : ℕ) (c c' : OofCandidate) : Type 0 where
   pub image : CandidateImage area c c'
   pub quarter : QuarterCandidate c
-  pub there : c .node < n
+  pub there : IsBelow n c
 
 -- box i of a working list, and its layout
 abbrev pub boxOf : Own → ℕ → OofCandidate

@@ -21,6 +21,7 @@ use Rattle.style_record.specs.Record.{items, item}
 use Rattle.style_record.specs.Decode.{rectAt, sizeAt, styleOf, styleAt}
 use Rattle.sweep.specs.Sweep.{firstCandidates, candidatesIn, keep, appended}
 use Rattle.sweep.proofs.Steps.{appended-length}
+use Rattle.sweep.proofs.Listed.{IsBelow}
 use Rattle.oof_resolve.specs.declared.ContainingBlock.{ContainingBlock}
 use Rattle.oof_box.specs.Cut.{noReplies}
 use Rattle.run.specs.declared.Opening.{Opening}
@@ -218,13 +219,13 @@ module _ (o : Opening) (candidates : List ℕ) (lent : Lent) (layouts working un
         image-back : (list : Bool) (w : List ℕ) → candidateWidth * (0 + length (inImage list)) ≤ length w → firstCandidates (length (inList list)) (appended w 0 (inImage list)) ≡ inImage list
         image-back list w room = rw (kept-alike list) (slice-back by image w list room)
 
-        claimed-there : (i : ℕ) → i < length (inList true) → getD (inList true) i nobody .node < items (lent .styles)
+        claimed-there : (i : ℕ) → i < length (inList true) → IsBelow (items (lent .styles)) (getD (inList true) i nobody)
         claimed-there i h = each-at (ready true) i h .there
 
-        image-there : (i : ℕ) → i < length (inImage true) → getD (inImage true) i nobody .node < items (lent .styles)
+        image-there : (i : ℕ) → i < length (inImage true) → IsBelow (items (lent .styles)) (getD (inImage true) i nobody)
         image-there i h =
             let r = each-at (ready true) i (rw (kept-alike true) h) in
-            rw (r .image .node) (r .there)
+            rw (r .image .node, r .image .layer) (r .there)
 
         lists : Lists frame (counts .filled) first second
         unfolding badCandidate

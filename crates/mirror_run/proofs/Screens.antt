@@ -81,8 +81,11 @@ abbrev noInsets : List ℕ
 noInsets = auto ++ auto ++ auto ++ auto
 
 -- in y at 0; the position is absolute (2) or fixed (3)
+abbrev onLayer : ℕ → ℕ → ℕ → ℕ → ℕ → ℕ → List ℕ
+onLayer layer position node x edge safety = node ∷ 0 ∷ position ∷ x ∷ x ∷ edge ∷ safety ∷ edge ∷ 0 ∷ 0 ∷ 0 ∷ 0 ∷ 0 ∷ layer ∷ []
+
 abbrev candidate : ℕ → ℕ → ℕ → ℕ → ℕ → List ℕ
-candidate position node x edge safety = node ∷ 0 ∷ position ∷ x ∷ x ∷ edge ∷ safety ∷ edge ∷ 0 ∷ 0 ∷ 0 ∷ 0 ∷ 0 ∷ []
+candidate position node x edge safety = onLayer 0 position node x edge safety
 
 abbrev pub word : ℕ → Float
 word w = ofBits binary32 w

@@ -30,7 +30,7 @@ none-kept by s cs e = nothing (keep by true (map (moved s) cs)) (kept-moved by t
 each-moved : (a b : Point) → a .y ≡ b .y → (cs : List OofCandidate) → Each SameButX (map (moved (By a)) cs) (map (moved (By b)) cs)
 unfolding moved translated shiftedAxis
 each-moved a b e [] = none
-each-moved a b e (c ∷ cs) = one (record { node = refl; order = refl; position = refl; align = refl; y = ap (shiftedAxis (c .place .y)) e }) (each-moved a b e cs)
+each-moved a b e (c ∷ cs) = one (record { node = refl; order = refl; position = refl; align = refl; y = ap (shiftedAxis (c .place .y)) e; layer = refl }) (each-moved a b e cs)
 
 more-unclaimed : {area : OofPositioningArea} {n : ℕ} {cs cs' ds ds' : List OofCandidate} → Unclaimed area n cs cs' → Each SameButX ds ds' → Unclaimed area n (cs ++ ds) (cs' ++ ds')
 more-unclaimed (image i u) e = image i (more-unclaimed u e)

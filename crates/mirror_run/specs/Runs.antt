@@ -102,6 +102,7 @@ pub record SameButX (c c' : OofCandidate) : Type 0 where
   pub position : c .position ≡ c' .position
   pub align : c .place .x .align ≡ c' .place .x .align
   pub y : c .place .y ≡ c' .place .y
+  pub layer : c .layer ≡ c' .layer
 
 -- unclaimed records: the first n, which are the opening's, are mirror images; after them stand those that boxes surfaced
 pub data Unclaimed (area : OofPositioningArea) : ℕ → List OofCandidate → List OofCandidate → Type 0 where

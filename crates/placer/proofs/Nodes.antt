@@ -13,14 +13,14 @@ use Rattle.records.proofs.Laws.{record-of-records, records-step, good-is-unbrok
 use Rattle.style.specs.declared.ContainingBlockClaims.{ContainingBlockClaims}
 use Rattle.tree.specs.declared.layout.OofCandidate.{OofCandidate}
 use Rattle.tree.specs.Static.{translated}
-use Rattle.tree_record.specs.Candidate.{candidateWidth, candidateKinds, candidateOf}
+use Rattle.tree_record.specs.Candidate.{candidateWidth, layerWord, layers, candidateKinds, candidateOf}
 use Rattle.tree_record.proofs.Places.{candidate-place}
 use Rattle.sweep.specs.declared.Shift.{Shift}
 use Rattle.sweep.specs.declared.Shift.the-variants.{Unmoved, By}
 use Rattle.sweep.specs.Sweep.{firstCandidates, moved, side, keep, appended}
 use Rattle.sweep.specs.Laws.{AllFit}
 use Rattle.sweep.proofs.Laws.{appended-back}
-use Rattle.sweep.proofs.Listed.{AllBelow}
+use Rattle.sweep.proofs.Listed.{IsBelow, AllBelow}
 
 both-below : (n : ℕ) (xs ys : List OofCandidate) → AllBelow n xs → AllBelow n ys → AllBelow n (xs ++ ys)
 both-below n [] ys a b = b
@@ -31,7 +31,7 @@ unfolding moved translated
 moved-below n s [] a = tt
 moved-below n s (c ∷ cs) a = (one s, moved-below n s cs (a .1))
   where
-    one : (s : Shift) → moved s c .node < n
+    one : (s : Shift) → IsBelow n (moved s c)
     one Unmoved = a .0
     one (By location) = a .0
 
@@ -53,7 +53,7 @@ records-length w (suc n) ws = ap suc (records-length w n (drop w ws))
 
 at-place : (n : ℕ) (rs : List (List ℕ)) (i : ℕ) → AllBelow n (map candidateOf rs) → i < length rs → candidateOf (getD rs i []) .node < n
 at-place n [] i a h = absurd (not-suc-le-zero h)
-at-place n (r ∷ rs) zero a h = a .0
+at-place n (r ∷ rs) zero a h = a .0 .0
 at-place n (r ∷ rs) (suc i) a h = at-place n rs i (a .1) (le-of-suc-le-suc h)
 
 -- record i of k
@@ -64,12 +64,16 @@ below-at n k ws i a h =
     rw (sym (record-of-records candidateWidth k ws i h))
     (at-place n (records candidateWidth k ws) i a (rw (records-length candidateWidth k ws) h))
 
-node-below : (n : ℕ) (ws : List ℕ) (i : ℕ) → breaks (candidateKinds n) ws (candidateWidth * i) 0 ≡ false
-    → candidateOf (recordAt candidateWidth ws i) .node < n
+is-below : (n : ℕ) (ws : List ℕ) (i : ℕ)
+    → breaks (candidateKinds n) ws (candidateWidth * i) 0 ≡ false
+    → breaks (candidateKinds n) ws (candidateWidth * i) layerWord ≡ false
+    → IsBelow n (candidateOf (recordAt candidateWidth ws i))
 unfolding breaks wrong
-node-below n ws i e =
-    rw (candidate-place ws i)
-    (leb-false n (getD ws (candidateWidth * i) 0) (ap (λ (at : ℕ). leb n (getD ws at 0)) (sym (add-zero (candidateWidth * i))) ∙ e))
+is-below n ws i e f =
+    rw (candidate-place ws i) (
+      leb-false n (getD ws (candidateWidth * i) 0) (ap (λ (at : ℕ). leb n (getD ws at 0)) (sym (add-zero (candidateWidth * i))) ∙ e),
+      leb-false layers (getD ws (candidateWidth * i + layerWord) 0) f,
+    )
 
 records-none : (w : ℕ) (ws : List ℕ) → records w zero ws ≡ []
 unfolding records
@@ -80,7 +84,7 @@ unfolding firstCandidates records
 none-below n ws = tt
 
 -- k records from record i on
-all-from : (n : ℕ) (ws : List ℕ) (count : ℕ) → ((i : ℕ) → i < count → candidateOf (recordAt candidateWidth ws i) .node < n)
+all-from : (n : ℕ) (ws : List ℕ) (count : ℕ) → ((i : ℕ) → i < count → IsBelow n (candidateOf (recordAt candidateWidth ws i)))
     → (k i : ℕ) → i + k ≤ count → AllBelow n (map candidateOf (records candidateWidth k (drop (candidateWidth * i) ws)))
 all-from n ws count f zero i h = rw (records-none candidateWidth (drop (candidateWidth * i) ws)) tt
 all-from n ws count f (suc k) i h = rw (records-step candidateWidth k ws i) (f i (omega arith), all-from n ws count f k (i + 1) (omega arith))
@@ -90,8 +94,11 @@ pub good-below : (n : ℕ) (ws : List ℕ) (count : ℕ) → goodRecords (candid
 unfolding firstCandidates
 good-below n ws count e = all-from n ws count one count 0 (omega arith)
   where
-    one : (i : ℕ) → i < count → candidateOf (recordAt candidateWidth ws i) .node < n
-    one i h = node-below n ws i (good-is-unbroken (candidateKinds n) ws count .0 e .1 i 0 h (lit< tt))
+    unbroken : (i k : ℕ) → i < count → k < candidateWidth → breaks (candidateKinds n) ws (candidateWidth * i) k ≡ false
+    unbroken = good-is-unbroken (candidateKinds n) ws count .0 e .1
+
+    one : (i : ℕ) → i < count → IsBelow n (candidateOf (recordAt candidateWidth ws i))
+    one i h = is-below n ws i (unbroken i 0 h (lit< tt)) (unbroken i layerWord h (lit< tt))
 
 -- ---- a list after more were appended
 

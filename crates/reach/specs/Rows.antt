@@ -230,9 +230,12 @@ IncidentRows =
 abbrev layout : ℕ → ℕ → ℕ → ℕ → List ℕ
 layout x y width height = 0 ∷ width ∷ height ∷ (replicate 6 0 ++ (x ∷ y ∷ replicate 12 0))
 
--- a candidate's 13 words: node and position, of which 2 is absolute and 5 none
+-- a candidate's 14 words: node, position, of which 2 is absolute and 5 none, and layer
+abbrev onLayer : ℕ → ℕ → ℕ → List ℕ
+onLayer layer node position = node ∷ 0 ∷ position ∷ (replicate 10 0 ++ (layer ∷ []))
+
 abbrev candidate : ℕ → ℕ → List ℕ
-candidate node position = node ∷ 0 ∷ position ∷ replicate 10 0
+candidate node position = onLayer 0 node position
 
 -- node 0 is 4e by 3e, 40e from the left of its area and 2e from the top; node 1 is 6e by 10e, 20e and 5e from there. The area stands at
 -- 24e, 40e
@@ -340,6 +343,9 @@ CandidateRows =
     -- a code or a node of another filled record, and before 9 too
     (let l = lent (replicate 114 0) layouts (candidate 1 2 ++ candidate 0 5) [] in (reached 0 (done l) l ≡ Refused BadCandidate) × (reached 0 (broken l) l ≡ Refused BadCandidate))
     × (let l = lent (replicate 114 0) layouts (candidate 1 2 ++ candidate 2 2) [] in reached 0 (done l) l ≡ Refused BadCandidate)
+    -- a layer above 255 of another filled record; 255 is one
+    × (let l = lent (replicate 114 0) layouts (candidate 1 2 ++ onLayer 256 0 2) [] in reached 0 (done l) l ≡ Refused BadCandidate)
+    × (let l = lent (replicate 114 0) layouts (candidate 1 2 ++ onLayer 255 0 2) [] in reached 0 (done l) l ≡ Seen 5 0)
     × (reached 0 (broken two) two ≡ Refused NotInEighths)
     -- not one past the filled records, nor an unclaimed one
     × (let l = lent (replicate 114 0) layouts (candidate 1 2 ++ candidate 0 2 ++ candidate 2 5) [] in reached 0 (done l) l ≡ Seen 5 0)

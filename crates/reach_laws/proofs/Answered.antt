@@ -20,6 +20,7 @@ use Rattle.style_record.specs.Record.{items}
 use Rattle.sweep.specs.Sweep.{candidatesIn, moved, keep}
 use Rattle.sweep.specs.declared.Shift.{Shift}
 use Rattle.sweep.proofs.Steps.{kept-moved, appended-length}
+use Rattle.sweep.proofs.Listed.{IsBelow}
 use Rattle.oof_box.specs.declared.question.Reply.{Reply}
 use Rattle.oof_resolve.specs.declared.ContainingBlock.{ContainingBlock}
 use Rattle.pixels.specs.Accepted.{accepted}
@@ -48,7 +49,7 @@ use Rattle.util_exact.proofs.Exact.{eighths}
 use Rattle.util_exact.proofs.Quarters.{quarters-exact}
 use Rattle.mirror_run.specs.Quarter.{AreaInQuarters}
 use Rattle.mirror_run.specs.Runs.{layoutOfBox}
-use Rattle.mirror_run.proofs.Claimed.{node-there, front-good}
+use Rattle.mirror_run.proofs.Claimed.{below-there, front-good}
 use Rattle.mirror_run.proofs.Lists.{nobody, first-by, each-at, each-kept}
 use Rattle.mirror_run.proofs.Unread.{taken-all}
 use Rattle.mirror_run.proofs.Verdicts.{OpeningPassed, opening-passed, reply-passed, same-slices}
@@ -196,12 +197,12 @@ module _ (o : Opening) (candidates : List ℕ) (lent : Lent) (turns : List Turn)
         go true d = absurd (d .holds refl (long ∙ sym (h .extents)))
         go false d = refl
 
-    nodes-there : (i : ℕ) → i < length claims → getD claims i nobody .node < items (lent .styles)
+    nodes-there : (i : ℕ) → i < length claims → IsBelow (items (lent .styles)) (getD claims i nobody)
     unfolding candidatesIn
     nodes-there i l =
         each-at
-        (each-kept {R = λ (c c' : OofCandidate). (c ≡ c') × (c .node < items (lent .styles))} (claimsOf o) true (λ c c' r. ap (λ (c : OofCandidate). c .position) (r .0))
-        (first-by (length candidates / candidateWidth) candidates candidates (λ i h. (refl, node-there (items (lent .styles)) candidates (p .candidate) i h)))) i l .1
+        (each-kept {R = λ (c c' : OofCandidate). (c ≡ c') × IsBelow (items (lent .styles)) c} (claimsOf o) true (λ c c' r. ap (λ (c : OofCandidate). c .position) (r .0))
+        (first-by (length candidates / candidateWidth) candidates candidates (λ i h. (refl, below-there (items (lent .styles)) candidates (p .candidate) i h)))) i l .1
 
     records-good : badCandidate (lent .styles) (has .working) (has .step .state .counts .filled .working) ≡ false
     unfolding badCandidate

@@ -13,7 +13,7 @@ use Rattle.util.proofs.Floats.{no}
 use Rattle.style.specs.Laws.{tagsOf, among}
 use Rattle.style.proofs.Laws.{takes-its-tags}
 use Rattle.records.specs.Records.{room, good, goodRecords}
-use Rattle.tree_record.specs.Candidate.{candidateWidth, axisKinds, candidateKinds}
+use Rattle.tree_record.specs.Candidate.{candidateWidth, layerWord, layers, axisKinds, candidateKinds}
 use Rattle.tree_record.proofs.Good.{good-axis, good-record}
 use Rattle.style_record.specs.Record.{Kind, tag, number, upTo, ratio, keyword, safety, contain, kindOf, item, items}
 use Rattle.style_record.specs.Check.{safetyBreaks, breaksAs, breaksRule, breaks, checked}
@@ -190,10 +190,33 @@ axis-decided list i k =
     rw (good-axis list (candidateWidth * i + k), add-assoc (candidateWidth * i) k 2, add-assoc (candidateWidth * i) k 3, add-assoc (candidateWidth * i) k 4)
     (guard _ (at-most 3 (word list i (k + 2))) (guard _ (at-most 3 (word list i (k + 3))) (last (at-most 3 (word list i (k + 4))))))
 
+-- the code tests the layer first, and it is named last
+layer-last : {L A B C D : Type 0} → (L ⊎ A ⊎ B ⊎ C ⊎ D) ↔ (A ⊎ B ⊎ C ⊎ D ⊎ L)
+layer-last {L} {A} {B} {C} {D} = (to, from)
+  where
+    to : L ⊎ A ⊎ B ⊎ C ⊎ D → A ⊎ B ⊎ C ⊎ D ⊎ L
+    to (inl l) = inr (inr (inr (inr l)))
+    to (inr (inl a)) = inl a
+    to (inr (inr (inl b))) = inr (inl b)
+    to (inr (inr (inr (inl c)))) = inr (inr (inl c))
+    to (inr (inr (inr (inr d)))) = inr (inr (inr (inl d)))
+
+    from : A ⊎ B ⊎ C ⊎ D ⊎ L → L ⊎ A ⊎ B ⊎ C ⊎ D
+    from (inl a) = inr (inl a)
+    from (inr (inl b)) = inr (inr (inl b))
+    from (inr (inr (inl c))) = inr (inr (inr (inl c)))
+    from (inr (inr (inr (inl d)))) = inr (inr (inr (inr d)))
+    from (inr (inr (inr (inr l)))) = inl l
+
 record-decided : (n : ℕ) (list : List ℕ) (i : ℕ) → Decides (not (good (candidateKinds n) list (candidateWidth * i))) (RecordIsBad n list i)
 record-decided n list i =
     rw (good-record n list (candidateWidth * i), add-zero)
-    (guard _ (at-most n (getD list (candidateWidth * i) 0)) (guard _ (at-most 5 (word list i 2)) (decides.both (good axisKinds list (candidateWidth * i + 3)) (good axisKinds list (candidateWidth * i + 8)) (axis-decided list i 3) (axis-decided list i 8))))
+    (by-iff
+    (guard _ (at-most layers (word list i layerWord))
+    (guard _ (at-most n (getD list (candidateWidth * i) 0))
+    (guard _ (at-most 5 (word list i 2))
+    (decides.both (good axisKinds list (candidateWidth * i + 3)) (good axisKinds list (candidateWidth * i + 8)) (axis-decided list i 3) (axis-decided list i 8)))))
+    layer-last)
 
 pub candidate-decided : (styles list : List ℕ) (count : ℕ) → count ≤ places list → Decides (badCandidate styles list count) (CandidateIsBad styles list count)
 unfolding badCandidate goodRecords

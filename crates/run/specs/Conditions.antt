@@ -38,9 +38,9 @@ AreaIsBad o = (1 < o .direction) ⊎ (3 < o .claims) ⊎ (3 < o .overflowx) ⊎ 
 abbrev pub GoodTable : List ℕ → List ℕ → Type 0
 GoodTable styles layouts = (n : ℕ) × (n ≤ 1024) × (length styles ≡ 57 * n) × (length layouts ≡ 23 * n)
 
--- "Candidate, 13 words"
+-- "Candidate, 13 words"; by request #104 it has "a fourteenth word, its layer"
 abbrev pub recordWords : ℕ
-recordWords = 13
+recordWords = 14
 
 -- whole records of candidates
 abbrev pub Whole : List ℕ → Type 0
@@ -94,7 +94,7 @@ pub record FirstNotAllowed (styles : List ℕ) (i k : ℕ) : Type 0 where
 abbrev pub AllAllowed : List ℕ → Type 0
 AllAllowed styles = (i : ℕ) → i < items styles → (k : ℕ) → k < 57 → WordIsAllowed styles i k
 
--- ---- 4, bad candidate: "node not below n, or a code outside its list"
+-- ---- 4, bad candidate: "node not below n, or a code outside its list"; by request #104 "a higher layer" than 255 too
 
 -- how many whole records a list has places for
 abbrev pub places : List ℕ → ℕ
@@ -108,9 +108,9 @@ word list i k = getD list (recordWords * i + k) 0
 abbrev pub AxisIsBad : List ℕ → ℕ → ℕ → Type 0
 AxisIsBad list i k = (2 < word list i (k + 2)) ⊎ (2 < word list i (k + 3)) ⊎ (2 < word list i (k + 4))
 
--- node, position, x, y
+-- node, position, x, y, layer
 abbrev pub RecordIsBad : ℕ → List ℕ → ℕ → Type 0
-RecordIsBad n list i = (n ≤ word list i 0) ⊎ (4 < word list i 2) ⊎ AxisIsBad list i 3 ⊎ AxisIsBad list i 8
+RecordIsBad n list i = (n ≤ word list i 0) ⊎ (4 < word list i 2) ⊎ AxisIsBad list i 3 ⊎ AxisIsBad list i 8 ⊎ (255 < word list i 13)
 
 -- one of the first `count` records, over a table of styles
 abbrev pub CandidateIsBad : List ℕ → List ℕ → ℕ → Type 0

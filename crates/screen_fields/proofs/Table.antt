@@ -7,7 +7,7 @@ use mathlib.Core.List.{List, [], _∷_}
 use lib.Dec.{T, ltb, leb, eqb}
 use lib.ListN.{length, getD}
 use Rattle.style_record.specs.Record.{styleWords}
-use Rattle.tree_record.specs.Candidate.{candidateWidth}
+use Rattle.tree_record.specs.Candidate.{candidateWidth, layerWord}
 use Rattle.screen_fields.specs.declared.format.Kind.{Kind}
 use Rattle.screen_fields.specs.declared.format.Kind.the-variants.{Code, Eighths}
 use Rattle.screen_fields.specs.declared.format.Line.{Line}
@@ -18,8 +18,8 @@ use Rattle.screen_fields.proofs.Text.{apart}
 -- the test that the code makes
 unfoldable pub isFloatAt : Line → ℕ → Bool
 isFloatAt First j = ltb j 4
-isFloatAt Item j = cond (ltb j 44) (eqb (j % 2) 1) (cond (eqb j 45) true (cond (eqb j 55) true (leb 57 j)))
-isFloatAt Candidate j = cond (ltb j 3) false (ltb ((j - 3) % 5) 2)
+isFloatAt Item j = cond (ltb j 44) (eqb (j % 2) 1) (cond (eqb j 45) true (cond (eqb j 55) true (leb styleWords j)))
+isFloatAt Candidate j = cond (ltb j 3) false (cond (eqb j layerWord) false (ltb ((j - 3) % 5) 2))
 
 abbrev same : Bool → Bool → Bool
 same true b = b

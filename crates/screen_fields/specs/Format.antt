@@ -1,4 +1,5 @@
--- The screen file: lines of fields of equal width, a line feed after each line (document 01, "Program `boxlist`"). Assumes nothing.
+-- The screen file: lines of fields of equal width, a line feed after each line (document 01, "Program `boxlist`"; request #104: "Candidate
+-- lines of the screen file have 14 fields"). Assumes nothing.
 use Prim.Native.Nat.{ℕ, zero, suc, _+_, _*_}
 use mathlib.Core.Bool.{Bool, true, false}
 use mathlib.Core.List.{List, [], _∷_, _++_}
@@ -41,9 +42,9 @@ replyWidth = 6
 unfoldable pub replyFields : List Kind
 replyFields = replicate replyWidth Eighths
 
--- node, order, position; for x, then for y: area start, area end, edge, safety, fallback edge
+-- node, order, position; for x, then for y: area start, area end, edge, safety, fallback edge; layer
 unfoldable pub candidateFields : List Kind
-candidateFields = replicate 3 Code ++ times 2 (replicate 2 Eighths ++ replicate 3 Code)
+candidateFields = replicate 3 Code ++ times 2 (replicate 2 Eighths ++ replicate 3 Code) ++ (Code ∷ [])
 
 unfoldable pub fieldsOf : Line → List Kind
 fieldsOf First = firstFields

@@ -7,6 +7,7 @@ ghost use Rattle.screen_fields.specs.Format.{isFloat, fieldsOf, bytesOf}
 use style_record::words;
 use style_record::words::STYLE_WORDS;
 use tree_record::candidate::CANDIDATE_WORDS;
+use tree_record::candidate::LAYER;
 
 // A field's content: a code, or a float in eighths.
 pub enum Kind {
@@ -95,6 +96,9 @@ fn is_float(line: Line, j: usize) -> bool
         }
         Line::Candidate => {
             if j < 3 {
+                return false;
+            }
+            if j == LAYER {
                 return false;
             }
             (j - 3) % 5 < 2

@@ -43,7 +43,7 @@ keep-splits by (c ∷ cs) = go (claims by (c .position)) (keep by true cs) (keep
 
 -- ---- refusal 5
 
-never : {A : Type 0} {f : Filled} {r : Refusal} → Into f ≡ Refused r → A
+pub never : {A : Type 0} {f : Filled} {r : Refusal} → Into f ≡ Refused r → A
 never e = absurd (let z : _≡_ {A = ℕ} 0 1 = cc in omega arith)
 
 -- by the two tests: what is answered, and what that says
@@ -111,7 +111,7 @@ swept-fits s ws = all (records candidateWidth (length ws / candidateWidth) ws)
     all [] = tt
     all (r ∷ rs) = (moved-fits s (candidateOf r) (decoded-fits r), all rs)
 
-keep-fits : (by : ContainingBlockClaims) (list : Bool) (cs : List OofCandidate) → AllFit cs → AllFit (keep by list cs)
+pub keep-fits : (by : ContainingBlockClaims) (list : Bool) (cs : List OofCandidate) → AllFit cs → AllFit (keep by list cs)
 unfolding keep
 keep-fits by list [] f = tt
 keep-fits by list (c ∷ cs) f = go (side by list (c .position)) (keep by list cs) (keep-fits by list cs (f .1))

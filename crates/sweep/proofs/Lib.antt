@@ -1,3 +1,4 @@
 pub mod Steps
 pub mod Laws
 pub mod Listed
+pub mod Layers

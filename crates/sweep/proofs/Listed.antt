@@ -20,15 +20,18 @@ use Rattle.records.specs.Records.{whole, recordAt, records, every, wrong, break
 use Rattle.records.proofs.Laws.{word-of-record, record-of-records, every-is, good-is-unbroken, rear-back}
 use Rattle.style.specs.Codes.{safetyCode}
 use Rattle.tree_record.specs.Codes.{positionCode, edgeCode}
-use Rattle.tree_record.specs.Candidate.{candidateWidth, candidateKinds, candidateWords}
+use Rattle.tree_record.specs.Candidate.{candidateWidth, layers, candidateKinds, candidateWords}
 use Rattle.tree_record.proofs.Laws.{candidate-widths}
 use Rattle.sweep.specs.Sweep.{listWords, appended}
 use Rattle.sweep.proofs.Steps.{words-length, appended-length}
 
--- every node is below n
+-- a candidate's node is below n, and its layer is one
+abbrev pub IsBelow : ℕ → OofCandidate → Type 0
+IsBelow n c = (c .node < n) × (c .layer < layers)
+
 abbrev pub AllBelow : ℕ → List OofCandidate → Type 0
 AllBelow n [] = Unit {0}
-AllBelow n (c ∷ cs) = (c .node < n) × AllBelow n cs
+AllBelow n (c ∷ cs) = IsBelow n c × AllBelow n cs
 
 -- ---- one record
 
@@ -52,11 +55,11 @@ safety-good Default = refl
 safety-good Unsafe = refl
 safety-good Safe = refl
 
-record-good : (n : ℕ) (c : OofCandidate) → c .node < n → good (candidateKinds n) (candidateWords c) 0 ≡ true
+record-good : (n : ℕ) (c : OofCandidate) → IsBelow n c → good (candidateKinds n) (candidateWords c) 0 ≡ true
 unfolding good every breaks wrong candidateWords
 record-good n c h =
     rw (
-      lt-leb n (c .node) h,
+      lt-leb n (c .node) (h .0),
       position-good (c .position),
       edge-good (c .place .x .align .keyword),
       safety-good (c .place .x .align .safety),
@@ -64,6 +67,7 @@ record-good n c h =
       edge-good (c .place .y .align .keyword),
       safety-good (c .place .y .align .safety),
       edge-good (c .place .y .align .fallback),
+      lt-leb layers (c .layer) (h .1),
     )
     refl
 

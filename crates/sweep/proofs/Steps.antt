@@ -26,7 +26,7 @@ use Rattle.sweep.specs.declared.Swept.the-variants.{Refused, Into}
 
 -- ---- one candidate
 
-moved-position : (s : Shift) (c : OofCandidate) → moved s c .position ≡ c .position
+pub moved-position : (s : Shift) (c : OofCandidate) → moved s c .position ≡ c .position
 unfolding moved translated
 moved-position Unmoved c = refl
 moved-position (By location) c = refl

@@ -12,8 +12,8 @@ use Rattle.tree_record.specs.Candidate.{candidateWidth}
 use Rattle.tree_record.specs.Laws.{FitsCandidate}
 use Rattle.sweep.specs.declared.Shift.{Shift}
 use Rattle.sweep.specs.declared.Filled.{Filled}
-use Rattle.sweep.specs.declared.Swept.the-variants.{Refused}
-use Rattle.sweep.specs.Sweep.{firstCandidates, candidatesIn, moved, claimed, others, appended, swept}
+use Rattle.sweep.specs.declared.Swept.the-variants.{Refused, Into}
+use Rattle.sweep.specs.Sweep.{firstCandidates, candidatesIn, layersOf, moved, claimed, others, appended, swept}
 
 -- ---- claimed, or not
 
@@ -61,3 +61,18 @@ abbrev pub AppendedBack : Type 0
 AppendedBack =
     (ws : List ℕ) (held : ℕ) (cs : List OofCandidate) → AllFit cs → candidateWidth * (held + length cs) ≤ length ws
     → firstCandidates (held + length cs) (appended ws held cs) ≡ firstCandidates held ws ++ cs
+
+-- ---- layers (request #104)
+
+-- the layers of a list's first n records after a sweep: those of the records that it held, then those of the candidates that came, in turn
+abbrev pub HasLayers : ℕ → List ℕ → ℕ → List ℕ → List OofCandidate → Type 0
+HasLayers n after held before came = layersOf (firstCandidates n after) ≡ layersOf (firstCandidates held before) ++ layersOf came
+
+-- whether they were moved or not
+abbrev pub LayersKept : Type 0
+LayersKept =
+    (by : ContainingBlockClaims) (s : Shift) (slice w u : List ℕ) (f after : Filled)
+    → let cs = candidatesIn slice in
+    let o = swept by (map (moved s) cs) w u f in
+    o .answer ≡ Into after
+    → HasLayers (after .working) (o .working) (f .working) w (claimed by cs) × HasLayers (after .unclaimed) (o .unclaimed) (f .unclaimed) u (others by cs)

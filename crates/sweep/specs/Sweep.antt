@@ -34,6 +34,10 @@ unfoldable pub moved : Shift → OofCandidate → OofCandidate
 moved Unmoved c = c
 moved (By location) c = translated c location
 
+-- the layers of candidates, in turn
+abbrev pub layersOf : List OofCandidate → List ℕ
+layersOf cs = map (λ (c : OofCandidate). c .layer) cs
+
 -- ---- claimed, or not
 
 -- whether a candidate of a position goes to the working list (true) or to the unclaimed list (false)

@@ -65,7 +65,7 @@ fromAlignment a area rtl =
 unfoldable pub shiftedAxis : AxisStaticPosition → Float → AxisStaticPosition
 shiftedAxis p by = record { area = movedBy (p .area) by; align = p .align }
 
--- a candidate of a box, as one of its parent: the four areas' ends move by the box's location
+-- a candidate of a box, as one of its parent: the four areas' ends move by the box's location; all else stays, its layer too
 unfoldable pub translated : OofCandidate → Point → OofCandidate
 translated c location =
     record {
@@ -73,4 +73,5 @@ translated c location =
       order = c .order;
       position = c .position;
       place = record { x = shiftedAxis (c .place .x) (location .x); y = shiftedAxis (c .place .y) (location .y) };
+      layer = c .layer;
     }

@@ -147,12 +147,14 @@ pub struct StaticPosition {
     pub y: AxisStaticPosition,
 }
 
-// An out-of-flow box that waits for its containing block. `place` is the Rust's static_position.
+// An out-of-flow box that waits for its containing block. `place` is the Rust's static_position. The Rust has no layer: boxes of
+// higher layers are drawn over those of lower ones (request #104), and placing reads none.
 pub struct OofCandidate {
     pub node: u32,
     pub order: u32,
     pub position: Position,
     pub place: StaticPosition,
+    pub layer: u32,
 }
 
 impl OofCandidate {
@@ -171,6 +173,7 @@ impl OofCandidate {
                 x: x.translate(offset.x),
                 y: y.translate(offset.y),
             },
+            layer: self.layer,
         }
     }
 }

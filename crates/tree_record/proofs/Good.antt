@@ -1,16 +1,16 @@
 -- A candidate's rules in the cut of the code that tests them. Assumes nothing.
-use Prim.Native.Nat.{ℕ, _+_}
+use Prim.Native.Nat.{ℕ, _+_, _-_}
 use native.Mathlib.Nat.{add-zero, add-assoc}
-use mathlib.Core.Path.{_≡_, refl, _∙_}
+use mathlib.Core.Path.{_≡_, refl, ap, _∙_}
 use mathlib.Core.Bool.{Bool, true, false, cond, not, _&&_}
 use mathlib.Core.List.{List, [], _∷_, map}
 use lib.Dec.{leb}
 use lib.ListN.{getD, replicate}
 use Rattle.records.specs.Records.{every, wrong, breaks, good}
-use Rattle.tree_record.specs.Candidate.{axisKinds, candidateKinds}
+use Rattle.tree_record.specs.Candidate.{candidateWidth, layerWord, layers, axisKinds, candidateKinds}
 
 -- computed, of two items: a record of node 1 is good, one of node 2 isn't
-nodes-computed : map (λ (node : ℕ). good (candidateKinds 2) (node ∷ replicate 12 0) 0) (1 ∷ 2 ∷ []) ≡ true ∷ false ∷ []
+nodes-computed : map (λ (node : ℕ). good (candidateKinds 2) (node ∷ replicate (candidateWidth - 1) 0) 0) (1 ∷ 2 ∷ []) ≡ true ∷ false ∷ []
 unfolding good every breaks wrong
 nodes-computed = refl
 
@@ -37,13 +37,22 @@ record-codes false false false true e f g h = refl
 record-codes false false false false true f g h = refl
 record-codes false false false false false f g h = refl
 
+-- the last code of a record, before all others
+last-first : (others bad : Bool) → (others && not bad) ≡ cond bad false others
+last-first true true = refl
+last-first true false = refl
+last-first false true = refl
+last-first false false = refl
+
 module _ (n : ℕ) (ws : List ℕ) (at : ℕ) where
   code : ℕ → ℕ → Bool
   code limit k = leb limit (getD ws (at + k) 0)
 
   pub good-record : good (candidateKinds n) ws at
-      ≡ cond (leb n (getD ws at 0)) false (cond (leb 5 (getD ws (at + 2) 0)) false (cond (good axisKinds ws (at + 3)) (good axisKinds ws (at + 8)) false))
+      ≡ cond (leb layers (getD ws (at + layerWord) 0)) false
+      (cond (leb n (getD ws at 0)) false (cond (leb 5 (getD ws (at + 2) 0)) false (cond (good axisKinds ws (at + 3)) (good axisKinds ws (at + 8)) false)))
   unfolding good every breaks wrong code
   good-record =
-      record-codes (code n 0) (code 5 2) (code 3 5) (code 3 6) (code 3 7) (code 3 10) (code 3 11) (code 3 12)
+      last-first _ (code layers layerWord)
+      ∙ ap (cond (code layers layerWord) false) (record-codes (code n 0) (code 5 2) (code 3 5) (code 3 6) (code 3 7) (code 3 10) (code 3 11) (code 3 12))
       ∙ rw (add-zero, add-assoc at 3 2, add-assoc at 3 3, add-assoc at 3 4, add-assoc at 8 2, add-assoc at 8 3, add-assoc at 8 4) refl

@@ -11,7 +11,7 @@ use Rattle.records.proofs.Laws.{word-of-record}
 use Rattle.tree.specs.declared.layout.OofCandidate.{OofCandidate}
 use Rattle.tree.specs.declared.layout.Layout.{Layout}
 use Rattle.tree_record.specs.Codes.{positionOf}
-use Rattle.tree_record.specs.Candidate.{candidateWidth, axisOf, candidateOf}
+use Rattle.tree_record.specs.Candidate.{candidateWidth, layerWord, axisOf, candidateOf}
 use Rattle.tree_record.specs.Layout.{layoutWidth, rectOf, layoutOf}
 
 module _ (w : ℕ) (ws : List ℕ) (i : ℕ) where
@@ -41,13 +41,14 @@ candidateFrom ws at =
       order = getD ws (at + 1) 0;
       position = positionOf (getD ws (at + 2) 0);
       place = record { x = axisOf ws (at + 3); y = axisOf ws (at + 8) };
+      layer = getD ws (at + layerWord) 0;
     }
 
 pub candidate-place : (ws : List ℕ) (i : ℕ) → candidateOf (recordAt candidateWidth ws i) ≡ candidateFrom ws (candidateWidth * i)
 unfolding candidateOf
 candidate-place ws i =
     rw
-    (first candidateWidth ws i (lit< tt), word-of-record candidateWidth ws i 1 (lit< tt), word-of-record candidateWidth ws i 2 (lit< tt), axis-place candidateWidth ws i 3 (lit≤ tt), axis-place candidateWidth ws i 8 (lit≤ tt))
+    (first candidateWidth ws i (lit< tt), word-of-record candidateWidth ws i 1 (lit< tt), word-of-record candidateWidth ws i 2 (lit< tt), axis-place candidateWidth ws i 3 (lit≤ tt), axis-place candidateWidth ws i 8 (lit≤ tt), word-of-record candidateWidth ws i layerWord (lit< tt))
     refl
 
 abbrev pub layoutFrom : List ℕ → ℕ → Layout

@@ -1,4 +1,4 @@
--- A candidate as a record of 13 words (document 01, "Candidate, 13 words"; refusal 4). Assumes nothing.
+-- A candidate as a record of 14 words (document 01, "Candidate, 13 words", and the layer of request #104; refusal 4). Assumes nothing.
 use Prim.Native.Nat.{ℕ, _+_}
 use mathlib.Core.List.{List, [], _∷_, _++_}
 use lib.ListN.{getD}
@@ -11,7 +11,15 @@ use Rattle.tree.specs.declared.layout.OofCandidate.{OofCandidate}
 use Rattle.tree_record.specs.Codes.{positionOf, positionCode, edgeOf, edgeCode}
 
 abbrev pub candidateWidth : ℕ
-candidateWidth = 13
+candidateWidth = 14
+
+-- the layer is the last of them
+abbrev pub layerWord : ℕ
+layerWord = 13
+
+-- "its layer, from 0 to 255": so many layers
+abbrev pub layers : ℕ
+layers = 256
 
 -- ---- what each word holds, n being the number of items
 
@@ -19,9 +27,9 @@ candidateWidth = 13
 abbrev pub axisKinds : List Kind
 axisKinds = float ∷ float ∷ below 3 ∷ below 3 ∷ below 3 ∷ []
 
--- node, order, position, x, y
+-- node, order, position, x, y, layer
 abbrev pub candidateKinds : ℕ → List Kind
-candidateKinds n = below n ∷ whole ∷ below 5 ∷ (axisKinds ++ axisKinds)
+candidateKinds n = below n ∷ whole ∷ below 5 ∷ (axisKinds ++ axisKinds ++ (below layers ∷ []))
 
 -- ---- reading
 
@@ -41,6 +49,7 @@ candidateOf r =
       order = getD r 1 0;
       position = positionOf (getD r 2 0);
       place = record { x = axisOf r 3; y = axisOf r 8 };
+      layer = getD r layerWord 0;
     }
 
 -- ---- writing: every NaN is 7FC00000, every other word stays
@@ -52,4 +61,5 @@ axisWords p =
     ∷ []
 
 unfoldable pub candidateWords : OofCandidate → List ℕ
-candidateWords c = c .node ∷ c .order ∷ positionCode (c .position) ∷ (axisWords (c .place .x) ++ axisWords (c .place .y))
+candidateWords c =
+    c .node ∷ c .order ∷ positionCode (c .position) ∷ (axisWords (c .place .x) ++ axisWords (c .place .y) ++ (c .layer ∷ []))

@@ -1,4 +1,4 @@
-// A candidate's record: node, order, position, then for x and for y area start, area end, edge, safety, fallback edge.
+// A candidate's record: node, order, position, then for x and for y area start, area end, edge, safety, fallback edge; last its layer.
 ghost use mathlib.Core.Path.{_≡_};
 ghost use Prim.Native.Nat.{_+_, _*_, _≤_};
 ghost use lib.ListN.{length};
@@ -13,7 +13,13 @@ use tree::layout::OofCandidate;
 use tree::layout::StaticPosition;
 use util::bits;
 
-pub const CANDIDATE_WORDS: usize = 13;
+// Where the layer stands: behind the words of y.
+pub const LAYER: usize = 13;
+
+pub const CANDIDATE_WORDS: usize = 14;
+
+// Layers are 0 to 255.
+const LAYERS: u32 = 256;
 
 // A word as an index.
 fn index(word: u32) -> usize
@@ -39,11 +45,14 @@ fn is_axis_good(words: &[u32], at: usize) -> bool
     true
 }
 
-// Whether the record that begins at `at` keeps to its rules: its node is below n, and each code is in its list.
+// Whether the record that begins at `at` keeps to its rules: its layer and its node are below their limits, and each code is in its list.
 fn is_good(words: &[u32], at: usize, n: usize) -> bool
     requires { ⌜ at + candidateWidth ≤ length (now words) ⌝ }
     ensures { λ r. ⌜ r ≡ good (candidateKinds n) (now (words .entry)) at ⌝ }
 {
+    if LAYERS <= words[at + LAYER] {
+        return false;
+    }
     if n <= index(words[at]) {
         return false;
     }
@@ -109,6 +118,7 @@ pub fn candidate_at(words: &[u32], i: usize) -> OofCandidate
         order: words[at + 1],
         position: codes::position_of(words[at + 2]),
         place: place,
+        layer: words[at + LAYER],
     }
 }
 
@@ -139,6 +149,7 @@ pub fn candidate_words(c: OofCandidate) -> [u32; CANDIDATE_WORDS]
         codes::edge_code(y_keyword),
         codes::safety_code(y_safety),
         codes::edge_code(y_fallback),
+        c.layer,
     ]
 }
 

@@ -34,15 +34,19 @@ returns-4 c = rw (← float-at _ _ (c .before .before .before .pre)) (simp (c .b
 
 returns-5 : tie.Need-returns-5
 unfolding isFloatAt
-returns-5 c = rw (← float-at _ _ (c .before .before .pre)) (simp (c .enum-told .given .1))
+returns-5 c = rw (← float-at _ _ (c .before .before .before .before .pre)) (simp (c .before .before .enum-told3 .given .1, le-leb _ _ (c .before .if4 .left), le-ltb _ _ (c .before .if4 .left), eq-eqb _ _ (c .if5 .taken)))
 
 returns-6 : tie.Need-returns-6
 unfolding isFloatAt
-returns-6 c = rw (← float-at _ _ (c .before .before .before .before .before .pre)) (simp (c .before .before .before .enum-told2 .given .1, le-leb _ _ (c .before .before .if1 .left), le-ltb _ _ (c .before .before .if1 .left), ne-eqb _ _ (c .before .if2 .left), ne-eqb _ _ (c .if3 .left)))
+returns-6 c = rw (← float-at _ _ (c .before .before .pre)) (simp (c .enum-told .given .1))
 
 returns-7 : tie.Need-returns-7
 unfolding isFloatAt
-returns-7 c = rw (← float-at _ _ (c .before .before .before .pre)) (simp (c .before .enum-told3 .given .1, le-leb _ _ (c .if4 .left), le-ltb _ _ (c .if4 .left)))
+returns-7 c = rw (← float-at _ _ (c .before .before .before .before .before .pre)) (simp (c .before .before .before .enum-told2 .given .1, le-leb _ _ (c .before .before .if1 .left), le-ltb _ _ (c .before .before .if1 .left), ne-eqb _ _ (c .before .if2 .left), ne-eqb _ _ (c .if3 .left)))
+
+returns-8 : tie.Need-returns-8
+unfolding isFloatAt
+returns-8 c = rw (← float-at _ _ (c .before .before .before .before .pre)) (simp (c .before .before .enum-told3 .given .1, le-leb _ _ (c .before .if4 .left), le-ltb _ _ (c .before .if4 .left), ne-eqb _ _ (c .if5 .left)))
 
 pub is-float-spec : {M : Type 1} → statement M
 is-float-spec =
@@ -57,4 +61,5 @@ is-float-spec =
     returns-4
     returns-5
     returns-6
-    returns-7)
+    returns-7
+    returns-8)

@@ -50,8 +50,17 @@ shared-slice-read-position-of c = search needs
 position-of-requires : tie.Need-position-of-requires
 position-of-requires c κs = search needs
 
+add-t19 : tie.Need-add-t19
+add-t19 c = search needs
+
+mul-t20 : tie.Need-mul-t20
+mul-t20 c = search needs
+
+shared-slice-read-t22 : tie.Need-shared-slice-read-t22
+shared-slice-read-t22 c = search needs
+
 returns : tie.Need-returns
-returns c = simp (candidate-place, ← c .before .before .before .before .before .axis-at .ensures, ← c .before .before .before .before .axis-at2 .ensures, ← c .position-of .ensures)
+returns c = simp (candidate-place, ← c .before .before .before .before .before .before .axis-at .ensures, ← c .before .before .before .before .before .axis-at2 .ensures, ← c .before .position-of .ensures)
 
 pub candidate-at-spec : {M : Type 1} → statement M
 candidate-at-spec =
@@ -71,4 +80,7 @@ candidate-at-spec =
     mul-position-of
     shared-slice-read-position-of
     position-of-requires
+    add-t19
+    mul-t20
+    shared-slice-read-t22
     returns)
