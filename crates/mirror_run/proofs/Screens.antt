@@ -22,6 +22,7 @@ use Rattle.tree_record.specs.Candidate.{candidateWidth}
 use Rattle.tree_record.specs.Candidate as tree-record-candidate
 use Rattle.tree_record.specs.Layout.{layoutWidth}
 use Rattle.tree_record.specs.Layout as tree-record-layout
+use Rattle.sweep.specs.Sweep.{layersOf}
 use Rattle.sweep.specs.Sweep as sweep-sweep
 use Rattle.oof_axis.specs.Axis as oof-axis-axis
 use Rattle.oof_common.specs.SizingKeyword as common-sizingkeyword
@@ -47,7 +48,7 @@ use Rattle.run.specs.declared.Answer.{Answer}
 use Rattle.run.specs.declared.Answer.the-variants.{Ask, Finish, Refused}
 use Rattle.run.specs.Call.{Lent, Outcome}
 use Rattle.run.specs.Run.{opened}
-use Rattle.run.specs.Theorems.{Loan, own, other, Turn, laidSoFar}
+use Rattle.run.specs.Theorems.{Loan, own, other, Turn, laidSoFar, claimedSoFar}
 use Rattle.mirror_run.specs.Image.{imageOpening, imageStyles, imageCandidates, otherDirection, otherEdge, counterpart, imageStyle, reflectedWord, imageCandidate, listed, eachRecord}
 use Rattle.mirror_run.specs.Runs.{Message, runNext, imageNext, isUnread, surfacedIn, unclaimedSoFar, layoutOfBox, unclaimedAtOpening}
 
@@ -122,7 +123,7 @@ abbrev pub nothing : Reply
 nothing = LaidOut (record { left = word 0; right = word 0; top = word 0; bottom = word 0 })
 
 -- ---- a screen of 100 by 50 at 8: a box with auto margins, a safe one centered at 30 that is as wide as its content, and the first again;
--- at 30 a fixed one, which nobody claims
+-- at 30 a fixed one, which nobody claims. They are on layers 9, 0, 3 and 255
 
 abbrev pub panel : Opening
 panel = screen 1120403456 1112014848 1090519040
@@ -133,7 +134,7 @@ table =
     ++ plain noInsets (asContent ++ px 1092616192)
 
 abbrev pub four : List ℕ
-four = candidate 2 0 0 0 0 ++ candidate 3 1 1106247680 0 0 ++ candidate 2 1 1106247680 1 2 ++ candidate 2 0 0 0 0
+four = onLayer 9 2 0 0 0 0 ++ onLayer 255 3 1 1106247680 0 0 ++ candidate 2 1 1106247680 1 2 ++ onLayer 3 2 0 0 0 0
 
 -- the words of the run's lists are zeros at first, those of its image sevens
 abbrev pub lent : Lent
@@ -150,9 +151,9 @@ wrongKind =
       image = turn (Width (word 2143289344)) (2 ∷ []) (other (lentWith (replicate (styleWords * 2) 2) 2 2 3 2));
     }
 
--- the first box is laid out, and surfaces a fixed one at 0
+-- the first box is laid out, and surfaces a fixed one at 0, on layer 4
 abbrev pub surfacesFixed : Message
-surfacesFixed = toBoth nothing (candidate 3 1 0 0 0)
+surfacesFixed = toBoth nothing (onLayer 4 3 1 0 0 0)
 
 -- the second one is measured as 20.25 wide; the surfaced words that are lent with it differ
 abbrev pub measured : Message
@@ -193,6 +194,10 @@ figures o = numberAfter o ∷ laidSoFar o ∷ (placeWords o 0 ++ placeWords o 1 
 -- where the unclaimed records start
 abbrev unclaimedWords : Outcome → List ℕ
 unclaimedWords o = map (λ (c : OofCandidate). toBits binary32 (c .place .x .area .start)) (unclaimedSoFar o)
+
+-- the layers of the claimed records, then of the unclaimed ones
+abbrev layersAfter : Outcome → List ℕ
+layersAfter o = layersOf (claimedSoFar o) ++ layersOf (unclaimedSoFar o)
 
 -- ---- screens of one box that lack one thing
 
@@ -302,6 +307,9 @@ pub record Computed : Type 0 where
   pub atOpening : unclaimedAtOpening panel four lent ≡ 1
   pub unclaimed : unclaimedWords (after replies) ≡ 1106247680 ∷ 1108869120 ∷ []
   pub imageUnclaimed : unclaimedWords (imageAfter replies) ≡ 1118568448 ∷ 1111490560 ∷ []
+  -- each record on its layer, in both
+  pub layers : layersAfter (after replies) ≡ 9 ∷ 0 ∷ 3 ∷ 255 ∷ 4 ∷ []
+  pub imageLayers : layersAfter (imageAfter replies) ≡ 9 ∷ 0 ∷ 3 ∷ 255 ∷ 4 ∷ []
   -- nobody claims what is surfaced
   pub free : sweep-sweep.claimed (after (wrongKind ∷ []) .step .state .opened .claims) (sweep-sweep.candidatesIn (surfacedIn (surfacesFixed .turn))) ≡ []
   -- 0.5 and 0
@@ -344,6 +352,8 @@ computed =
       atOpening = refl;
       unclaimed = refl;
       imageUnclaimed = refl;
+      layers = refl;
+      imageLayers = refl;
       free = refl;
       widthZero = record { run = refl; image = refl; differ = refl };
       length = record { run = refl; image = refl; differ = refl };

@@ -66,10 +66,10 @@ pub record Images : Type 0 where
   pub openings : map (λ (d : ℕ). imageOpening (panel d) .direction) (0 ∷ 1 ∷ 2 ∷ []) ≡ 1 ∷ 0 ∷ 2 ∷ []
   -- start and end change places; center stays, and so does 3, which is no edge
   pub edges : map otherEdge (0 ∷ 1 ∷ 2 ∷ 3 ∷ []) ≡ 2 ∷ 1 ∷ 0 ∷ 3 ∷ []
-  -- a candidate that stands in x from 30 to 40, its edge start and its fallback edge end: from 76 to 86, end and start
+  -- a candidate that stands in x from 30 to 40, its edge start and its fallback edge end: from 76 to 86, end and start. It stays on layer 5
   pub candidate :
-      imageCandidates (panel 0 .area) (9 ∷ 8 ∷ 2 ∷ 1106247680 ∷ 1109393408 ∷ 0 ∷ 1 ∷ 2 ∷ 7 ∷ 6 ∷ 0 ∷ 0 ∷ 2 ∷ [])
-      ≡ 9 ∷ 8 ∷ 2 ∷ 1117257728 ∷ 1118568448 ∷ 2 ∷ 1 ∷ 0 ∷ 7 ∷ 6 ∷ 0 ∷ 0 ∷ 2 ∷ []
+      imageCandidates (panel 0 .area) (9 ∷ 8 ∷ 2 ∷ 1106247680 ∷ 1109393408 ∷ 0 ∷ 1 ∷ 2 ∷ 7 ∷ 6 ∷ 0 ∷ 0 ∷ 2 ∷ 5 ∷ [])
+      ≡ 9 ∷ 8 ∷ 2 ∷ 1117257728 ∷ 1118568448 ∷ 2 ∷ 1 ∷ 0 ∷ 7 ∷ 6 ∷ 0 ∷ 0 ∷ 2 ∷ 5 ∷ []
   -- a style whose words are their own places, but for its direction, 0. Inset, margin, padding and border have each left, right, top and
   -- bottom, of two words: the first two and the next two change places. The direction is flipped
   pub style :

@@ -60,4 +60,4 @@ progress-rows = (refl, refl, refl, refl, refl, refl)
 
 pub candidate-rows : CandidateRows
 unfolding reached finishedVerdict _when_else_ badSlices badTable badList otherLengths badCandidate goodRecords every good breaks wrong recordAt items candidateOf layoutOf boxReached allAccepted accepted least firstFrom shares axisOf lastOffset inEighths countOf counted div neg round units odd size span climb ofBits toBits ofFields nanBits ofInt
-candidate-rows = ((refl, refl), refl, refl, refl, refl)
+candidate-rows = ((refl, refl), refl, refl, refl, refl, refl, refl)
