@@ -63,7 +63,7 @@ unfolding badTable
 table styles layouts e =
     eqb-true _ _ (not-false _ (neither (ragged styleWords styles || ltb 1024 (items styles)) (not (eqb (length layouts) (layoutWidth * items styles))) e .1))
 
-few-records : (list : List ℕ) → badList list ≡ false → length list / candidateWidth ≤ 4096
+pub few-records : (list : List ℕ) → badList list ≡ false → length list / candidateWidth ≤ 4096
 unfolding badList
 few-records list e = ltb-false _ _ (neither (ragged candidateWidth list) (ltb 4096 (length list / candidateWidth)) e .1)
 
