@@ -19,7 +19,7 @@ pub const LAYER: usize = 13;
 pub const CANDIDATE_WORDS: usize = 14;
 
 // Layers are 0 to 255.
-const LAYERS: u32 = 256;
+pub const LAYERS: u32 = 256;
 
 // A word as an index.
 fn index(word: u32) -> usize
