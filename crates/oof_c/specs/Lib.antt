@@ -1,1 +1,2 @@
 pub mod ReachWords
+pub mod DrawingWords

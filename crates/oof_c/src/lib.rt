@@ -1,12 +1,14 @@
-// The C entries: a run whose state and answer stand in lent words, the pixel edges of a box, whether scrolling brings a box up, and the first
-// word of a table of styles that breaks a code rule. A slice passes as a pointer, then its length in words; state, answer, a layout, edges, a
-// verdict and a found word's place pass as a pointer each. hosts/c/oof.h declares them for C.
+// The C entries: a run whose state and answer stand in lent words, the pixel edges of a box, whether scrolling brings a box up, in which order
+// the boxes are drawn, and the first word of a table of styles that breaks a code rule. A slice passes as a pointer, then its length in words;
+// state, answer, a layout, edges, a verdict and a found word's place pass as a pointer each. hosts/c/oof.h declares them for C.
 ghost use mathlib.Core.Path.{_≡_};
 ghost use mathlib.Core.List.{[]};
 ghost use Rattle.oof_c_words.specs.Entry.{came, before, returned, openingOf, openedInWords, repliedInWords};
 ghost use Rattle.oof_c_words.specs.PixelWords.{pixelsReturned, pixelsInWords};
 ghost use Rattle.run.specs.Call.{atEntry};
+ghost use Rattle.placer_check.specs.Verdict.{verdictOf};
 ghost use Rattle.oof_c.specs.ReachWords.{reachReturned, reachInWords};
+ghost use Rattle.oof_c.specs.DrawingWords.{verdictNumber, drawingReturned, drawingInWords};
 ghost use Rattle.oof_c_words.specs.CheckWords.{checkReturned, checkInWords};
 use geometry::Point;
 use geometry::Rect;
@@ -16,6 +18,7 @@ use oof_c_words::answer::ANSWER_WORDS;
 use oof_c_words::check::FOUND;
 use oof_c_words::state::STATE_WORDS;
 use pixels::lent::EDGES;
+use placer_check::Verdict;
 use reach::lent::VERDICT;
 use run::Opening;
 use tree::layout::OofPositioningArea;
@@ -227,6 +230,33 @@ pub extern "C" fn oof_reach(
     let s = oof_c_words::state::state_of(state);
     let reached = reach::reach(place, s, styles, layouts, working, unclaimed);
     reach::lent::tell(reached, verdict)
+}
+
+// 0, or the refusal's number.
+fn number(verdict: Verdict) -> u32
+    ensures { λ r. ⌜ r ≡ verdictNumber (verdictOf verdict) ⌝ }
+{
+    match verdict {
+        Verdict::Accepted => 0,
+        Verdict::Refused(refusal) => refusal.number(),
+    }
+}
+
+// In which order the boxes of a finished run are drawn, as places in the hoisted order.
+#[no_mangle]
+pub extern "C" fn oof_drawing_order(
+    styles: &[u32],
+    layouts: &[u32],
+    working: &[u32],
+    unclaimed: &[u32],
+    state: &[u32; STATE_WORDS],
+    order: &mut [u32],
+) -> u32
+    ensures { λ r. ⌜ drawingReturned r order ≡ drawingInWords (atEntry styles layouts working unclaimed) (came state) (now (order .entry)) ⌝ }
+{
+    let s = oof_c_words::state::state_of(state);
+    let verdict = drawing::drawing_order(s, styles, layouts, working, unclaimed, order);
+    number(verdict)
 }
 
 // The first word of a table of styles that breaks a code rule.
