@@ -47,6 +47,8 @@ use Rattle.reach_laws.proofs.Runs.{mirrored-verdict}
 use Rattle.reach_laws.proofs.Answered.{quarters-are-answered as all-answered}
 use Rattle.reach.specs.declared.Reached.{Reached}
 use Rattle.reach.proofs.Exactly as reach
+use Rattle.drawing.specs.Drawing.{Drawn, drawn}
+use Rattle.drawing.proofs.Exactly as drawing
 use Rattle.boxlist_print.specs.declared.Listing.{Listing}
 use Rattle.boxlist_print.specs.Rows.{Prints}
 use Rattle.boxlist_print.specs.Printed.{printed}
@@ -63,7 +65,7 @@ use Rattle.pixels_laws.specs.Laws.{HasEdges}
 use Rattle.pixels_laws.proofs.Run.{run-has-edges}
 use Rattle.pixels_laws.proofs.Tests.{refused-first, edges-first}
 use Rattle.demands.specs.Entries.{Opens, RepliesTo, AnyCalls, Takes, Run, RefusedSince, BothRuns, AfterEach}
-use Rattle.demands.specs.Demands.{OpeningDemands, ReplyDemands, AlignmentDemands, PixelsDemands, ReachDemands, CheckDemands, ScreenDemands, OpeningsGoByTheCheck, RepliesGoByTheCheck, ThreeQuestionsEach, EqualsStraightRun, SizedLayout, SizeLaw, LaidOutAsAsked, MirrorImage, MirroredReach, QuartersHaveEdges, QuartersAreAnswered}
+use Rattle.demands.specs.Demands.{OpeningDemands, ReplyDemands, AlignmentDemands, PixelsDemands, ReachDemands, DrawingDemands, CheckDemands, ScreenDemands, OpeningsGoByTheCheck, RepliesGoByTheCheck, ThreeQuestionsEach, EqualsStraightRun, SizedLayout, SizeLaw, LaidOutAsAsked, MirrorImage, MirroredReach, QuartersHaveEdges, QuartersAreAnswered}
 
 -- ---- one call
 
@@ -89,6 +91,17 @@ pub reach-demands : (place : ℕ) (s : State) (lent : Lent) {r : Reached} → r 
 reach-demands place s lent c =
     subst (ReachDemands place s lent) (sym c)
     (record { call = refl; refused = reach.refused-exactly place s lent; answered = reach.answered-exactly place s lent })
+
+pub drawing-demands : (s : State) (lent : Lent) (before : List ℕ) {has : Drawn} → has ≡ drawn s lent before → DrawingDemands s lent before has
+drawing-demands s lent before c =
+    subst (DrawingDemands s lent before) (sym c)
+    (record {
+      call = refl;
+      refused = drawing.refused-exactly s lent before;
+      accepted = drawing.accepted-exactly s lent before;
+      kept = drawing.refused-keeps s lent before;
+      written = drawing.drawn-in-order s lent before;
+    })
 
 pub check-demands : (styles : List ℕ) {r : TableCheck} → r ≡ checked styles → CheckDemands styles r
 check-demands styles c =

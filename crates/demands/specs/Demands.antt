@@ -1,5 +1,5 @@
 -- The three demands, of every entry. Refusals 1 to 6 are those of `open` and `reply`, 7 of `from_alignment`, 8 of the programs, 9 of
--- `pixel_edges`; `reach` has 2, 6, 4 and 9, `check_styles` none. The demands of the C entries stand in demands_c/specs. No entry asks anything
+-- `pixel_edges`; `reach` has 2, 6, 4 and 9, `drawing_order` 2, 6 and 4, `check_styles` none. The demands of the C entries stand in demands_c/specs. No entry asks anything
 -- of its caller, and a proved function ends, without a panic: so each of these holds for any bits in any number and slices of any length.
 -- `proofs/Demands.antt` proves each, under its name in small letters.
 -- What document 01 leaves free is fixed by the definition all the same: what is asked and written where words were rewritten between calls or
@@ -44,6 +44,7 @@ use Rattle.run.specs.declared.Progress.the-variants.{Finished}
 use Rattle.run.specs.declared.State.{State}
 use Rattle.run.specs.declared.Answer.the-variants.{Ask, Refused}
 use Rattle.run.specs.Call.{Lent, Outcome, unwritten}
+use Rattle.run.specs.Refusals as verdict
 use Rattle.run.specs.Run.{closed, boxAtHand, extentsOf, claimsOf}
 use Rattle.run.specs.Conditions.{StyleIsBad, FirstNotAllowed, AllAllowed, FirstIs, NoneHolds, SideIsUnresolved, openingTests, replyTests}
 use Rattle.run.specs.Theorems.{Names, isRefused, own, StageTellsKind, WroteSize, Turn, Stands, heededIn, courseOf, laidSoFar}
@@ -58,6 +59,9 @@ use Rattle.reach.specs.Laws.{IsAnswer}
 use Rattle.reach.specs.Reach.{reached}
 use Rattle.reach.specs.declared.Reached.{Reached}
 use Rattle.reach.specs.declared.Reached.the-variants as reach
+use Rattle.drawing.specs.Conditions.{drawingTests}
+use Rattle.drawing.specs.Drawing.{boxLayers, Drawn, drawn}
+use Rattle.drawing.specs.Laws.{EachOnce, InOrder}
 use Rattle.boxlist_print.specs.declared.Listing.{Listing}
 use Rattle.boxlist_print.specs.Rows.{Prints}
 use Rattle.boxlist_print.specs.Printed.{printed}
@@ -113,6 +117,15 @@ pub record ReachDemands (place : ℕ) (s : State) (lent : Lent) (r : Reached) : 
   pub call : r ≡ reached place s lent
   pub refused : (q : Refusal) → (r ≡ reach.Refused q) ↔ FirstIs (reachTests place s lent) (numberOf q)
   pub answered : IsAnswer r ↔ NoneHolds (reachTests place s lent)
+
+-- `drawing_order`: 2, 6, 4. It can write one slice, that of the order: refused, its words stay; accepted, each box's place stands there once,
+-- lower layers first, and within one layer in the hoisted order
+pub record DrawingDemands (s : State) (lent : Lent) (before : List ℕ) (has : Drawn) : Type 0 where
+  pub call : has ≡ drawn s lent before
+  pub refused : (q : Refusal) → (has .verdict ≡ verdict.refused q) ↔ FirstIs (drawingTests s lent before) (numberOf q)
+  pub accepted : (has .verdict ≡ verdict.accepted) ↔ NoneHolds (drawingTests s lent before)
+  pub kept : (q : Refusal) → has .verdict ≡ verdict.refused q → has .order ≡ before
+  pub written : has .verdict ≡ verdict.accepted → EachOnce (s .counts .filled .working) (has .order) × InOrder (boxLayers s lent) (has .order)
 
 -- request #103. `check_styles` refuses nothing: "it names that item and the first of its words, in record order from 0, that breaks one, or
 -- nothing exactly when no word of the table does". The rules are refusal 3's, and it names a word exactly where 3's condition holds. The table

@@ -4,7 +4,8 @@
 ghost use mathlib.Core.Path.{_≡_};
 ghost use Rattle.oof_axis.specs.StaticOffset.{staticOffset};
 ghost use Rattle.run.specs.Call.{atEntry, atExit};
-ghost use Rattle.demands.specs.Demands.{OpeningDemands, ReplyDemands, AlignmentDemands, PixelsDemands, ReachDemands, CheckDemands, ScreenDemands, Demanded};
+ghost use Rattle.placer_check.specs.Verdict.{verdictOf};
+ghost use Rattle.demands.specs.Demands.{OpeningDemands, ReplyDemands, AlignmentDemands, PixelsDemands, ReachDemands, DrawingDemands, CheckDemands, ScreenDemands, Demanded};
 use boxlist_print::LIST_BYTES;
 use boxlist_print::Listing;
 use geometry::Line;
@@ -13,6 +14,7 @@ use geometry::Rect;
 use geometry::Size;
 use oof_box::question::Reply;
 use pixels::Pixels;
+use placer_check::Verdict;
 use reach::Reached;
 use run::Opening;
 use run::State;
@@ -74,6 +76,19 @@ pub fn reach(
     ensures { λ r. ⌜ ReachDemands place s (atEntry styles layouts working unclaimed) r ⌝ }
 {
     reach::reach(place, s, styles, layouts, working, unclaimed)
+}
+
+pub fn drawing_order(
+    s: State,
+    styles: &[u32],
+    layouts: &[u32],
+    working: &[u32],
+    unclaimed: &[u32],
+    order: &mut [u32],
+) -> Verdict
+    ensures { λ r. ⌜ DrawingDemands s (atEntry styles layouts working unclaimed) (now (order .entry)) (record { verdict = verdictOf r; order = now (order .exit) }) ⌝ }
+{
+    drawing::drawing_order(s, styles, layouts, working, unclaimed, order)
 }
 
 // These two refuse nothing.

@@ -64,8 +64,13 @@ use Rattle.reach.proofs.Exactly as exactly
 use Rattle.reach_laws.proofs.Answered.{quarters-are-answered as all-answered}
 use Rattle.oof_c_words.specs.CheckWords.{CheckReturned, checkTold, checkInWords}
 use Rattle.oof_c.specs.ReachWords.{reachInWords}
+use Rattle.oof_c.specs.DrawingWords.{DrawingReturned, verdictNumber, drawingInWords}
+use Rattle.drawing.specs.Conditions.{drawingTests}
+use Rattle.drawing.specs.Drawing.{drawn}
+use Rattle.drawing.proofs.Exactly as drawing
+use Rattle.run.specs.Refusals.{Verdict, accepted, refused}
 use Rattle.demands_c.specs.Calls.{Opens, RepliesTo, FitsOpening, askedFor, AnyCalls, Takes, Lends, Run}
-use Rattle.demands_c.specs.Demands.{OpeningDemands, ReplyDemands, PixelsDemands, VerdictIn, ReachDemands, BadWordDemands, ThreeQuestionsEach, StandsInWords, EqualsStraightRun, QuartersHaveEdges, QuartersAreAnswered}
+use Rattle.demands_c.specs.Demands.{OpeningDemands, ReplyDemands, PixelsDemands, VerdictIn, ReachDemands, DrawingDemands, BadWordDemands, ThreeQuestionsEach, StandsInWords, EqualsStraightRun, QuartersHaveEdges, QuartersAreAnswered}
 
 -- ---- the result is the number of the first condition that holds
 
@@ -209,6 +214,38 @@ reach-demands place lent state before c =
     let by = verdict-by before (reachTests place s lent) v (exactly.refused-exactly place s lent) (exactly.answered-exactly place s lent) in
     subst (ReachDemands place lent state before) (sym c)
     (record { call = refl; refused = numbered by; accepted = zeroed by; kept = verdict-kept before v; written = verdict-written before v })
+
+-- ---- the drawing order
+
+order-by : (tests : List (ℕ × Type 0)) (v : Verdict) → ((r : Refusal) → (v ≡ refused r) ↔ FirstIs tests (numberOf r)) → (v ≡ accepted) ↔ NoneHolds tests
+    → ResultBy tests (verdictNumber v)
+order-by tests accepted f g = noneHolds (g .0 refl)
+order-by tests (refused r) f g = firstHolds r (f r .0 refl)
+
+-- a verdict by its number
+zero-accepted : (v : Verdict) → verdictNumber v ≡ 0 → v ≡ accepted
+zero-accepted accepted e = refl
+zero-accepted (refused r) e = absurd (refused-is-not r e)
+
+other-refused : (v : Verdict) → verdictNumber v ≢ 0 → (r : Refusal) × (v ≡ refused r)
+other-refused accepted h = absurd (h refl)
+other-refused (refused r) h = (r, refl)
+
+pub drawing-demands :
+    (lent : Lent) (state before : List ℕ) {has : DrawingReturned} → has ≡ drawingInWords lent state before → DrawingDemands lent state before has
+unfolding drawingInWords
+drawing-demands lent state before c =
+    let s = stateOf state in
+    let v = drawn s lent before .verdict in
+    let by = order-by (drawingTests s lent before) v (drawing.refused-exactly s lent before) (drawing.accepted-exactly s lent before) in
+    subst (DrawingDemands lent state before) (sym c)
+    (record {
+      call = refl;
+      refused = numbered by;
+      accepted = zeroed by;
+      kept = λ h. let r = other-refused v h in drawing.refused-keeps s lent before (r .0) (r .1);
+      written = λ e. drawing.drawn-in-order s lent before (zero-accepted v e);
+    })
 
 -- ---- the first bad word
 

@@ -33,14 +33,18 @@ use Rattle.reach.specs.Told.{ReachReturned}
 use Rattle.reach.specs.declared.Reached.{Reached}
 use Rattle.reach.specs.declared.Reached.the-variants.{Seen, Unseen, Refused}
 use Rattle.oof_c_words.specs.CheckWords.{CheckReturned, checkInWords}
+use Rattle.drawing.specs.Conditions.{drawingTests}
+use Rattle.drawing.specs.Drawing.{boxLayers}
+use Rattle.drawing.specs.Laws.{EachOnce, InOrder}
 use Rattle.oof_c.specs.ReachWords.{reachInWords}
+use Rattle.oof_c.specs.DrawingWords.{DrawingReturned, drawingInWords}
 use Rattle.oof_c_words.specs.PixelWords.{pixelsInWords}
 use Rattle.demands_c.specs.Calls.{Opens, RepliesTo, AnyCalls, Run}
 
 -- ---- Demand 1. "Whoever calls an entry, with any bits in any number and slices of any length, gets its answer .. or one of document 01's
 -- refusals .., each exactly under its stated condition. A refusal writes no lent word and returns the state as it came." The conditions, in
 -- document 01's words and order, stand in run/specs/Conditions.antt, that of request #101 in pixels/specs/Conditions.antt, those of #102 in
--- finished/specs and reach/specs.
+-- finished/specs and reach/specs, that of #104 in drawing/specs.
 
 -- the words of a verdict
 abbrev pub VerdictIn : Reached → List ℕ → Type 0
@@ -81,6 +85,14 @@ pub record ReachDemands (place : ℕ) (lent : Lent) (state before : List ℕ) (h
   pub accepted : (has .result ≡ 0) ↔ NoneHolds (reachTests place (stateOf state) lent)
   pub kept : has .result ≢ 0 → has .verdict ≡ before
   pub written : has .result ≡ 0 → VerdictIn (reached place (stateOf state) lent) (has .verdict)
+
+-- `oof_drawing_order`, whatever words stand for its state: 2, 6, 4. Slices and state are lent to be read only, but for that of the order
+pub record DrawingDemands (lent : Lent) (state before : List ℕ) (has : DrawingReturned) : Type 0 where
+  pub call : has ≡ drawingInWords lent state before
+  pub refused : (n : ℕ) → n ≢ 0 → (has .result ≡ n) ↔ FirstIs (drawingTests (stateOf state) lent before) n
+  pub accepted : (has .result ≡ 0) ↔ NoneHolds (drawingTests (stateOf state) lent before)
+  pub kept : has .result ≢ 0 → has .order ≡ before
+  pub written : has .result ≡ 0 → EachOnce (stateOf state .counts .filled .working) (has .order) × InOrder (boxLayers (stateOf state) lent) (has .order)
 
 -- request #103, `oof_first_bad_word`. It refuses nothing. Result 1: a word is not allowed, by refusal 3's rules, and the two words are written:
 -- the item, modulo 2 ^ 32 as all counts are, then its word. Result 0: every word is allowed, and the two words stay. This 1 is not refusal 1.

@@ -6,7 +6,8 @@ ghost use Rattle.oof_c_words.specs.PixelWords.{pixelsReturned};
 ghost use Rattle.run.specs.Call.{atEntry};
 ghost use Rattle.oof_c_words.specs.CheckWords.{checkReturned};
 ghost use Rattle.oof_c.specs.ReachWords.{reachReturned};
-ghost use Rattle.demands_c.specs.Demands.{OpeningDemands, ReplyDemands, PixelsDemands, ReachDemands, BadWordDemands, Demanded};
+ghost use Rattle.oof_c.specs.DrawingWords.{drawingReturned};
+ghost use Rattle.demands_c.specs.Demands.{OpeningDemands, ReplyDemands, PixelsDemands, ReachDemands, DrawingDemands, BadWordDemands, Demanded};
 use oof_box::question::Reply;
 
 pub fn open(
@@ -147,6 +148,19 @@ pub fn reach(
     ensures { λ r. ⌜ ReachDemands place (atEntry styles layouts working unclaimed) (came state) (now (verdict .entry)) (reachReturned r verdict) ⌝ }
 {
     oof_c::oof_reach(place, styles, layouts, working, unclaimed, state, verdict)
+}
+
+pub fn drawing_order(
+    styles: &[u32],
+    layouts: &[u32],
+    working: &[u32],
+    unclaimed: &[u32],
+    state: &[u32; 27],
+    order: &mut [u32],
+) -> u32
+    ensures { λ r. ⌜ DrawingDemands (atEntry styles layouts working unclaimed) (came state) (now (order .entry)) (drawingReturned r order) ⌝ }
+{
+    oof_c::oof_drawing_order(styles, layouts, working, unclaimed, state, order)
 }
 
 pub fn first_bad_word(styles: &[u32], found: &mut [u32; 2]) -> u32
