@@ -45,7 +45,7 @@ image-block o candidates lent v =
     let e = ltb-false 1 (o .direction) (neither _ _ (neither _ _ (neither _ _ (opening-passed o candidates lent v .area) .0) .0) .0) in
     rw (direction-decoded (o .direction) (omega arith)) refl
 
-module _ (o : Opening) (candidates : List ℕ) (lent : Lent) (layouts working unclaimed : List ℕ) (ms : List Message) (place : ℕ) (area : QuarterArea (o .area)) (table : QuarterTable (lent .styles))
+module _ (o : Opening) (candidates : List ℕ) (lent : Lent) (layouts working unclaimed : List ℕ) (ms : List Message) (area : QuarterArea (o .area)) (table : QuarterTable (lent .styles))
     (quarter : QuarterCandidates candidates) (same : extentsOf lent ≡ extentsOf (imageLent o candidates lent layouts working unclaimed))
     (fair : AllFair (lent .styles) (opened o candidates lent) ms) where
   abbrev lent' : Lent
@@ -64,7 +64,7 @@ module _ (o : Opening) (candidates : List ℕ) (lent : Lent) (layouts working un
   at-opening : Linked (frame o candidates lent layouts working unclaimed) (opened o candidates lent) (opened (imageOpening o) image lent')
   at-opening = opened-linked o candidates lent layouts working unclaimed same area table quarter
 
-  both : Linked (frame o candidates lent layouts working unclaimed) has has'
+  pub both : Linked (frame o candidates lent layouts working unclaimed) has has'
   both =
       all-replies (frame o candidates lent layouts working unclaimed) (quarter-frame o candidates lent layouts working unclaimed same area table quarter) ms [] at-opening
       (subst (AllFair (lent .styles) (opened o candidates lent)) (sym (append-nil ms)) fair)
@@ -93,10 +93,10 @@ module _ (o : Opening) (candidates : List ℕ) (lent : Lent) (layouts working un
         (run-in o candidates lent (turnsOf ms) (area .quarters) table quarter accepts (all-lend o (lent .styles) (opened o candidates lent) ms fair)
         (all-heard o (lent .styles) (opened o candidates lent) ms g fair) .layouts)
 
-    same-box : has .step .state .progress ≡ Finished → place < has .step .state .counts .filled .working
+    same-box : (place : ℕ) → has .step .state .progress ≡ Finished → place < has .step .state .counts .filled .working
         → boxReached (has .step .state .opened .container) (has .step .state .overflow) (layoutOfBox has place)
         ≡ boxReached (has' .step .state .opened .container) (has' .step .state .overflow) (layoutOfBox has' place)
-    same-box e h =
+    same-box place e h =
         let m = mirrored both in
         let all = goes .all e in
         let begun : place < has .step .state .counts .begun = omega arith in
@@ -104,8 +104,8 @@ module _ (o : Opening) (candidates : List ℕ) (lent : Lent) (layouts working un
         rw (goes .container, goes' .container, image-block o candidates lent v)
         (box-alike (containerOf o) (area .quarters) (has .step .state .overflow) (has' .step .state .overflow) (m .overflow) (layoutOfBox has place) (layoutOfBox has' place) (m .boxes place laid) (layouts-in place laid))
 
-  from-opening : toldOf place (lent .styles) has ≡ toldOf place (lent' .styles) has'
-  from-opening = told-alike place both (go (opening-way o candidates lent) (opening-way (imageOpening o) image lent'))
+  from-opening : (place : ℕ) → toldOf place (lent .styles) has ≡ toldOf place (lent' .styles) has'
+  from-opening place = told-alike place both (go (opening-way o candidates lent) (opening-way (imageOpening o) image lent'))
     where
       Same : Type 0
       Same =
@@ -119,16 +119,19 @@ module _ (o : Opening) (candidates : List ℕ) (lent : Lent) (layouts working un
           no (ap refusedIn e') (sym (same-refused (mirrored at-opening .answer)) ∙ ap refusedIn e ∙ begun-accepts o candidates lent)
       go (begins v e) (begins v' e') =
           same-box v (subst (λ (x : Outcome). Goes o (x .step .state)) (sym e) (begun-goes o candidates lent))
-          (subst (λ (x : Outcome). Goes (imageOpening o) (x .step .state)) (sym e') (begun-goes (imageOpening o) image lent')) (ap refusedIn e ∙ begun-accepts o candidates lent)
+          (subst (λ (x : Outcome). Goes (imageOpening o) (x .step .state)) (sym e') (begun-goes (imageOpening o) image lent')) (ap refusedIn e ∙ begun-accepts o candidates lent) place
+
+-- slices that have the image's styles
+pub with-image : (lent lent' : Lent) → lent' .styles ≡ imageStyles (lent .styles)
+    → lent' ≡ record { styles = imageStyles (lent .styles); layouts = lent' .layouts; working = lent' .working; unclaimed = lent' .unclaimed }
+with-image lent lent' image = ap (λ (styles : List ℕ). record { styles = styles; layouts = lent' .layouts; working = lent' .working; unclaimed = lent' .unclaimed }) image
 
 pub mirrored-verdict : MirroredVerdict
 mirrored-verdict o candidates lent lent' ms place area table quarter image same fair =
+    let e = with-image lent lent' image in
     subst
     (λ (lent' : Lent).
     toldOf place (lent .styles) (foldl (runNext (lent .styles)) (opened o candidates lent) ms)
     ≡ toldOf place (lent' .styles) (foldl (imageNext (lent' .styles)) (opened (imageOpening o) (imageCandidates (o .area) candidates) lent') ms))
-    (sym with-image)
-    (from-opening o candidates lent (lent' .layouts) (lent' .working) (lent' .unclaimed) ms place area table quarter (same ∙ ap extentsOf with-image) fair)
-  where
-    with-image : lent' ≡ record { styles = imageStyles (lent .styles); layouts = lent' .layouts; working = lent' .working; unclaimed = lent' .unclaimed }
-    with-image = ap (λ (styles : List ℕ). record { styles = styles; layouts = lent' .layouts; working = lent' .working; unclaimed = lent' .unclaimed }) image
+    (sym e)
+    (from-opening o candidates lent (lent' .layouts) (lent' .working) (lent' .unclaimed) ms area table quarter (same ∙ ap extentsOf e) fair place)

@@ -104,7 +104,7 @@ module _ (f : Frame) (s : Shared) (p p' : Own) (links : Links f s p p') where
   long : extentsOf here ≡ extentsOf there
   long = links .lists .lengths ∙ sym (links .lists .lengths')
 
-  verdict-alike : (other : Bool) → finishedVerdict (stateOf f s p) here other ≡ finishedVerdict (stateOf f s p') there other
+  pub verdict-alike : (other : Bool) → finishedVerdict (stateOf f s p) here other ≡ finishedVerdict (stateOf f s p') there other
   unfolding finishedVerdict
   verdict-alike other =
       rw (

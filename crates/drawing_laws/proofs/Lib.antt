@@ -1,0 +1,7 @@
+pub mod Rows
+pub mod Box
+pub mod Kept
+pub mod Words
+pub mod Calls
+pub mod Runs
+pub mod Mirrored
