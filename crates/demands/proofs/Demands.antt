@@ -3,7 +3,7 @@ use Prim.Native.Nat.{ℕ, _+_, _<_}
 use native.Mathlib.Omega.{arith}
 use native.Mathlib.Nat.{zero-add}
 use mathlib.Core.Logic.{inl, inr, _↔_, Iff·trans}
-use mathlib.Core.Path.{_≡_, refl, sym, ap, subst, _∙_}
+use mathlib.Core.Path.{_≡_, refl, sym, ap, subst, subst₂, _∙_}
 use mathlib.Core.Bool.{Bool, true, false}
 use mathlib.Core.List.{List, [], _∷_, _++_, foldl, foldl-append, append-nil}
 use lib.Dec.{eqb}
@@ -35,7 +35,7 @@ use Rattle.run.specs.declared.Answer.the-variants.{Refused}
 use Rattle.run.specs.Call.{Lent, Outcome, outcome}
 use Rattle.run.specs.Conditions.{StyleIsBad, FirstIs, NoneHolds}
 use Rattle.run.specs.Theorems.{Names, WroteSize, openIn, oneIfAsked, isRefused, askedFor, Heard, Loan, own, other, Turn, next, nextWith, turned, Lends, AllLend, called, Stands, heededIn, courseOf, laidSoFar}
-use Rattle.run.specs.Run.{extentsOf, boxAtHand, opened, replied, takenBy, laidOut}
+use Rattle.run.specs.Run.{claimsOf, extentsOf, boxAtHand, opened, replied, takenBy, laidOut}
 use Rattle.run.proofs.Refusals.{refused-reply-keeps, refused-opening-keeps, saying, turn-refused}
 use Rattle.run.proofs.Exactly.{opening-refused-exactly, opening-accepted-exactly, reply-refused-exactly, reply-accepted-exactly, unresolved-exactly}
 use Rattle.run.proofs.Named.{named-exactly, nothing-exactly, named-where-bad}
@@ -44,6 +44,10 @@ use Rattle.reach.specs.Laws.{IsAnswer}
 use Rattle.reach.specs.Reach.{reached}
 use Rattle.reach_laws.specs.Laws.{toldOf}
 use Rattle.reach_laws.proofs.Runs.{mirrored-verdict}
+use Rattle.drawing_laws.specs.Laws.{allCame, KeepsLayers, SameOutcomes, drawnOf}
+use Rattle.drawing_laws.proofs.Kept.{layers-of-a-run}
+use Rattle.drawing_laws.proofs.Runs.{run-reads-no-layer}
+use Rattle.drawing_laws.proofs.Mirrored.{mirrored-drawing as images-drawn}
 use Rattle.reach_laws.proofs.Answered.{quarters-are-answered as all-answered}
 use Rattle.reach.specs.declared.Reached.{Reached}
 use Rattle.reach.proofs.Exactly as reach
@@ -65,7 +69,7 @@ use Rattle.pixels_laws.specs.Laws.{HasEdges}
 use Rattle.pixels_laws.proofs.Run.{run-has-edges}
 use Rattle.pixels_laws.proofs.Tests.{refused-first, edges-first}
 use Rattle.demands.specs.Entries.{Opens, RepliesTo, AnyCalls, Takes, Run, RefusedSince, BothRuns, AfterEach}
-use Rattle.demands.specs.Demands.{OpeningDemands, ReplyDemands, AlignmentDemands, PixelsDemands, ReachDemands, DrawingDemands, CheckDemands, ScreenDemands, OpeningsGoByTheCheck, RepliesGoByTheCheck, ThreeQuestionsEach, EqualsStraightRun, SizedLayout, SizeLaw, LaidOutAsAsked, MirrorImage, MirroredReach, QuartersHaveEdges, QuartersAreAnswered}
+use Rattle.demands.specs.Demands.{OpeningDemands, ReplyDemands, AlignmentDemands, PixelsDemands, ReachDemands, DrawingDemands, CheckDemands, ScreenDemands, OpeningsGoByTheCheck, RepliesGoByTheCheck, ThreeQuestionsEach, EqualsStraightRun, SizedLayout, SizeLaw, LaidOutAsAsked, MirrorImage, MirroredReach, MirroredDrawing, LayersAreKept, PlacementReadsNoLayer, QuartersHaveEdges, QuartersAreAnswered}
 
 -- ---- one call
 
@@ -214,6 +218,18 @@ quarters-are-answered o candidates lent turns has area table quarter calls heard
     (sym (run-is o candidates lent calls))
     (λ finished place filled. all-answered o candidates lent turns place area table quarter (run-opened o candidates lent calls) (run-lends o candidates lent calls) heard finished filled)
 
+-- ---- layers
+
+pub layers-are-kept : LayersAreKept
+layers-are-kept o candidates lent turns has calls =
+    subst (KeepsLayers (claimsOf o) (allCame candidates (heededIn o candidates lent turns))) (sym (run-is o candidates lent calls))
+    (layers-of-a-run o candidates lent turns (run-opened o candidates lent calls) (run-lends o candidates lent calls))
+
+pub placement-reads-no-layer : PlacementReadsNoLayer
+placement-reads-no-layer o candidates candidates' lent lent' turns turns' has has' came slices same calls calls' =
+    subst₂ SameOutcomes (sym (run-is o candidates lent calls)) (sym (run-is o candidates' lent' calls'))
+    (run-reads-no-layer o candidates candidates' lent lent' turns turns' came slices same (run-lends o candidates lent calls))
+
 -- ---- the size law
 
 sized : (s : State) (overflow : Rect) (surfaced : List ℕ) (lent : Lent) → SizedLayout s lent (laidOut s overflow surfaced lent .layouts)
@@ -327,6 +343,18 @@ told-at-the-end o candidates lent lent' {messages} area table quarter styles sam
     ∙ mirrored-verdict o candidates lent lent' messages place area table quarter styles same (both-fair o candidates lent lent' both)
     ∙ sym (ap (toldOf place (lent' .styles)) (image-of o candidates lent lent' both))
 
+-- what is drawn at the end of a list
+drawn-at-the-end : (o : Opening) (candidates : List ℕ) (lent lent' : Lent) {messages : List Message} {has has' : Outcome}
+    → QuarterArea (o .area) → QuarterTable (lent .styles) → QuarterCandidates candidates
+    → lent' .styles ≡ imageStyles (lent .styles) → extentsOf lent ≡ extentsOf lent'
+    → BothRuns o candidates lent lent' messages has has'
+    → (before : List ℕ) → drawnOf before (lent .styles) has ≡ drawnOf before (lent' .styles) has'
+unfolding image
+drawn-at-the-end o candidates lent lent' {messages} area table quarter styles same both before =
+    ap (drawnOf before (lent .styles)) (run-of o candidates lent lent' both)
+    ∙ images-drawn o candidates lent lent' messages before area table quarter styles same (both-fair o candidates lent lent' both)
+    ∙ sym (ap (drawnOf before (lent' .styles)) (image-of o candidates lent lent' both))
+
 -- what holds at the end of every list holds after each of its replies
 module _ {o : Opening} {candidates : List ℕ} {lent lent' : Lent} (P : Outcome → Outcome → Type 0)
     (end : (messages : List Message) (has has' : Outcome) → BothRuns o candidates lent lent' messages has has' → P has has') where
@@ -342,4 +370,10 @@ pub mirrored-reach : MirroredReach
 mirrored-reach o candidates lent lent' messages has has' area table quarter styles same both =
     after-each (λ (has has' : Outcome). (place : ℕ) → toldOf place (lent .styles) has ≡ toldOf place (lent' .styles) has')
     (λ _ _ _ b. told-at-the-end o candidates lent lent' area table quarter styles same b)
+    both
+
+pub mirrored-drawing : MirroredDrawing
+mirrored-drawing o candidates lent lent' messages has has' area table quarter styles same both =
+    after-each (λ (has has' : Outcome). (before : List ℕ) → drawnOf before (lent .styles) has ≡ drawnOf before (lent' .styles) has')
+    (λ _ _ _ b. drawn-at-the-end o candidates lent lent' area table quarter styles same b)
     both

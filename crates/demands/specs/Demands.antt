@@ -54,6 +54,7 @@ use Rattle.mirror_run.specs.Runs.{Message, MirroredRuns, unclaimedAtOpening, la
 use Rattle.pixels_laws.specs.Laws.{HasEdges, All, QuarterHeard}
 use Rattle.boxlist_lines.specs.Lines.{refusalText}
 use Rattle.reach_laws.specs.Laws.{toldOf}
+use Rattle.drawing_laws.specs.Laws.{allCame, KeepsLayers, SameCandidates, SameSlices, SameOutcomes, SameTurns, drawnOf}
 use Rattle.reach.specs.Conditions.{reachTests}
 use Rattle.reach.specs.Laws.{IsAnswer}
 use Rattle.reach.specs.Reach.{reached}
@@ -212,6 +213,31 @@ MirrorImage = OfImages (λ o candidates lent lent' has has'. MirroredRuns (o .ar
 abbrev pub MirroredReach : Type 0
 MirroredReach = OfImages (λ o candidates lent lent' has has'. (place : ℕ) → toldOf place (lent .styles) has ≡ toldOf place (lent' .styles) has')
 
+-- request #104: "the mirrored screens keep equal layers", and so the same drawing order. With any words in its slice, a drawing call leaves the
+-- same in both, or is refused with the same number
+abbrev pub MirroredDrawing : Type 0
+MirroredDrawing = OfImages (λ o candidates lent lent' has has'. (before : List ℕ) → drawnOf before (lent .styles) has ≡ drawnOf before (lent' .styles) has')
+
+-- ---- Request #104, of runs (drawing_laws/specs has the law of one box, and of any one call from any state)
+
+-- working and unclaimed records have the layers of the candidates that came, in turn: the opening's, then those that each reply that wasn't
+-- refused surfaced
+abbrev pub LayersAreKept : Type 0
+LayersAreKept =
+    (o : Opening) (candidates : List ℕ) (lent : Lent) (turns : List Turn) (has : Outcome)
+    → Run o candidates lent turns has
+    → KeepsLayers (claimsOf o) (allCame candidates (heededIn o candidates lent turns)) has
+
+-- "Placement doesn't read the layer": two runs whose candidates, surfaced records and lists differ in layers only, all of them allowed, have the
+-- same answer, state and layouts, and lists that differ in layers only
+abbrev pub PlacementReadsNoLayer : Type 0
+PlacementReadsNoLayer =
+    (o : Opening) (candidates candidates' : List ℕ) (lent lent' : Lent) (turns turns' : List Turn) (has has' : Outcome)
+    → SameCandidates candidates candidates' → SameSlices lent lent' → SameTurns turns turns'
+    → Run o candidates lent turns has
+    → Run o candidates' lent' turns' has'
+    → SameOutcomes has has'
+
 -- ---- Beyond the demands: under what demand 3 asks of area, styles, candidates and replies, but that the area's width may be 0, no box
 -- meets refusal 9 (pixels_laws/specs, reach_laws/specs)
 
@@ -245,6 +271,9 @@ pub record Demanded : Type 0 where
   pub laid-out-as-asked : LaidOutAsAsked
   pub mirror-image : MirrorImage
   pub mirrored-reach : MirroredReach
+  pub mirrored-drawing : MirroredDrawing
+  pub layers-are-kept : LayersAreKept
+  pub placement-reads-no-layer : PlacementReadsNoLayer
   pub quarters-have-edges : QuartersHaveEdges
   pub quarters-are-answered : QuartersAreAnswered
   -- what a program lists is the run that the screen scripts, and a row of verdicts says seen, unseen or refused 9
