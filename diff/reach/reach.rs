@@ -33,7 +33,8 @@ const STYLES: usize = 0;
 const LAYOUTS: usize = 1;
 const WORKING: usize = 2;
 const UNCLAIMED: usize = 3;
-const WIDTHS: [usize; 4] = [57, 23, 13, 13];
+const CANDIDATE: usize = 14;
+const WIDTHS: [usize; 4] = [57, 23, CANDIDATE, CANDIDATE];
 
 /// Words of the state.
 const PROGRESS: usize = 0;
@@ -46,8 +47,12 @@ const DIRECTION: usize = 19;
 const OVERFLOW: usize = 21;
 const LENGTHS: usize = 23;
 
-/// Words of a candidate: its codes and their greatest. Word 0 is the node.
-const CODES: [(usize, u32); 7] = [(2, 4), (5, 2), (6, 2), (7, 2), (10, 2), (11, 2), (12, 2)];
+/// Words of a candidate: its codes and their greatest, the layer among them. Word 0 is the node.
+const LAYER: usize = 13;
+const CODES: [(usize, u32); 8] = [(2, 4), (5, 2), (6, 2), (7, 2), (10, 2), (11, 2), (12, 2), (LAYER, 255)];
+
+/// Layers that are none: the first one, one whose low byte is 1, 2 ^ 31, a NaN, the highest word.
+const BAD_LAYERS: [u32; 5] = [256, 257, 1 << 31, 0x7FC0_0001, u32::MAX];
 
 /// Where a layout has x, y, width and height.
 const PLACES: [usize; 4] = [9, 10, 1, 2];
@@ -73,7 +78,7 @@ impl Call {
 
     /// The node of a place, where the list has such a record.
     fn node(&self, place: usize) -> Option<usize> {
-        self.slices[WORKING].get(place.checked_mul(13)?).map(|&node| node as usize)
+        self.slices[WORKING].get(place.checked_mul(CANDIDATE)?).map(|&node| node as usize)
     }
 
     /// One of the twelve numbers, where it is to be found: the area's width, height, x, y; the rectangle's left, right, top, bottom; the
@@ -237,7 +242,7 @@ const REFUSALS: [u32; 4] = [2, 6, 4, 9];
 
 fn bad_extent(call: &Call) -> bool {
     let [styles, layouts, working, unclaimed] = [0, 1, 2, 3].map(|k| call.slices[k].len());
-    let list = |words: usize| words % 13 != 0 || words > 13 * 4096;
+    let list = |words: usize| words % CANDIDATE != 0 || words > CANDIDATE * 4096;
     let n = styles / 57;
     let slices = styles % 57 != 0 || n > 1024 || layouts != 23 * n || list(working) || list(unclaimed);
     slices || (0..4).any(|k| call.slices[k].len() as u64 != u64::from(call.state[LENGTHS + k]))
@@ -270,7 +275,7 @@ fn reasons(call: &Call) -> [bool; 4] {
     [
         bad_extent(call) || no_box(call),
         unfinished(call) || above(call, WORKING) || above(call, UNCLAIMED),
-        call.slices[WORKING].chunks_exact(13).take(call.filled()).any(|record| bad_record(call, record)),
+        call.slices[WORKING].chunks_exact(CANDIDATE).take(call.filled()).any(|record| bad_record(call, record)),
         call.twelve().into_iter().any(not_eighths),
     ]
 }
@@ -534,7 +539,7 @@ fn readings() -> Vec<Named> {
         seen!("left, top, right, bottom", |[x, y]| both([Axis { far: y.near, ..x }, y], closed)),
         axis!("near and far exchanged", |a| closed(&Axis { far: a.near, ..*a })),
         changed!("the layout of the place", |c| {
-            if let Some(node) = c.slices[WORKING].get_mut(13 * c.place.min(9999)).filter(|node| **node < 1024) {
+            if let Some(node) = c.slices[WORKING].get_mut(CANDIDATE * c.place.min(9999)).filter(|node| **node < 1024) {
                 *node = c.place as u32;
             }
         }),
@@ -550,7 +555,7 @@ fn readings() -> Vec<Named> {
         }),
         changed!("the order for the node", |c| {
             let n = c.records(STYLES) as u32;
-            c.slices[WORKING].chunks_exact_mut(13).filter(|r| r[0] < n).for_each(|r| r[0] = r[1] % n);
+            c.slices[WORKING].chunks_exact_mut(CANDIDATE).filter(|r| r[0] < n).for_each(|r| r[0] = r[1] % n);
         }),
         changed!("the rectangle of the box's layout", |c| {
             let words = c.node(c.place).and_then(|node| c.slices[LAYOUTS].get(23 * node + 3..)?.get(..4));
@@ -576,7 +581,7 @@ fn unrecorded<const K: usize>(call: &mut Call, out: &mut [u32; 3]) -> u32 {
 
 /// A code of a filled record isn't tested
 fn uncoded<const K: usize>(call: &mut Call, out: &mut [u32; 3]) -> u32 {
-    after(call, out, |c| c.slices[WORKING].chunks_exact_mut(13).for_each(|record| record[CODES[K].0] = 0))
+    after(call, out, |c| c.slices[WORKING].chunks_exact_mut(CANDIDATE).for_each(|record| record[CODES[K].0] = 0))
 }
 
 /// The refusals in another order: B right before A
@@ -674,28 +679,28 @@ fn lengths() -> Vec<Named> {
 fn words() -> Vec<Named> {
     vec![
         tests!("4 for the asked record alone", |c, [a, b, _, e]| {
-            [a, b, c.slices[WORKING].chunks_exact(13).nth(c.place).is_some_and(|r| bad_record(c, r)), e]
+            [a, b, c.slices[WORKING].chunks_exact(CANDIDATE).nth(c.place).is_some_and(|r| bad_record(c, r)), e]
         }),
         tests!("4 up to the asked record", |c, [a, b, _, e]| {
-            [a, b, c.slices[WORKING].chunks_exact(13).take(c.place.min(9999) + 1).any(|r| bad_record(c, r)), e]
+            [a, b, c.slices[WORKING].chunks_exact(CANDIDATE).take(c.place.min(9999) + 1).any(|r| bad_record(c, r)), e]
         }),
         tests!("4 for all but the last", |c, [a, b, _, e]| {
-            [a, b, c.slices[WORKING].chunks_exact(13).take(c.filled().max(1) - 1).any(|r| bad_record(c, r)), e]
+            [a, b, c.slices[WORKING].chunks_exact(CANDIDATE).take(c.filled().max(1) - 1).any(|r| bad_record(c, r)), e]
         }),
         tests!("4 for records that aren't filled", |c, [a, b, _, e]| {
-            [a, b, c.slices[WORKING].chunks_exact(13).any(|r| bad_record(c, r)), e]
+            [a, b, c.slices[WORKING].chunks_exact(CANDIDATE).any(|r| bad_record(c, r)), e]
         }),
         tests!("4 for the unclaimed too", |c, [a, b, d, e]| {
             let filled = c.state[FILLED + 1] as usize;
-            [a, b, d || c.slices[UNCLAIMED].chunks_exact(13).take(filled).any(|r| bad_record(c, r)), e]
+            [a, b, d || c.slices[UNCLAIMED].chunks_exact(CANDIDATE).take(filled).any(|r| bad_record(c, r)), e]
         }),
         tests!("4 for the node alone", |c, [a, b, _, e]| {
             let n = c.records(STYLES);
-            [a, b, c.slices[WORKING].chunks_exact(13).take(c.filled()).any(|r| r[0] as usize >= n), e]
+            [a, b, c.slices[WORKING].chunks_exact(CANDIDATE).take(c.filled()).any(|r| r[0] as usize >= n), e]
         }),
         tests!("4 for a node of n alone", |c, [a, b, d, e]| {
             let n = c.records(STYLES);
-            [a, b, d && !c.slices[WORKING].chunks_exact(13).take(c.filled()).any(|r| r[0] as usize == n), e]
+            [a, b, d && !c.slices[WORKING].chunks_exact(CANDIDATE).take(c.filled()).any(|r| r[0] as usize == n), e]
         }),
         ("the position isn't tested", uncoded::<0>),
         ("the edge across isn't tested", uncoded::<1>),
@@ -704,6 +709,17 @@ fn words() -> Vec<Named> {
         ("the edge down isn't tested", uncoded::<4>),
         ("the safety down isn't tested", uncoded::<5>),
         ("the fallback down isn't tested", uncoded::<6>),
+        ("the layer isn't tested", uncoded::<7>),
+        changed!("a layer by its low byte", |c| {
+            c.slices[WORKING].chunks_exact_mut(CANDIDATE).for_each(|record| record[LAYER] &= 255);
+        }),
+        tests!("layer 255 is refused", |c, [a, b, d, e]| {
+            [a, b, d || c.slices[WORKING].chunks_exact(CANDIDATE).take(c.filled()).any(|r| r[LAYER] == 255), e]
+        }),
+        changed!("layer 256 is accepted", |c| {
+            let records = c.slices[WORKING].chunks_exact_mut(CANDIDATE);
+            records.filter(|record| record[LAYER] == 256).for_each(|record| record[LAYER] = 255);
+        }),
         ("a style is read", |call, out| match PROVED(call, out) {
             0 if call.slices[STYLES][0] > 75 => 3,
             result => result,
@@ -727,7 +743,7 @@ fn words() -> Vec<Named> {
         }),
         tests!("all boxes are tested", |c, [a, b, d, e]| {
             let all = c.slices[WORKING]
-                .chunks_exact(13)
+                .chunks_exact(CANDIDATE)
                 .take(c.filled())
                 .filter_map(|record| c.slices[LAYOUTS].get(23 * record[0] as usize..)?.get(..23));
             [a, b, d, e || all.flat_map(|layout| PLACES.map(|k| layout[k])).any(|word| not_eighths(Some(word)))]
@@ -846,7 +862,7 @@ fn show(call: &Call) -> String {
         &call.state[FILLED..FILLED + 2],
         call.state[DIRECTION],
         &call.state[OVERFLOW..OVERFLOW + 2],
-        call.slices[WORKING].iter().step_by(13).take(8).collect::<Vec<_>>(),
+        call.slices[WORKING].iter().step_by(CANDIDATE).take(8).collect::<Vec<_>>(),
         numbers.collect::<Vec<_>>().join(", ")
     )
 }
@@ -977,7 +993,7 @@ fn plain(across: Row, down: Row, direction: u32, offset: (i64, i64)) -> Option<C
     let mut slices = [2, 2, 3, 1].iter().zip(WIDTHS).map(|(n, width)| vec![0x7FC0_0001; n * width]);
     let mut call =
         Call { place: 0, slices: std::array::from_fn(|_| slices.next().unwrap_or_default()), state: [0; 27] };
-    [1, 0].iter().zip(call.slices[WORKING].chunks_exact_mut(13)).for_each(|(&node, record)| {
+    [1, 0].iter().zip(call.slices[WORKING].chunks_exact_mut(CANDIDATE)).for_each(|(&node, record)| {
         record[0] = node;
         CODES.iter().for_each(|&(k, most)| record[k] = most);
     });
@@ -1118,7 +1134,7 @@ fn counts() -> Vec<Change> {
 fn candidates() -> Vec<Change> {
     fn filled<'a>(c: &'a mut Call, r: &mut Random) -> &'a mut [u32] {
         let k = r.below(c.filled().min(c.records(WORKING)).max(1) as u32);
-        &mut c.slices[WORKING][13 * k..13 * k + 13]
+        &mut c.slices[WORKING][CANDIDATE * k..][..CANDIDATE]
     }
     vec![
         ("node n", |c, r| filled(c, r)[0] = c.records(STYLES) as u32),
@@ -1134,13 +1150,14 @@ fn candidates() -> Vec<Change> {
             let (k, most) = r.pick(&CODES);
             filled(c, r)[k] = most + 1 + r.word() / 2;
         }),
+        ("a layer above 255", |c, r| filled(c, r)[LAYER] = r.pick(&BAD_LAYERS)),
         ("no items", |c, _| {
             resize(c, STYLES, 0);
             resize(c, LAYOUTS, 0);
         }),
         ("a bad record at the place asked", |c, r| {
             let (k, most) = r.pick(&CODES);
-            let at = 13 * c.place + k;
+            let at = CANDIDATE * c.place + k;
             if let Some(word) = c.slices[WORKING].get_mut(at) {
                 *word = most + 1
             }
@@ -1193,7 +1210,7 @@ fn harmless() -> Vec<Change> {
         }),
         ("records that aren't filled", |c, r| {
             let filled = c.filled();
-            c.slices[WORKING].chunks_exact_mut(13).skip(filled).for_each(|record| record.fill(r.word() | 1 << 20));
+            c.slices[WORKING].chunks_exact_mut(CANDIDATE).skip(filled).for_each(|record| record.fill(r.word() | 1 << 20));
         }),
         ("unclaimed records", |c, r| c.slices[UNCLAIMED].fill(r.word() | 1 << 20)),
         ("a style", |c, r| {
@@ -1202,7 +1219,7 @@ fn harmless() -> Vec<Change> {
         }),
         ("a candidate's order and area", |c, r| {
             let (k, word) = (r.pick(&[1, 3, 4, 8, 9]), r.pick(&STRANGE));
-            c.slices[WORKING].chunks_exact_mut(13).for_each(|record| record[k] = word);
+            c.slices[WORKING].chunks_exact_mut(CANDIDATE).for_each(|record| record[k] = word);
         }),
         ("-0", |c, r| {
             if let Some(word) = c.number(r.below(12)) {
@@ -1220,7 +1237,7 @@ fn harmless() -> Vec<Change> {
         }),
         ("a full list", |c, _| resize(c, WORKING, c.filled())),
         ("1,024 items, of which the last is asked", |c, _| {
-            let (at, node) = (13 * c.place, c.node(c.place).unwrap_or(0));
+            let (at, node) = (CANDIDATE * c.place, c.node(c.place).unwrap_or(0));
             resize(c, STYLES, 1024);
             resize(c, LAYOUTS, 1024);
             c.slices[LAYOUTS].copy_within(23 * node..23 * node + 23, 23 * 1023);
@@ -1228,9 +1245,9 @@ fn harmless() -> Vec<Change> {
         }),
         ("4,096 records", |c, r| resize(c, 2 + r.below(2), 4096)),
         ("4,096 filled ones", |c, r| {
-            let record = c.slices[WORKING][13 * c.place..][..13].to_vec();
+            let record = c.slices[WORKING][CANDIDATE * c.place..][..CANDIDATE].to_vec();
             resize(c, WORKING, 4096);
-            c.slices[WORKING].chunks_exact_mut(13).for_each(|other| other.copy_from_slice(&record));
+            c.slices[WORKING].chunks_exact_mut(CANDIDATE).for_each(|other| other.copy_from_slice(&record));
             c.state[FILLED] = 4096;
             c.place = r.below(4096);
         }),
@@ -1294,7 +1311,7 @@ impl Random {
         call.state.copy_from_slice(&self.noise(pool, 27));
         // nodes in some order, each once if there are enough of them, or any
         let (turn, any) = (self.below(n as u32), self.below(2) == 0);
-        for (k, record) in call.slices[WORKING].chunks_exact_mut(13).take(filled).enumerate() {
+        for (k, record) in call.slices[WORKING].chunks_exact_mut(CANDIDATE).take(filled).enumerate() {
             record[0] = (if any { self.below(n as u32) } else { (n + turn - k % n) % n }) as u32;
             CODES.iter().for_each(|&(k, most)| record[k] %= most + 1);
         }
@@ -1512,6 +1529,15 @@ fn directed(entry: Entry, figures: &mut Figures) -> Result<(), String> {
         let [first, second] = two(direction, [16, 9, 5, -3], [40, 30], [0, 3], [[1, 4, 28, 2], [16, 7, 8, 6]]);
         known(entry, &first, Seen(0, 20), figures)?;
         known(entry, &second, Unseen, figures)?;
+    }
+    // the lowest and the highest layer, and those that are none, of the record that is asked for and of the other one
+    for layer in [0, 255].into_iter().chain(BAD_LAYERS) {
+        for record in 0..2 {
+            let mut call = plain(ROWS[2], ROWS[2], 0, (0, 0)).expect("an accepted run");
+            call.slices[WORKING][CANDIDATE * record + LAYER] = layer;
+            let seen = ROWS[2].5.map_or(Unseen, |at| Seen(at, at));
+            known(entry, &call, if layer > 255 { Refused(4) } else { seen }, figures)?;
+        }
     }
     for k in 0..12 {
         for word in COUNTS.map(|(word, _)| word).into_iter().chain(STRANGE) {

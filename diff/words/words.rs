@@ -40,8 +40,9 @@ mod c {
     }
 }
 
-/// Words of a style, and the most items that an opening takes.
+/// Words of a style and of a candidate, and the most items that an opening takes.
 const WORDS: usize = 57;
+const CANDIDATE: usize = 14;
 const MOST_ITEMS: usize = 1024;
 
 /// An item and a word of its record, both from 0.
@@ -58,7 +59,7 @@ fn proved(table: &mut [u32], found: &mut [u32; 2]) -> u32 {
 fn open(table: &[u32]) -> u32 {
     let mut layouts = vec![7; table.len() / WORDS * 23];
     let (mut state, mut answer) = ([7; 27], [7; 10]);
-    let (mut working, mut unclaimed) = ([0; 13], [0; 13]);
+    let (mut working, mut unclaimed) = ([0; CANDIDATE], [0; CANDIDATE]);
     unsafe {
         c::oof_open(
             800.0,
@@ -71,14 +72,14 @@ fn open(table: &[u32]) -> u32 {
             0,
             table.as_ptr(),
             table.len(),
-            [0; 13].as_ptr(),
+            [0; CANDIDATE].as_ptr(),
             0,
             layouts.as_mut_ptr(),
             layouts.len(),
             working.as_mut_ptr(),
-            13,
+            CANDIDATE,
             unclaimed.as_mut_ptr(),
-            13,
+            CANDIDATE,
             state.as_mut_ptr(),
             answer.as_mut_ptr(),
         )

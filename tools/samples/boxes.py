@@ -11,9 +11,10 @@ contribution, joined with zeros. Run at the root of the repository, then `rt fmt
 
 A box of the first sample is 127 words of 32 bits, little end first:
 
-    0 style (57)   57 area (8)   65 candidate (13)   78 replies: keyword (2), step 6 (2), overflow (4)
-    86 stages, in digits of base 8, the last one highest: keyword both 1, width 2, height 3, step 6 4, lay out 5
-    87 finish (4)   91 unused   92 layout (23)   115 questions: known or final width and height, space across and down (3 times 4)
+    0 style (57)   57 area (8)   65 finish (4)
+    69 stages, in digits of base 8, the last one highest: keyword both 1, width 2, height 3, step 6 4, lay out 5
+    70 candidate (14)   84 replies: keyword (2), step 6 (2), overflow (4)   92 layout (23)
+    115 questions: known or final width and height, space across and down (3 times 4)
 
 Of zeros the sign is dropped, every NaN is 7FC00000. A size that isn't known is FFFFFFFF, min-content FFFFFFFE, max-content FFFFFFFD."""
 import struct, subprocess, sys
@@ -62,7 +63,7 @@ def record(box):
         elif i == 0 and keyword_is_asked(style, asks): path.append({'both': 1, 'width': 2, 'height': 3}[kind]); keyword = (reply + [0])[:2]
         else: assert kind == 'both'; path.append(4); fill = reply
     code = sum(d * 8 ** i for i, d in enumerate(path))
-    w = style + area + cand + keyword + fill + overflow + [code] + [plain(x) for x in finish] + [0] + [plain(x) for x in layout] \
+    w = style + area + [plain(x) for x in finish] + [code] + cand + keyword + fill + overflow + [plain(x) for x in layout] \
         + [plain(x) for x in (questions + [0] * 12)[:12]]
     assert len(w) == 127
     return w

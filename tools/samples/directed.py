@@ -5,6 +5,8 @@ numbers that round."""
 import random, struct, sys
 
 r = random.Random(int(sys.argv[1]))
+# of the layers, so that no other word depends on them
+layers = random.Random('layers ' + sys.argv[1])
 AUTO = [3, 0]
 
 def bits(x): return struct.unpack('<I', struct.pack('<f', x))[0]
@@ -60,6 +62,6 @@ for i in range(int(sys.argv[2])):
     print('case directed-%s-%d' % (sys.argv[1], i))
     print('area', *area)
     print('style', *style)
-    print('cand', 0, r.randint(0, 9), r.choice([2, 3]), *static(scene), *static(scene))
+    print('cand', 0, r.randint(0, 9), r.choice([2, 3]), *static(scene), *static(scene), layers.choice([0, 1, 7, 255]))
     print('host', r.randint(1, 10**6), 'typical' if r.random() < .7 else 'quarter', 0)
     print('end')

@@ -6,7 +6,8 @@ forged, or by several of these.
     tools/samples/replays.py ORACLE [RUNS]
 
 ORACLE is a program that runs the published Rust on word records (`gen`, `fix`, `run`); RUNS (70 unless said) is the number of runs of each
-of its three profiles. What the runs must answer and write is the Rust's; what a damaged call must answer is worked out here from document
+of its three profiles. What the runs must answer and write is the Rust's, but for the layers, which it hasn't: those of the lists are the
+layers of the candidates and surfaced records that went there, in turn. What a damaged call must answer is worked out here from document
 01's table of refusals. A damaged call changes nothing, so that the run goes on after it as if it had not been made. Now and then the count
 of answered questions is forged within its bound: that call is accepted, and the finish has the forged count.
 """
@@ -14,11 +15,14 @@ import pathlib
 import subprocess
 import sys
 
-STYLE, CANDIDATE, LAYOUT = 57, 13, 23
+STYLE, CANDIDATE, LAYOUT = 57, 14, 23
+LAYER, MOST_LAYER = 13, 255
 HERE = pathlib.Path(__file__).resolve().parents[2] / "hosts" / "c"
 NOWHERE = 0xFFFFFFFF
 KINDS = {"both": 0, "width": 1, "height": 2, "layout": 3}
 LENGTHS = [{1, 3, 5}] * 8 + [{1, 5}] * 8 + [{1, 3, 5, 11, 15, 27, 35, 43, 59, 75}] * 6
+# layers that are none: the first one, one whose low byte is 1, 2 ^ 31, a NaN, the highest word
+BAD_LAYERS = [256, 257, 0x80000000, 0x7FC00001, 0xFFFFFFFF]
 CODES = {44: 1, 46: 1, 47: 3, 48: 1, 49: 10, 51: 10, 53: 3, 54: 3, 56: 255}
 
 
@@ -50,13 +54,19 @@ def style_bad(styles):
 
 
 def candidate_bad(records, n):
-    return any(records[at] >= n or records[at + 2] > 4 or any(records[at + k] > 2 for k in (5, 6, 7, 10, 11, 12))
-               for at in range(0, len(records), CANDIDATE))
+    return any(r[0] >= n or r[2] > 4 or any(r[k] > 2 for k in (5, 6, 7, 10, 11, 12)) or r[LAYER] > MOST_LAYER for r in parted(records))
+
+
+def parted(records):
+    return [records[at:at + CANDIDATE] for at in range(0, len(records), CANDIDATE)]
+
+
+def is_claimed(record, claims):
+    return (record[2] == 2 and claims & 1 != 0) or (record[2] == 3 and claims & 2 != 0)
 
 
 def claimed(records, claims):
-    return sum((records[at + 2] == 2 and claims & 1 != 0) or (records[at + 2] == 3 and claims & 2 != 0)
-               for at in range(0, len(records), CANDIDATE))
+    return sum(is_claimed(r, claims) for r in parted(records))
 
 
 def full(records, claims, filled, places):
@@ -192,12 +202,24 @@ class Script:
             self.output.append(" ".join([name, *map(shown, list_)]))
 
 
+def layered(area, candidates, answer):
+    """Both lists as the run leaves them: the Rust's words, and behind each record the layer of what went there."""
+    given = candidates + [w for f in answer if f[0] == "reply" for w in words(f[1:])[4:]]
+    lists = {}
+    for name, inside in (("working", True), ("unclaimed", False)):
+        layers = [r[LAYER] for r in parted(given) if is_claimed(r, area[5]) == inside]
+        records = [words(f[1:]) for f in answer if f[0] == name]
+        assert len(records) == len(layers)
+        lists[name] = [w for r, layer in zip(records, layers) for w in (*r, layer)]
+    return lists
+
+
 def replay(script, draw, case, answer):
     """One run of the Rust, with damaged calls in between."""
     area = next(words(f[1:]) for f in case if f[0] == "area")
     styles = [w for f in case if f[0] == "style" for w in words(f[1:])]
     candidates = [w for f in case if f[0] == "cand" for w in words(f[1:])]
-    final = {k: [w for f in answer if f[0] == k for w in words(f[1:])] for k in ("working", "unclaimed")}
+    final = layered(area, candidates, answer)
     n = len(styles) // STYLE
     run = {"s": len(styles), "l": LAYOUT * n, "w": len(final["working"]) + CANDIDATE * draw.below(2), "u": len(final["unclaimed"]) + CANDIDATE * draw.below(2)}
     script.open(area, styles, candidates, run)
@@ -220,15 +242,16 @@ def replay(script, draw, case, answer):
             style, mend = (at, 257), ((at, styles[at]), (NOWHERE, 0))
             damaged = styles[:at] + [257] + styles[at + 1:]
         elif which == 2 and not mending:
-            at = CANDIDATE * draw.below(counts[0]) + draw.pick([0, 2, 5, 12])
-            listed, mend = (at, 5), ((NOWHERE, 0), (at, working[at]))
-            working = working[:at] + [5] + working[at + 1:]
+            word = draw.pick([0, 2, 5, 12, LAYER])
+            at, bad = CANDIDATE * draw.below(counts[0]) + word, draw.pick(BAD_LAYERS) if word == LAYER else 5
+            listed, mend = (at, bad), ((NOWHERE, 0), (at, working[at]))
+            working = working[:at] + [bad] + working[at + 1:]
         elif which == 3:
-            kind, surfaced = 3, [0] * draw.pick([12, 14])
+            kind, surfaced = 3, [0] * draw.pick([13, 15])
         elif which == 4:
-            kind, surfaced = 3, [draw.below(n + 1), 0, draw.below(6)] + [0] * 10
+            kind, surfaced = 3, [draw.below(n + 1), 0, draw.below(6)] + [0] * 10 + [draw.pick([0, MOST_LAYER, *BAD_LAYERS])]
         elif which == 5:
-            kind, surfaced = 3, ([0, 0, 2] + [0] * 10 + [0, 0, 3] + [0] * 10) * 2
+            kind, surfaced = 3, ([0, 0, 2] + [0] * 10 + [1] + [0, 0, 3] + [0] * 10 + [MOST_LAYER]) * 2
         if which > 5 or draw.below(3) == 0:
             forge = forgery(draw, state, run)
         lent = forged(state, *forge)
@@ -293,8 +316,9 @@ def refuse_opening(script, draw, case):
             candidates = candidates[:-1]
         elif which == 3:
             styles[STYLE * draw.below(n) + draw.pick([0, 2, 18, 40, 44, 53])] = 12
-        elif which == 4 and candidates:
-            candidates[draw.pick([0, 2, 6, 11])] = 5
+        elif which == 4 and len(candidates) >= CANDIDATE:
+            word = draw.pick([0, 2, 6, 11, LAYER])
+            candidates[word] = draw.pick(BAD_LAYERS) if word == LAYER else 5
         elif which == 5 and run["w"] > 0:
             run["w"] -= CANDIDATE
         elif run["u"] > 0:

@@ -7,11 +7,13 @@ ORACLE is a program that runs taffy 0.15.1 on document 01's word records: `ORACL
 (quarter: quarter pixels; wild: any float bits; typical: plausible CSS) whose host surfaces SURFACED candidates at most, `ORACLE run`
 lays them out. Of each profile the first WANTED runs are taken that have two items or more, two candidates or more, from 3 to MOST
 questions, a surfaced candidate that is claimed and a candidate that isn't, and that differ in the kinds of their questions. Each list is
-lent one record more than the run fills, and each slice is full of UNUSED words."""
+lent one record more than the run fills, and each slice is full of UNUSED words. The Rust has no layers: those of the lists are the
+layers of the candidates and surfaced records that went there, in turn."""
 import re, subprocess, sys
 
 oracle = sys.argv[1]
 SEED, SURFACED, MOST, WANTED, UNUSED = 11, 2, 8, 4, 7
+CANDIDATE, LAYER = 14, 13
 # what is no number stands above all words, as in specs/Script.antt
 NAMED = dict(none=1 << 32, min=1 << 32, max=(1 << 32) + 1)
 KINDS = dict(both=0, width=1, height=2, layout=3)
@@ -28,6 +30,21 @@ def reply(kind, ws):
     if kind == 'layout': return 'laid %d %d %d %d ' % tuple(ws[:4]) + chain(ws[4:])
     return '%s %s' % (kind, ' '.join(map(str, ws)))
 
+def claimed(area, cand): return bool(cand[2] in (2, 3) and area[5] >> (cand[2] - 2) & 1)
+
+def candidates(case, out):
+    """All that a run is given, in turn: the opening's candidates, then the surfaced ones."""
+    surfaced = flat(words(r)[4:] for q, r in zip(of(out, 'ask'), of(out, 'reply')) if q.split()[1] == 'layout')
+    return [words(l) for l in of(case, 'cand')] + [surfaced[i:i + CANDIDATE] for i in range(0, len(surfaced), CANDIDATE)]
+
+def layered(case, out, name, inside):
+    """The words of a list: the Rust's, and behind each record its layer."""
+    area = words(of(case, 'area')[0])
+    layers = [c[LAYER] for c in candidates(case, out) if claimed(area, c) == inside]
+    records = [words(l) for l in of(out, name)]
+    assert len(records) == len(layers)
+    return flat(r + [layer] for r, layer in zip(records, layers))
+
 def record(case, out):
     items, asked, finish = len(of(case, 'style')), of(out, 'ask'), words(of(out, 'finish')[0])
     layouts = {words(l)[0]: words(l)[1:] for l in of(out, 'layout')}
@@ -39,11 +56,10 @@ def record(case, out):
         replies=chain(reply(q.split()[1], words(r)) for q, r in zip(asked, of(out, 'reply'))),
         answers=chain(map(chain, answers)),
         layouts=chain(flat(layouts.get(i, 23 * [UNUSED]) for i in range(items))),
-        working=chain(flat(map(words, of(out, 'working'))) + 13 * [UNUSED]),
-        unclaimed=chain(flat(map(words, of(out, 'unclaimed'))) + 13 * [UNUSED]))
+        working=chain(layered(case, out, 'working', True) + CANDIDATE * [UNUSED]),
+        unclaimed=chain(layered(case, out, 'unclaimed', False) + CANDIDATE * [UNUSED]))
     return 'record { %s }' % '; '.join('%s = %s' % f for f in fields.items())
 
-def claimed(area, cand): return cand[2] in (2, 3) and area[5] >> (cand[2] - 2) & 1
 def surfaces(case, out):
     """Some surfaced candidate is claimed, and some candidate isn't."""
     area = words(of(case, 'area')[0])

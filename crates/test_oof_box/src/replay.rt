@@ -176,19 +176,19 @@ fn size_at(w: &[u32; 127], at: usize) -> Size
 
 fn overflow_of(w: &[u32; 127]) -> Rect {
     Rect {
-        left: bits::from_word(w[82]),
-        right: bits::from_word(w[83]),
-        top: bits::from_word(w[84]),
-        bottom: bits::from_word(w[85]),
+        left: bits::from_word(w[88]),
+        right: bits::from_word(w[89]),
+        top: bits::from_word(w[90]),
+        bottom: bits::from_word(w[91]),
     }
 }
 
 fn reply_to(stage: Stage, w: &[u32; 127]) -> Reply {
     match stage {
-        Stage::KeywordBoth => Reply::Both(size_at(w, 78)),
-        Stage::KeywordWidth => Reply::Width(bits::from_word(w[78])),
-        Stage::KeywordHeight => Reply::Height(bits::from_word(w[78])),
-        Stage::Fill => Reply::Both(size_at(w, 80)),
+        Stage::KeywordBoth => Reply::Both(size_at(w, 84)),
+        Stage::KeywordWidth => Reply::Width(bits::from_word(w[84])),
+        Stage::KeywordHeight => Reply::Height(bits::from_word(w[84])),
+        Stage::Fill => Reply::Both(size_at(w, 86)),
         Stage::LayOut => Reply::LaidOut(overflow_of(w)),
     }
 }
@@ -196,16 +196,16 @@ fn reply_to(stage: Stage, w: &[u32; 127]) -> Reply {
 // ---- what is found
 
 fn is_finish(finish: Rect, w: &[u32; 127]) -> bool {
-    if !same(bits::to_word(finish.left), w[87]) {
+    if !same(bits::to_word(finish.left), w[65]) {
         return false;
     }
-    if !same(bits::to_word(finish.right), w[88]) {
+    if !same(bits::to_word(finish.right), w[66]) {
         return false;
     }
-    if !same(bits::to_word(finish.top), w[89]) {
+    if !same(bits::to_word(finish.top), w[67]) {
         return false;
     }
-    same(bits::to_word(finish.bottom), w[90])
+    same(bits::to_word(finish.bottom), w[68])
 }
 
 fn is_layout(laid: Layout, w: &[u32; 127]) -> bool {
@@ -233,7 +233,7 @@ pub(crate) fn agrees(w: &[u32; 127]) -> bool {
     let candidate = candidate::candidate_at(w, 5);
     let container = container_of(w);
     let mut replies = Replies::NONE;
-    let mut path = w[86];
+    let mut path = w[69];
     let mut i: usize = 0;
     while i < 3 {
         let asked = dialogue::next_question(container, style, candidate, replies);

@@ -82,7 +82,7 @@ abbrev pub atStart : AxisStaticPosition
 atStart = record { area = 0f to 0f; align = record { keyword = Start; safety = Default; fallback = Start } }
 
 unfoldable pub candidate : OofCandidate
-candidate = record { node = 0; order = 0; position = Absolute; place = record { x = atStart; y = atStart } }
+candidate = record { node = 0; order = 0; position = Absolute; place = record { x = atStart; y = atStart }; layer = 7 }
 
 -- what the host replies: a measured size of 0, and the right and bottom edge of the box's own overflow
 abbrev pub replied : ℕ → ℕ → (q : Question) → ReplyTo q

@@ -8,7 +8,7 @@ use lib.IntN.{pos}
 use lib.ListN.{getD, replicate, set}
 use Rattle.records.specs.Records.{recordAt, written}
 use Rattle.style_record.specs.Record.{styleWords, items}
-use Rattle.tree_record.specs.Candidate.{candidateWidth}
+use Rattle.tree_record.specs.Candidate.{candidateWidth, layerWord}
 use Rattle.tree_record.specs.Layout.{layoutWidth}
 use Rattle.oof_box.specs.declared.question.Stage.the-variants.{LayOut}
 use Rattle.run.specs.declared.Progress.the-variants.{Asking}
@@ -51,9 +51,12 @@ box = sized 1 (px 30) 1 (px 20)
 unfoldable pub broken : List ℕ
 broken = set item 0 257
 
--- node, order, position; static areas from 0 to 0, start edges
+-- node, order, position; static areas from 0 to 0, start edges; layer 1
 unfoldable pub candidate : ℕ → ℕ → ℕ → List ℕ
-candidate node order position = node ∷ order ∷ position ∷ replicate 10 0
+candidate node order position = node ∷ order ∷ position ∷ (replicate 10 0 ++ (1 ∷ []))
+
+unfoldable pub onLayer : ℕ → List ℕ → List ℕ
+onLayer layer c = set c layerWord layer
 
 unfoldable pub absolute : List ℕ
 absolute = candidate 0 0 2
@@ -320,12 +323,12 @@ candidates =
     ∷ refuses 4 (next box openedTwo (surfacing badFixed))
     -- an edge in the record of a box laid out before; of the box at hand; of a record that isn't filled
     ∷ refuses 4 (rewriting 5 3)
-    ∷ refuses 4 (rewriting 18 3)
-    ∷ finishes (boxEnd 2) (rewriting 31 3)
+    ∷ refuses 4 (rewriting (candidateWidth + 5) 3)
+    ∷ finishes (boxEnd 2) (rewriting (candidateWidth * 2 + 5) 3)
     ∷ finishes (boxEnd 2) rewritingUnclaimed
     -- a position that isn't claimed
-    ∷ finishes (boxEnd 2) (rewriting 15 0)
-    ∷ laidAt 0 (1 ∷ px 30 ∷ px 20 ∷ []) (rewriting 15 0)
+    ∷ finishes (boxEnd 2) (rewriting (candidateWidth + 2) 0)
+    ∷ laidAt 0 (1 ∷ px 30 ∷ px 20 ∷ []) (rewriting (candidateWidth + 2) 0)
     ∷ []
 
 -- ---- 9: [5]
@@ -475,6 +478,72 @@ overflows =
     ∷ finishes (minus 39 ∷ px 1 ∷ 0 ∷ px 20 ∷ 1 ∷ []) (outside 39)
     ∷ []
 
+-- ---- request #104: layers
+
+-- a candidate as it was before it had a layer
+unfoldable pub thirteen : List ℕ
+thirteen = 0 ∷ 0 ∷ 2 ∷ replicate 10 0
+
+-- 7FC00001 hex: a NaN, if it were a float
+abbrev pub payload : ℕ
+payload = 2143289345
+
+-- the layer of the unclaimed record rewritten
+unfoldable pub rewritingUnclaimedLayer : ℕ → Outcome
+rewritingUnclaimedLayer layer =
+    reply (afterOne .step .state)
+    (record {
+      styles = box;
+      layouts = afterOne .layouts;
+      working = afterOne .working;
+      unclaimed = set (afterOne .unclaimed) layerWord layer;
+    })
+    (surfacing [])
+
+-- a box at 10, 5, on layer 3; it surfaces one that is claimed, on layer 255, and one that isn't, on layer 4
+unfoldable pub aside : List ℕ
+aside = written box 0 (1 ∷ px 10 ∷ 3 ∷ 0 ∷ 1 ∷ px 5 ∷ 3 ∷ 0 ∷ [])
+
+unfoldable pub surfacingTwo : Outcome
+surfacingTwo =
+    next aside (opening (onLayer 3 absolute) (over aside 2 1)) (surfacing (onLayer 255 absolute ++ onLayer 4 fixed))
+
+-- a candidate whose areas were at 0, shifted by that box's location
+unfoldable pub shifted : List ℕ → List ℕ
+shifted c = written (written c 3 (px 10 ∷ px 10 ∷ [])) 8 (px 5 ∷ px 5 ∷ [])
+
+unfoldable pub layers : List Bool
+layers =
+    -- records of 13 words; lists of 4,096 records
+    refuses 2 (opening thirteen (over box 1 1))
+    ∷ refuses 2 (next box openedBox (surfacing thirteen))
+    ∷ same (candidateWidth * 4096 ∷ []) (57344 ∷ [])
+    -- the highest layer, and the first that is none: claimed, unclaimed; and a word that would be another NaN as a float
+    ∷ laysOut boxAsked (opening (onLayer 255 absolute) (over box 1 1))
+    ∷ refuses 4 (opening (onLayer 256 absolute) (over box 1 1))
+    ∷ refuses 4 (opening (onLayer 256 fixed) (over box 1 1))
+    ∷ refuses 4 (opening (onLayer payload absolute) (over box 1 1))
+    ∷ refuses 4 (opening (absolute ++ onLayer 4294967295 fixed) (over box 1 1))
+    -- surfaced by a lay-out reply: claimed, unclaimed; lent with a measure
+    ∷ laysOut boxAsked (next box openedInTwo (surfacing (onLayer 255 absolute)))
+    ∷ refuses 4 (next box openedInTwo (surfacing (onLayer 256 absolute)))
+    ∷ refuses 4 (next box openedInTwo (surfacing (onLayer 256 fixed)))
+    ∷ laysOut boxAsked (next item measuring (lending (onLayer 256 absolute) (both (px 30) (px 20))))
+    -- in the record of a box laid out before; of the box at hand; of a record that isn't filled; of an unclaimed one
+    ∷ finishes (boxEnd 2) (rewriting layerWord 255)
+    ∷ refuses 4 (rewriting layerWord 256)
+    ∷ refuses 4 (rewriting layerWord payload)
+    ∷ refuses 4 (rewriting (candidateWidth + layerWord) 256)
+    ∷ finishes (boxEnd 2) (rewriting (candidateWidth * 2 + layerWord) 256)
+    ∷ finishes (boxEnd 2) (rewritingUnclaimedLayer 256)
+    ∷ same (rewritingUnclaimedLayer payload .unclaimed) (onLayer payload fixed)
+    -- the lists of an opening, and of a reply whose surfaced records are shifted
+    ∷ same (opening (onLayer 255 absolute ++ onLayer 0 fixed) (over box 1 1) .working) (onLayer 255 absolute)
+    ∷ same (opening (onLayer 255 absolute ++ onLayer 0 fixed) (over box 1 1) .unclaimed) (onLayer 0 fixed)
+    ∷ same (surfacingTwo .working) (onLayer 3 absolute ++ shifted (onLayer 255 absolute))
+    ∷ same (surfacingTwo .unclaimed) (shifted (onLayer 4 fixed))
+    ∷ []
+
 -- ---- the order of the tests
 
 unfoldable pub inOrder : List Bool
@@ -499,4 +568,5 @@ unfoldable pub readings : List Bool
 readings =
     surfacedByKind ++ lengthsKept ++ limits ++ withoutBoxes ++ styles ++ candidates ++ full ++ forged ++ kept ++ measures ++ layouts
     ++ overflows
+    ++ layers
     ++ inOrder

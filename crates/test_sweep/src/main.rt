@@ -1,5 +1,5 @@
 // Runs alignment, sweeps, checks and layout records on small lists. What it must write was worked out apart from this code:
-// the static positions by the Rust, the lists by hand from document 01.
+// the static positions by the Rust, the lists by hand from document 01, their layers from request #104.
 ghost use mathlib.Core.Path.{_≡_};
 ghost use lib.ListN.{length};
 use geometry::Line;
@@ -27,7 +27,7 @@ fn print_word(word: u32) {
     io::print_hex(STDOUT_FILENO, wide(word), 8);
 }
 
-// Words in hex, 13 to a line.
+// Words in hex, 14 to a line.
 fn print_words(words: &[u32]) {
     let mut i: usize = 0;
     while i < words.len() {
@@ -40,7 +40,7 @@ fn print_words(words: &[u32]) {
 
 // What stands after the first i words.
 fn print_after(i: usize) {
-    if i % 13 == 0 {
+    if i % 14 == 0 {
         io::write_all(STDOUT_FILENO, b"\n");
         return;
     }
@@ -110,8 +110,8 @@ fn print_good(good: bool) {
     io::write_all(STDOUT_FILENO, b"bad\n");
 }
 
-// An absolute box with -0 and a NaN that has a payload, a static one with another NaN, and a fixed one.
-const ABSOLUTE: [u32; 13] = [
+// An absolute box with -0 and a NaN that has a payload, a static one with another NaN, and a fixed one. Layers 255, 7 and 1.
+const ABSOLUTE: [u32; 14] = [
     7,
     1,
     2,
@@ -125,9 +125,10 @@ const ABSOLUTE: [u32; 13] = [
     1,
     2,
     0,
+    255,
 ];
 
-const STATIC: [u32; 13] = [
+const STATIC: [u32; 14] = [
     8,
     2,
     0,
@@ -141,9 +142,10 @@ const STATIC: [u32; 13] = [
     0,
     0,
     0,
+    7,
 ];
 
-const FIXED: [u32; 13] = [
+const FIXED: [u32; 14] = [
     9,
     3,
     3,
@@ -157,16 +159,17 @@ const FIXED: [u32; 13] = [
     2,
     2,
     0,
+    1,
 ];
 
 // The three, and a word too many.
-fn candidates() -> [u32; 40]
-    ensures { λ r. ⌜ 40 ≡ length r ⌝ }
+fn candidates() -> [u32; 43]
+    ensures { λ r. ⌜ 43 ≡ length r ⌝ }
 {
-    let mut list = [0xABAB_ABAB; 40];
+    let mut list = [0xABAB_ABAB; 43];
     records::write(&mut list, 0, &ABSOLUTE);
-    records::write(&mut list, 13, &STATIC);
-    records::write(&mut list, 26, &FIXED);
+    records::write(&mut list, 14, &STATIC);
+    records::write(&mut list, 28, &FIXED);
     list
 }
 
@@ -235,6 +238,15 @@ fn print_checks(list: &[u32]) {
     print_good(candidate::are_good(list, 4, 10));
 }
 
+// The same with another layer of the static box, which no area claims: the highest one, and the first that is none.
+fn print_layers() {
+    let mut list = candidates();
+    list[27] = 255;
+    print_good(candidate::are_good(&list, 3, 10));
+    list[27] = 256;
+    print_good(candidate::are_good(&list, 3, 10));
+}
+
 // The first 23 words as a layout, written in the middle of three.
 fn print_layout(list: &[u32]) {
     if list.len() < 23 {
@@ -251,10 +263,11 @@ fn main() {
     align(AlignItemsKeyword::End, AlignmentSafety::Safe);
     align(AlignItemsKeyword::SelfEnd, AlignmentSafety::Safe);
     let list = candidates();
-    let mut working = [0x1111_1111; 66];
-    let mut unclaimed = [0x2222_2222; 53];
+    let mut working = [0x1111_1111; 71];
+    let mut unclaimed = [0x2222_2222; 57];
     print_accepted(&list, &mut working, &mut unclaimed);
     print_refused(&list, &mut working, &mut unclaimed);
     print_checks(&list);
+    print_layers();
     print_layout(&list);
 }

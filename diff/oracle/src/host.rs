@@ -1,5 +1,5 @@
 //! Hosts: a list of replies, and a pseudo-random one that another program can reproduce (README).
-use crate::case::CANDIDATE;
+use crate::case::{CANDIDATE, LAYER, MOST_LAYER};
 use crate::run::{Host, Kind, Question};
 
 /// Gives the listed replies in turn
@@ -56,9 +56,19 @@ pub const SPECIAL: [u32; 16] = [
     0x7F80_0001,
 ];
 
+/// Layers that tell most: both ends, and small ones
+pub const LAYERS: [u32; 4] = [0, 1, 7, MOST_LAYER];
+
 /// state := (1664525 × state + 1013904223) mod 2^32, then the number is floor(state / 65536) mod n
+fn draw(state: &mut u32, n: u32) -> u32 {
+    *state = state.wrapping_mul(1_664_525).wrapping_add(1_013_904_223);
+    (*state >> 16) % n
+}
+
 pub struct Random {
     pub state: u32,
+    /// Of the layers, so that no other word depends on them
+    layers: u32,
     pub profile: Profile,
     /// Items of the case
     pub n: u32,
@@ -67,11 +77,17 @@ pub struct Random {
 }
 impl Random {
     pub fn new(seed: u32, profile: Profile, n: usize, budget: u32) -> Self {
-        Self { state: seed, profile, n: n as u32, budget }
+        Self { state: seed, layers: !seed, profile, n: n as u32, budget }
     }
     pub fn draw(&mut self, n: u32) -> u32 {
-        self.state = self.state.wrapping_mul(1_664_525).wrapping_add(1_013_904_223);
-        (self.state >> 16) % n
+        draw(&mut self.state, n)
+    }
+    fn layer(&mut self) -> u32 {
+        let state = &mut self.layers;
+        match draw(state, 2) {
+            0 => LAYERS[draw(state, 4) as usize],
+            _ => draw(state, MOST_LAYER + 1),
+        }
     }
     fn wild(&mut self) -> u32 {
         match self.draw(4) {
@@ -112,6 +128,7 @@ impl Random {
                 w[at + i] = self.draw(3);
             }
         }
+        w[LAYER] = self.layer();
         w
     }
 }

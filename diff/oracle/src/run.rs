@@ -1,5 +1,5 @@
 //! One run of `compute_oof_layout_for_area` over a scripted tree, written down as a dialogue.
-use crate::case::{self, bits, float, Area, Case, Refused, CANDIDATE, LAYOUT};
+use crate::case::{self, bits, float, Area, Case, Refused, CANDIDATE, LAYOUT, UNLAYERED};
 use crate::compute::common::scrollable_overflow::compute_scrollable_overflow_contribution;
 use crate::compute::oof::compute_oof_layout_for_area;
 use crate::{
@@ -30,7 +30,7 @@ pub struct Question {
     pub space: [Space; 2],
 }
 /// Answers questions. A reply is 2 words to `Both` (width, height), 1 word to `Width` or `Height`,
-/// and to `LayOut` 4 words (overflow left, right, top, bottom) and then 13 for each surfaced candidate.
+/// and to `LayOut` 4 words (overflow left, right, top, bottom) and then 14 for each surfaced candidate.
 pub trait Host {
     fn answer(&mut self, question: &Question) -> Vec<u32>;
 }
@@ -56,10 +56,10 @@ pub struct Transcript {
     /// By node; the last layout written
     pub layouts: Vec<Option<[u32; LAYOUT]>>,
     pub hoisted: Vec<u32>,
-    /// The records behind `hoisted`, surfaced ones shifted. The Rust keeps this list to itself; it
-    /// is rebuilt here with taffy's `for_position` and `translate`.
-    pub working: Vec<[u32; CANDIDATE]>,
-    pub unclaimed: Vec<[u32; CANDIDATE]>,
+    /// The records behind `hoisted`, surfaced ones shifted, without their layers. The Rust keeps this list to
+    /// itself; it is rebuilt here with taffy's `for_position` and `translate`.
+    pub working: Vec<[u32; UNLAYERED]>,
+    pub unclaimed: Vec<[u32; UNLAYERED]>,
     /// left, right, top, bottom
     pub overflow: [u32; 4],
 }

@@ -5,7 +5,7 @@ use crate::rng::Rng;
 use crate::side::{question, Difference};
 use crate::words::{Library, Said, Words};
 use oof::ffi::state;
-use oracle::case::{float, CANDIDATE, LAYOUT, NAN, STYLE};
+use oracle::case::{float, CANDIDATE, LAYER, LAYOUT, NAN, STYLE};
 use oracle::gen;
 use oracle::host::{Profile, Random};
 use oracle::run::{Host, Kind};
@@ -13,19 +13,21 @@ use oracle::run::{Host, Kind};
 /// Where a call is damaged
 #[derive(Copy, Clone, PartialEq, Debug)]
 pub enum Family {
-    /// Of an opening: codes of the area; lengths of slices; words of styles and candidates; room; several of these
+    /// Of an opening: codes of the area; lengths of slices; words of styles and candidates; layers; room; several of these
     OpenCodes,
     OpenLengths,
     OpenStyles,
     OpenCandidates,
+    OpenLayers,
     OpenRoom,
     OpenSeveral,
-    /// Of a reply: its kind; lengths; rewritten styles; rewritten working list; surfaced records; several of these
+    /// Of a reply: its kind; lengths; rewritten styles; rewritten working list; surfaced records; layers; several of these
     ReplyKind,
     ReplyLengths,
     ReplyStyles,
     ReplyWorking,
     ReplySurfaced,
+    ReplyLayers,
     ReplySeveral,
     /// Of a state: any words; counts; finished ones; one word
     StateRandom,
@@ -35,11 +37,12 @@ pub enum Family {
 }
 use Family::*;
 
-pub const FAMILIES: [(Family, &str); 16] = [
+pub const FAMILIES: [(Family, &str); 18] = [
     (OpenCodes, "opening: codes of the area"),
     (OpenLengths, "opening: lengths of slices"),
     (OpenStyles, "opening: words of styles"),
     (OpenCandidates, "opening: words of candidates"),
+    (OpenLayers, "opening: layers"),
     (OpenRoom, "opening: lists just too small"),
     (OpenSeveral, "opening: several faults"),
     (ReplyKind, "reply: of another kind"),
@@ -47,6 +50,7 @@ pub const FAMILIES: [(Family, &str); 16] = [
     (ReplyStyles, "reply: styles rewritten"),
     (ReplyWorking, "reply: working list rewritten"),
     (ReplySurfaced, "reply: surfaced records"),
+    (ReplyLayers, "reply: layers"),
     (ReplySeveral, "reply: several faults"),
     (StateRandom, "state: any words"),
     (StateCounts, "state: counts"),
@@ -77,7 +81,7 @@ pub fn one(
     noticed: &mut bool,
 ) -> Result<(), Difference> {
     let (mut words, mut host) = lend(rng);
-    if matches!(family, OpenCodes | OpenLengths | OpenStyles | OpenCandidates | OpenRoom | OpenSeveral) {
+    if matches!(family, OpenCodes | OpenLengths | OpenStyles | OpenCandidates | OpenLayers | OpenRoom | OpenSeveral) {
         // over noise, or over the state of an open run
         if rng.one_in(2) && Library::default().open(&mut words) != 0 {
             return Err("a good opening is refused".to_string());
@@ -121,8 +125,8 @@ fn opening(w: &mut Words, library: &mut Library, seen: &mut Answered, noticed: &
     seen[expected as usize] += 1;
     before.state = model::closed(w); // of a refused one; whatever an accepted one writes there is not compared
     let result = library.open(w);
-    let filled = [0, 0];
-    let outcome = check("opening", expected, result, &before, w, filled, None);
+    let may = May { node: None, filled: [0, 0], layers: model::layers(&before.candidates, before.area[5]) };
+    let outcome = check("opening", expected, result, &before, w, &may);
     tell(expected, outcome, noticed)
 }
 
@@ -139,12 +143,15 @@ fn reply(
         let begun = w.state[state::BEGUN] as usize;
         w.working[CANDIDATE * (begun - 1)] as usize
     });
-    let filled = match node {
-        Some(_) => [state::FILLED_WORKING, state::FILLED_UNCLAIMED].map(|at| w.state[at] as usize),
-        None => [usize::MAX / CANDIDATE; 2],
+    // only an accepted lay out writes records
+    let surfaced: &[u32] = if node.is_some() { &said.surfaced } else { &[] };
+    let may = May {
+        node,
+        filled: [state::FILLED_WORKING, state::FILLED_UNCLAIMED].map(|at| w.state[at] as usize),
+        layers: model::layers(surfaced, w.state[state::CODES + 1]),
     };
     let result = library.reply(said, w);
-    let outcome = check(&format!("{said:?}"), expected, result, &before, w, filled, node);
+    let outcome = check(&format!("{said:?}"), expected, result, &before, w, &may);
     tell(expected, outcome, noticed)
 }
 
@@ -156,16 +163,22 @@ fn tell(expected: u32, outcome: Result<(), Difference>, noticed: &mut bool) -> R
     outcome
 }
 
-/// A refused call leaves every word, of an opening but for its state, which `before` has; an accepted one writes the layout of
-/// the box at hand, the lists behind their filled records, state and answer
+/// What an accepted call may write: the layout of the box at hand, and behind the filled records of each list so many as it has
+/// layers for; beside these, state and answer
+struct May {
+    node: Option<usize>,
+    filled: [usize; 2],
+    layers: [Vec<u32>; 2],
+}
+
+/// A refused call leaves every word, of an opening but for its state, which `before` has
 fn check(
     call: &str,
     expected: u32,
     result: u32,
     before: &Words,
     after: &Words,
-    filled: [usize; 2],
-    node: Option<usize>,
+    may: &May,
 ) -> Result<(), Difference> {
     if result != expected {
         return Err(format!("{call}: result {result}, by the model {expected}"));
@@ -173,21 +186,36 @@ fn check(
     if expected != 0 {
         return if before == after { Ok(()) } else { Err(format!("{call}: refused {result}, and a word was written")) };
     }
-    let kept = |name: &str, before: &[u32], after: &[u32], may: &dyn Fn(usize) -> bool| match (0..before.len())
-        .find(|&at| before[at] != after[at] && !may(at))
-    {
-        Some(at) => Err(format!("{call}: {name} word {at} was written")),
-        None => Ok(()),
-    };
-    kept("styles", &before.styles, &after.styles, &|_| false)?;
-    kept("candidates", &before.candidates, &after.candidates, &|_| false)?;
-    kept("layouts", &before.layouts, &after.layouts, &|at| Some(at / LAYOUT) == node)?;
-    kept("working", &before.working, &after.working, &|at| at / CANDIDATE >= filled[0])?;
-    kept("unclaimed", &before.unclaimed, &after.unclaimed, &|at| at / CANDIDATE >= filled[1])?;
-    if let Some(node) = node {
+    kept(call, "styles", &before.styles, &after.styles, |_| false)?;
+    kept(call, "candidates", &before.candidates, &after.candidates, |_| false)?;
+    kept(call, "layouts", &before.layouts, &after.layouts, |at| Some(at / LAYOUT) == may.node)?;
+    let lists =
+        [("working", &before.working, &after.working), ("unclaimed", &before.unclaimed, &after.unclaimed)];
+    for ((name, before, after), (&filled, layers)) in lists.into_iter().zip(may.filled.iter().zip(&may.layers)) {
+        kept(call, name, before, after, |at| (filled..filled + layers.len()).contains(&(at / CANDIDATE)))?;
+        let mut records = after.chunks(CANDIDATE).skip(filled);
+        if layers.iter().any(|&layer| records.next().map(|record| record[LAYER]) != Some(layer)) {
+            return Err(format!("{call}: {name} has another layer than {layers:?} from record {filled} on"));
+        }
+    }
+    if let Some(node) = may.node {
         laid_out(call, &after.layouts[LAYOUT * node..][..LAYOUT])?;
     }
     Ok(())
+}
+
+/// No word was written but where it may be
+fn kept(
+    call: &str,
+    name: &str,
+    before: &[u32],
+    after: &[u32],
+    may: impl Fn(usize) -> bool,
+) -> Result<(), Difference> {
+    match (0..before.len()).find(|&at| before[at] != after[at] && !may(at)) {
+        Some(at) => Err(format!("{call}: {name} word {at} was written")),
+        None => Ok(()),
+    }
 }
 
 /// The words of a layout: every NaN is 7FC00000, and the size is no NaN and at least padding plus border where that is no NaN
@@ -229,6 +257,11 @@ fn damage_opening(family: Family, w: &mut Words, rng: &mut Rng) {
             let items = w.items() as u32;
             rewrite_record(&mut w.candidates, items, rng);
         }
+        OpenLayers => match rng.below(8) {
+            0 => drop_layers(&mut w.candidates),
+            1 => drop_layers(if rng.one_in(2) { &mut w.working } else { &mut w.unclaimed }),
+            _ => rewrite_layer(&mut w.candidates, rng),
+        },
         OpenRoom => {
             let list = if rng.one_in(2) { &mut w.working } else { &mut w.unclaimed };
             let less = list.len().saturating_sub(CANDIDATE * (1 + rng.below(4) as usize));
@@ -236,7 +269,7 @@ fn damage_opening(family: Family, w: &mut Words, rng: &mut Rng) {
         }
         _ => {
             for _ in 0..2 + rng.below(2) {
-                let part = rng.of(&[OpenCodes, OpenLengths, OpenStyles, OpenCandidates, OpenRoom]);
+                let part = rng.of(&[OpenCodes, OpenLengths, OpenStyles, OpenCandidates, OpenLayers, OpenRoom]);
                 damage_opening(part, w, rng);
             }
         }
@@ -264,7 +297,7 @@ fn long(w: &mut Words, rng: &mut Rng) {
 
 /// Another length, often by a word or by a record
 fn resize(list: &mut Vec<u32>, rng: &mut Rng) {
-    let by = rng.of(&[1, 1, 2, 12, CANDIDATE, LAYOUT, STYLE, 64]);
+    let by = rng.of(&[1, 1, 2, LAYER, CANDIDATE, LAYOUT, STYLE, 64]);
     match rng.below(5) {
         0 => list.clear(),
         1 => list.truncate(rng.below(list.len() as u32 + 1) as usize),
@@ -296,6 +329,21 @@ fn rewrite_record(list: &mut [u32], items: u32, rng: &mut Rng) {
         2 => list[at] ^ (1 << rng.below(32)),
         _ => rng.code(),
     };
+}
+
+/// Another layer in one record, most often too high a one: the first such, one whose low byte is 1, 2 ^ 31, a NaN, the highest word
+fn rewrite_layer(list: &mut [u32], rng: &mut Rng) {
+    let layer = if rng.one_in(3) { rng.of(&[0, 1, 7, 255]) } else { rng.of(&BAD_LAYERS) };
+    let count = (list.len() / CANDIDATE) as u32;
+    if count > 0 {
+        list[CANDIDATE * rng.below(count) as usize + LAYER] = layer;
+    }
+}
+const BAD_LAYERS: [u32; 5] = [256, 257, 1 << 31, 0x7FC0_0001, u32::MAX];
+
+/// Records of 13 words, as they were before there were layers
+fn drop_layers(list: &mut Vec<u32>) {
+    *list = list.chunks(CANDIDATE).flat_map(|record| record.iter().take(LAYER)).copied().collect();
 }
 
 /// One damaged reply, on a copy of the words
@@ -353,6 +401,7 @@ fn damage_reply(family: Family, said: &mut Said, w: &mut Words, rng: &mut Rng) {
                 _ => rewrite_record(&mut said.surfaced, items, rng),
             }
         }
+        ReplyLayers => damage_layers(said, w, rng),
         ReplySeveral => {
             for _ in 0..2 + rng.below(2) {
                 let part = rng.of(&[
@@ -363,6 +412,7 @@ fn damage_reply(family: Family, said: &mut Said, w: &mut Words, rng: &mut Rng) {
                     ReplyWorking,
                     ReplyWorking,
                     ReplySurfaced,
+                    ReplyLayers,
                     StateCounts,
                 ]);
                 damage_reply(part, said, w, rng);
@@ -411,6 +461,25 @@ fn damage_reply(family: Family, said: &mut Said, w: &mut Words, rng: &mut Rng) {
     }
 }
 
+/// Layers of surfaced records, of working records that are filled, of those behind them, of unclaimed ones
+fn damage_layers(said: &mut Said, w: &mut Words, rng: &mut Rng) {
+    let filled = (CANDIDATE * w.state[state::FILLED_WORKING].min(4096) as usize).min(w.working.len());
+    match rng.below(8) {
+        0 => {
+            surface(said, w, rng);
+            drop_layers(&mut said.surfaced);
+        }
+        1 => drop_layers(if rng.one_in(2) { &mut w.working } else { &mut w.unclaimed }),
+        2 | 3 => {
+            surface(said, w, rng);
+            rewrite_layer(&mut said.surfaced, rng);
+        }
+        4 | 5 => rewrite_layer(&mut w.working[..filled], rng),
+        6 => rewrite_layer(&mut w.working[filled..], rng),
+        _ => rewrite_layer(&mut w.unclaimed, rng),
+    }
+}
+
 /// Records to surface, good ones for the most part
 fn surface(said: &mut Said, w: &Words, rng: &mut Rng) {
     let items = w.items().max(1) as u32;
@@ -418,6 +487,7 @@ fn surface(said: &mut Said, w: &Words, rng: &mut Rng) {
     for _ in 0..1 + rng.below(3) {
         let mut record: [u32; CANDIDATE] = [(); CANDIDATE].map(|_| rng.below(3));
         (record[0], record[2]) = (rng.below(items), rng.of(&[2, 3, 2, 3, 0, 1, 4]));
+        record[LAYER] = rng.below(256);
         for at in [3, 4, 8, 9] {
             record[at] = rng.next() as u32;
         }

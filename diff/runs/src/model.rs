@@ -1,5 +1,5 @@
 //! Document 01's table of refusals, on its own: which number a call must answer, 0 if it is accepted, and what a refused
-//! opening returns.
+//! opening returns. Also which layers the records of a list have (request #104).
 //!
 //! Written from the document alone. It shares no code with the oracle, the Rust host or the Rattle crates.
 use crate::words::{Said, Words};
@@ -7,8 +7,13 @@ use oracle::run::Kind;
 
 // Words of a record
 const STYLE: usize = 57;
-const CANDIDATE: usize = 13;
+const CANDIDATE: usize = 14;
 const LAYOUT: usize = 23;
+
+// Places in a candidate
+const NODE: usize = 0;
+const POSITION: usize = 2;
+const LAYER: usize = 13;
 
 // Places in a state
 const PROGRESS: usize = 0;
@@ -127,16 +132,31 @@ fn bad_style(w: &[u32]) -> bool {
         || w[56] > 255 // contain
 }
 
+/// Edges and safeties are 0 to 2, a layer 0 to 255
 fn bad_candidates(records: &[u32], items: usize) -> bool {
-    records
-        .chunks(CANDIDATE)
-        .any(|w| w[0] as usize >= items || w[2] > 4 || [5, 6, 7, 10, 11, 12].iter().any(|&at| w[at] > 2))
+    records.chunks(CANDIDATE).any(|w| {
+        w[NODE] as usize >= items
+            || w[POSITION] > 4
+            || [5, 6, 7, 10, 11, 12].iter().any(|&at| w[at] > 2)
+            || w[LAYER] > 255
+    })
+}
+
+fn is_claimed(w: &[u32], claims: u32) -> bool {
+    (w[POSITION] == 2 && claims & 1 != 0) || (w[POSITION] == 3 && claims & 2 != 0)
 }
 
 /// How many of these records are claimed
 pub fn claimed(records: &[u32], claims: u32) -> usize {
-    let is_claimed = |w: &&[u32]| (w[2] == 2 && claims & 1 != 0) || (w[2] == 3 && claims & 2 != 0);
-    records.chunks(CANDIDATE).filter(is_claimed).count()
+    records.chunks(CANDIDATE).filter(|w| is_claimed(w, claims)).count()
+}
+
+/// The layers of these records, in turn: of those that go to the working list, and of those that go to the unclaimed list
+pub fn layers(records: &[u32], claims: u32) -> [Vec<u32>; 2] {
+    [true, false].map(|inside| {
+        let here = records.chunks_exact(CANDIDATE).filter(|w| is_claimed(w, claims) == inside);
+        here.map(|w| w[LAYER]).collect()
+    })
 }
 
 fn list_full(records: &[u32], claims: u32, filled_working: usize, filled_unclaimed: usize, w: &Words) -> bool {

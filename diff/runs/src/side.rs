@@ -1,11 +1,11 @@
 //! One case, run by the Rust and by the library: after every call, every word that the library may write is held to what the
-//! Rust's run says.
+//! Rust's run says, the layers of the lists to those of the records that went there.
 use crate::model;
 use crate::rng::Rng;
 use crate::typed;
 use crate::words::{Library, Said, Words};
 use oof::ffi::state;
-use oracle::case::{bits, float, Case, CANDIDATE, LAYOUT};
+use oracle::case::{bits, float, Case, CANDIDATE, LAYER, LAYOUT};
 use oracle::host::{Profile, Random};
 use oracle::run::{run, Host, Kind, Question, Space, Transcript};
 use std::ops::AddAssign;
@@ -79,7 +79,7 @@ pub fn compare(
         }
     };
     held("opening", 0, result)?;
-    let mut side = Side { rust: &rust, laid: 0, first: true };
+    let mut side = Side { rust: &rust, layers: Default::default(), laid: 0, first: true };
     side.opened(&mut wanted);
     hold("opening", &words, &wanted, seen)?;
 
@@ -103,7 +103,7 @@ pub fn compare(
     if library.saboteur.is_some() {
         return Ok(());
     }
-    typed::compare(case, setting, &rust)
+    typed::compare(case, setting, &rust, &side.layers)
 }
 
 fn held(call: &str, wanted: u32, result: u32) -> Result<(), Difference> {
@@ -135,6 +135,9 @@ pub fn question(w: &Words) -> Option<Question> {
 /// How far the Rust's run has been followed
 struct Side<'a> {
     rust: &'a Transcript,
+    /// Of the records of the working and of the unclaimed list, which the Rust has without them: those of the candidates and
+    /// surfaced records that went there, in turn
+    layers: [Vec<u32>; 2],
     /// Boxes laid out
     laid: usize,
     /// No question of the box at hand was answered yet
@@ -142,7 +145,7 @@ struct Side<'a> {
 }
 impl Side<'_> {
     /// Words after the opening
-    fn opened(&self, w: &mut Words) {
+    fn opened(&mut self, w: &mut Words) {
         let s = &mut w.state;
         *s = [0; 27];
         for i in 0..4 {
@@ -152,21 +155,27 @@ impl Side<'_> {
         let lengths = [w.styles.len(), w.layouts.len(), w.working.len(), w.unclaimed.len()];
         (0..4).for_each(|i| s[state::LENGTHS + i] = lengths[i] as u32);
         let claimed = model::claimed(&w.candidates, w.area[5]);
-        self.fill(w, claimed, w.candidates.len() / CANDIDATE - claimed);
+        let unclaimed = w.candidates.len() / CANDIDATE - claimed;
+        let layers = model::layers(&w.candidates, w.area[5]);
+        self.fill(w, layers, [claimed, unclaimed]);
         self.next(0, w);
     }
-    /// The lists hold this many records
-    fn fill(&self, w: &mut Words, working: usize, unclaimed: usize) {
-        let from = w.state[state::FILLED_WORKING] as usize;
-        for at in from..working {
-            w.working[CANDIDATE * at..][..CANDIDATE].copy_from_slice(&self.rust.working[at]);
+    /// The lists hold this many records, the new ones with these layers
+    fn fill(&mut self, w: &mut Words, layers: [Vec<u32>; 2], filled: [usize; 2]) {
+        let lists = [
+            (&mut w.working, &self.rust.working, state::FILLED_WORKING),
+            (&mut w.unclaimed, &self.rust.unclaimed, state::FILLED_UNCLAIMED),
+        ];
+        for (which, (list, records, count)) in lists.into_iter().enumerate() {
+            self.layers[which].extend(&layers[which]);
+            assert_eq!(self.layers[which].len(), filled[which], "records claimed");
+            for at in w.state[count] as usize..filled[which] {
+                let (words, layer) = list[CANDIDATE * at..][..CANDIDATE].split_at_mut(LAYER);
+                words.copy_from_slice(&records[at]);
+                layer[0] = self.layers[which][at];
+            }
+            w.state[count] = filled[which] as u32;
         }
-        let from = w.state[state::FILLED_UNCLAIMED] as usize;
-        for at in from..unclaimed {
-            w.unclaimed[CANDIDATE * at..][..CANDIDATE].copy_from_slice(&self.rust.unclaimed[at]);
-        }
-        w.state[state::FILLED_WORKING] = working as u32;
-        w.state[state::FILLED_UNCLAIMED] = unclaimed as u32;
     }
     /// Words after the reply to question `at`
     fn replied(&mut self, at: usize, said: &Said, w: &mut Words) {
@@ -180,7 +189,7 @@ impl Side<'_> {
             (Kind::LayOut, _) => {
                 let laid = &self.rust.laid[self.laid];
                 w.layouts[LAYOUT * laid.node as usize..][..LAYOUT].copy_from_slice(&laid.layout);
-                self.fill(w, laid.working, laid.unclaimed);
+                self.fill(w, model::layers(&said.surfaced, w.area[5]), [laid.working, laid.unclaimed]);
                 w.state[state::OVERFLOW..][..4].copy_from_slice(&laid.overflow);
                 w.state[state::KEYWORD_REPLY..][..6].fill(0);
                 self.laid += 1;
@@ -252,7 +261,7 @@ fn hold(call: &str, words: &Words, wanted: &Words, seen: &mut Counted) -> Result
         for (at, (&word, &want)) in words.iter().zip(wanted).enumerate() {
             if word != want {
                 if !(is_float(at) && word << 1 == 0 && want << 1 == 0) {
-                    return Err(format!("{call}: {name} word {at} is {word:08x}, by the Rust {want:08x}"));
+                    return Err(format!("{call}: {name} word {at} is {word:08x}, not {want:08x}"));
                 }
                 seen.signs += 1;
             }

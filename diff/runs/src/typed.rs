@@ -4,7 +4,7 @@ use oof::{
     compute_oof_layout_with, words, Area, AvailableSpace, Candidate, Claims, Direction, LaidOut, NodeId, Overflow,
     Placed, Point, Rect, Room, Size, Style,
 };
-use oracle::case::{float, Case, NAN};
+use oracle::case::{float, Case, LAYER, NAN, UNLAYERED};
 use oracle::host::Random;
 use oracle::run::{Host, Kind, Question, Space, Transcript};
 
@@ -67,8 +67,13 @@ fn area(w: &[u32; 8]) -> Area {
     }
 }
 
-/// Places a good case through the Rust host, and holds what it says to the Rust's run
-pub fn compare(case: &Case, setting: &Setting, rust: &Transcript) -> Result<(), Difference> {
+/// Places a good case through the Rust host, and holds what it says to the Rust's run and to the layers of its lists
+pub fn compare(
+    case: &Case,
+    setting: &Setting,
+    rust: &Transcript,
+    layers: &[Vec<u32>; 2],
+) -> Result<(), Difference> {
     let styles: Vec<Style> = case.styles.iter().map(|w| Style::from_words(w).expect("a good style")).collect();
     let candidates: Vec<Candidate> = case.candidates.iter().map(|w| candidate(w)).collect();
     let random = Random::new(setting.host_seed, setting.profile, case.styles.len(), setting.surfaced);
@@ -97,8 +102,9 @@ pub fn compare(case: &Case, setting: &Setting, rust: &Transcript) -> Result<(), 
         && records
             .iter()
             .zip(&rust.unclaimed)
-            .all(|(a, b)| (0..13).all(|at| same_word(a[at], b[at], [3, 4, 8, 9].contains(&at))));
-    hold("unclaimed", same)
+            .all(|(a, b)| (0..UNLAYERED).all(|at| same_word(a[at], b[at], [3, 4, 8, 9].contains(&at))));
+    hold("unclaimed", same)?;
+    hold("an unclaimed layer", records.iter().map(|record| record[LAYER]).eq(layers[1].iter().copied()))
 }
 
 fn hold(what: &str, same: bool) -> Result<(), Difference> {

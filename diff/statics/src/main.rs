@@ -2,12 +2,13 @@
 //!
 //! Zeros are equal and NaNs are equal, as document 01 compares with the Rust; a NaN's word must be 7FC00000. Before it compares, the
 //! program tries wrong answers: each must be noticed.
+use oracle::case::{CANDIDATE, LAYER};
 use oracle::leaves;
 
 extern "C" {
     fn static_align(keyword: u32, safety: u32, start: f32, end: f32, is_rtl: bool, out: &mut [u32; 5]) -> u32;
     fn static_offset(
-        candidate: &[u32; 13],
+        candidate: &[u32; CANDIDATE],
         width: f32,
         height: f32,
         left: f32,
@@ -85,10 +86,11 @@ fn align_differs(w: &[u32; 5], ours: Result<[u32; 5], u32>) -> bool {
     }
 }
 
-/// Two axes of five words, width, height, margins; x and y.
+/// Two axes of five words, width, height, margins; x and y. The layer isn't read: it is any word.
 fn offset_ours(w: &[u32; 16]) -> [u32; 2] {
-    let mut candidate = [0; 13];
-    candidate[3..13].copy_from_slice(&w[..10]);
+    let mut candidate = [0; CANDIDATE];
+    candidate[3..LAYER].copy_from_slice(&w[..10]);
+    candidate[LAYER] = w[10];
     let f = |k: usize| f32::from_bits(w[k]);
     let mut out = [7; 2];
     unsafe { static_offset(&candidate, f(10), f(11), f(12), f(13), f(14), f(15), &mut out) };
