@@ -1209,8 +1209,8 @@ fn harmless() -> Vec<Change> {
             others.for_each(|(_, layout)| layout[PLACES[r.below(4)]] = r.pick(&STRANGE));
         }),
         ("records that aren't filled", |c, r| {
-            let filled = c.filled();
-            c.slices[WORKING].chunks_exact_mut(CANDIDATE).skip(filled).for_each(|record| record.fill(r.word() | 1 << 20));
+            let behind = CANDIDATE * c.filled();
+            c.slices[WORKING].iter_mut().skip(behind).for_each(|word| *word = r.word() | 1 << 20);
         }),
         ("unclaimed records", |c, r| c.slices[UNCLAIMED].fill(r.word() | 1 << 20)),
         ("a style", |c, r| {

@@ -172,14 +172,7 @@ struct May {
 }
 
 /// A refused call leaves every word, of an opening but for its state, which `before` has
-fn check(
-    call: &str,
-    expected: u32,
-    result: u32,
-    before: &Words,
-    after: &Words,
-    may: &May,
-) -> Result<(), Difference> {
+fn check(call: &str, expected: u32, result: u32, before: &Words, after: &Words, may: &May) -> Result<(), Difference> {
     if result != expected {
         return Err(format!("{call}: result {result}, by the model {expected}"));
     }
@@ -189,8 +182,7 @@ fn check(
     kept(call, "styles", &before.styles, &after.styles, |_| false)?;
     kept(call, "candidates", &before.candidates, &after.candidates, |_| false)?;
     kept(call, "layouts", &before.layouts, &after.layouts, |at| Some(at / LAYOUT) == may.node)?;
-    let lists =
-        [("working", &before.working, &after.working), ("unclaimed", &before.unclaimed, &after.unclaimed)];
+    let lists = [("working", &before.working, &after.working), ("unclaimed", &before.unclaimed, &after.unclaimed)];
     for ((name, before, after), (&filled, layers)) in lists.into_iter().zip(may.filled.iter().zip(&may.layers)) {
         kept(call, name, before, after, |at| (filled..filled + layers.len()).contains(&(at / CANDIDATE)))?;
         let mut records = after.chunks(CANDIDATE).skip(filled);
@@ -205,13 +197,7 @@ fn check(
 }
 
 /// No word was written but where it may be
-fn kept(
-    call: &str,
-    name: &str,
-    before: &[u32],
-    after: &[u32],
-    may: impl Fn(usize) -> bool,
-) -> Result<(), Difference> {
+fn kept(call: &str, name: &str, before: &[u32], after: &[u32], may: impl Fn(usize) -> bool) -> Result<(), Difference> {
     match (0..before.len()).find(|&at| before[at] != after[at] && !may(at)) {
         Some(at) => Err(format!("{call}: {name} word {at} was written")),
         None => Ok(()),

@@ -68,12 +68,7 @@ fn area(w: &[u32; 8]) -> Area {
 }
 
 /// Places a good case through the Rust host, and holds what it says to the Rust's run and to the layers of its lists
-pub fn compare(
-    case: &Case,
-    setting: &Setting,
-    rust: &Transcript,
-    layers: &[Vec<u32>; 2],
-) -> Result<(), Difference> {
+pub fn compare(case: &Case, setting: &Setting, rust: &Transcript, layers: &[Vec<u32>; 2]) -> Result<(), Difference> {
     let styles: Vec<Style> = case.styles.iter().map(|w| Style::from_words(w).expect("a good style")).collect();
     let candidates: Vec<Candidate> = case.candidates.iter().map(|w| candidate(w)).collect();
     let random = Random::new(setting.host_seed, setting.profile, case.styles.len(), setting.surfaced);
@@ -82,6 +77,7 @@ pub fn compare(
         Room { working: rust.working.len() + setting.spare[0], unclaimed: rust.unclaimed.len() + setting.spare[1] };
     let placed = compute_oof_layout_with(&mut host, &area(&case.area), &styles, &candidates, room);
     let placed = placed.map_err(|refusal| format!("the Rust host is refused: {refusal}"))?;
+    hold("drawing order", placed.drawing_order() == drawing_order(&layers[0]))?;
     let Placed { layouts, hoisted, unclaimed, overflow: o, questions, .. } = placed;
 
     let layouts: Vec<Option<Vec<u32>>> = layouts.iter().map(|l| l.map(|l| l.to_words().to_vec())).collect();
@@ -105,6 +101,13 @@ pub fn compare(
             .all(|(a, b)| (0..UNLAYERED).all(|at| same_word(a[at], b[at], [3, 4, 8, 9].contains(&at))));
     hold("unclaimed", same)?;
     hold("an unclaimed layer", records.iter().map(|record| record[LAYER]).eq(layers[1].iter().copied()))
+}
+
+/// Lower layers first, and within one layer the hoisted order: a sort that keeps equals as they stand
+fn drawing_order(layers: &[u32]) -> Vec<usize> {
+    let mut order: Vec<usize> = (0..layers.len()).collect();
+    order.sort_by_key(|&place| layers[place]);
+    order
 }
 
 fn hold(what: &str, same: bool) -> Result<(), Difference> {
