@@ -478,7 +478,7 @@ overflows =
     ∷ finishes (minus 39 ∷ px 1 ∷ 0 ∷ px 20 ∷ 1 ∷ []) (outside 39)
     ∷ []
 
--- ---- request #104: layers
+-- ---- 71, 72, 73: layers
 
 -- a candidate as it was before it had a layer
 unfoldable pub thirteen : List ℕ
