@@ -5,6 +5,7 @@ of diff/oracle (`run.sh` builds it, and does a little of each).
     diff/screens/compare.py ORACLE random SEED COUNT     random screens, about a quarter of them damaged
     diff/screens/compare.py ORACLE large SEED COUNT      random good screens of up to 128 items and 256 candidates
     diff/screens/compare.py ORACLE around SEED COUNT     boxes around panels, in whole numbers, most of which scroll
+    diff/screens/compare.py ORACLE layers SEED COUNT     good screens with other layers, wrong ones and an old candidate line of 13 fields
     diff/screens/compare.py ORACLE bytes SEED SECONDS    any bytes: random ones, and good screens changed, cut and run over
 
 `rt check boxlist boxreach` makes the programs, which are taken from target/bin or from the folder PROGRAMS of the environment. Stops at the
@@ -20,6 +21,11 @@ boxlist, boxreach = (os.path.join(os.environ.get('PROGRAMS') or os.path.join(roo
 HEADER = rb'    node       x       y   width  height    left   right     top  bottom\n'
 LIST = re.compile(HEADER + rb'(?:(?: {0,7}(?:-?\d{1,7}|\*)){9}\n)*overflow(?: {0,7}(?:-?\d{1,7}|\*)){4}\n')
 LINE = re.compile(rb' refused       ([1-8])\n')
+WIDTH = 11
+# bytes of the largest screen
+LARGEST = 111 + 128 * 694 + 256 * 155
+# a layer as it stands in its field, and the refusal that it gets
+LAYERS = {b'0': None, b'+7': None, b'255': None, b'256': 4, b'300': 4, b'65536': 4, b'4294967295': 4, b'4294967296': 8, b'-1': 8, b'1.5': 8, b'2e0': 8, b'': 8}
 
 
 def run(command, text):
@@ -72,6 +78,10 @@ def random_screens(oracle, seed, count):
             hold(open(name, 'rb').read(), open(name[:-6] + 'list', 'rb').read())
 
 
+def layer(r):
+    return r.choice((0, 0, 1, 2, 255, r.randrange(256)))
+
+
 def good_screen(r):
     """no word outside its list, so that it is no refusal"""
     n, m = r.choice((1, 2, 5, 20, 128)), r.choice((1, 3, 10, 60, 256))
@@ -92,7 +102,7 @@ def good_screen(r):
     for k in range(m):
         area = [r.randint(-some // 4, some) for _ in range(4)]
         codes = [r.randrange(3) for _ in range(6)]
-        rows.append([r.randrange(n), k, r.choice((2, 2, 2, 3, 3, 0, 1, 4)), *area[:2], *codes[:3], *area[2:], *codes[3:]])
+        rows.append([r.randrange(n), k, r.choice((2, 2, 2, 3, 3, 0, 1, 4)), *area[:2], *codes[:3], *area[2:], *codes[3:], layer(r)])
     return b''.join(b''.join(b'%11d' % v for v in row) + b'\n' for row in rows)
 
 
@@ -133,8 +143,28 @@ def around(r):
         rows.append(sum(lengths, []) + codes + [w, h] + own)
     for k in range(rows[0][9]):
         rows.append([r.randrange(n), k, r.choice((2, 2, 2, 3)), *sorted(r.randint(-60, 120) for _ in range(2)), r.choice((0, 2)), r.randrange(3), 0,
-                     *sorted(r.randint(-60, 120) for _ in range(2)), r.choice((0, 2)), r.randrange(3), 0])
+                     *sorted(r.randint(-60, 120) for _ in range(2)), r.choice((0, 2)), r.randrange(3), 0, layer(r)])
     return b''.join(b''.join(b'%11d' % v for v in row) + b'\n' for row in rows)
+
+
+def layers(oracle, seed, count):
+    """The list stays whatever the layers are, or the refusal is the one that the format asks for."""
+    r = random.Random(seed)
+    for _ in range(count):
+        text = r.choice((good_screen, around))(r)
+        as_it_is, lines = run([oracle, 'screen'], text), text.splitlines(True)
+        first = 1 + int(lines[0][8 * WIDTH:9 * WIDTH])
+        put = lambda line, field: line[:-WIDTH - 1] + field + b'\n'
+        others = [(b''.join(lines[:first] + [put(line, b'%*d' % (WIDTH, layer(r))) for line in lines[first:]]), as_it_is)]
+        # a layer spelled so, or an old line without one
+        for field, refusal in [(b'%*s' % (WIDTH, spelled), refusal) for spelled, refusal in LAYERS.items()] + [(b'', 8)]:
+            k = r.randrange(first, len(lines))
+            others.append((b''.join(lines[:k] + [put(lines[k], field)] + lines[k + 1:]), b' refused%8d\n' % refusal if refusal else as_it_is))
+        for other, wanted in others:
+            expected = run([oracle, 'screen'], other)
+            if expected != wanted:
+                fail(other, 'the oracle printed %r, the format asks for %r' % (expected[:200], wanted[:200]))
+            hold(other, wanted)
 
 
 def changed(r, text):
@@ -142,7 +172,7 @@ def changed(r, text):
     at = r.randrange(len(text) + 1)
     line = text.rfind(b'\n', 0, at) + 1
     field = line + (at - line) // 11 * 11
-    numbers = [b'0', b'-0', b'+0', b'1', b'2', b'3', b'5', b'-1', b'128', b'129', b'256', b'257', b'9999999', b'-9999999', b'10000000', b'-10000000', b'4294967295', b'4294967296', b'99999999999', b'2147483648', b'', b'-', b'+']
+    numbers = [b'0', b'-0', b'+0', b'1', b'2', b'3', b'5', b'-1', b'128', b'129', b'255', b'256', b'257', b'300', b'9999999', b'-9999999', b'10000000', b'-10000000', b'4294967295', b'4294967296', b'99999999999', b'2147483648', b'', b'-', b'+']
     return r.choice((
         lambda: text[:at],
         lambda: text[at:],
@@ -155,7 +185,7 @@ def changed(r, text):
         lambda: text[:field] + b'%11d' % r.randrange(0, 90) + text[field + 11:],
         lambda: text[:field] + b'%-11s' % r.choice(numbers) + text[field + 11:],
         lambda: text + text,
-        lambda: text + bytes([r.randrange(256)]) * r.choice((1, 11, 144, 694, 125808, 200000)),
+        lambda: text + bytes([r.randrange(256)]) * r.choice((1, 11, 144, 155, 694, LARGEST + 1, 200000)),
         lambda: text.replace(b'\n', b'\r\n'),
         lambda: b'\n'.join(r.sample(text.split(b'\n'), len(text.split(b'\n')))),
     ))()
@@ -179,6 +209,6 @@ def fuzzed(oracle, seed, seconds):
 
 
 oracle, what, seed, n = sys.argv[1], sys.argv[2], int(sys.argv[3]), int(sys.argv[4])
-{'random': random_screens, 'large': made_screens(good_screen), 'around': made_screens(around), 'bytes': fuzzed}[what](oracle, seed, n)
+{'random': random_screens, 'large': made_screens(good_screen), 'around': made_screens(around), 'layers': layers, 'bytes': fuzzed}[what](oracle, seed, n)
 total = kinds['lists'] + sum(v for k, v in kinds.items() if k.startswith('refused'))
 print('%d texts, all equal: %s; boxes %s' % (total, *(', '.join('%s %d' % (k, counts[k]) for k in sorted(counts)) or 'none' for counts in (kinds, verdicts))))

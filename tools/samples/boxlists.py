@@ -55,8 +55,11 @@ def item(style, measured=(0, 0), overflow=(0, 0, 0, 0)):
     return style + [eighths(x) for x in (*measured, *overflow)]
 
 
-def candidate(node, order=0, position=ABSOLUTE, x=(0, 0), y=(0, 0), edges=(0, 0, 0, 0, 0, 0)):
-    return [node, order, position, *map(eighths, x), *edges[:3], *map(eighths, y), *edges[3:]]
+def candidate(node, order=0, position=ABSOLUTE, x=(0, 0), y=(0, 0), edges=(0, 0, 0, 0, 0, 0), layer=0):
+    return [node, order, position, *map(eighths, x), *edges[:3], *map(eighths, y), *edges[3:], layer]
+
+
+LAYER = len(candidate(0)) - 1
 
 
 def opening(width, height, x=0, y=0, direction=LTR, claims=3, overflow=(VISIBLE, VISIBLE)):
@@ -64,7 +67,8 @@ def opening(width, height, x=0, y=0, direction=LTR, claims=3, overflow=(VISIBLE,
 
 
 def mirrored(o, items, candidates):
-    """the mirror image by document 01: directions flipped, left and right exchanged, the static areas and their edges mirrored"""
+    """the mirror image by document 01: directions flipped, left and right exchanged, the static areas and their edges mirrored; the layers
+    stay"""
     def exchanged(item):
         for k in (0, 8, 16, 24):
             item = item[:k] + item[k + 2:k + 4] + item[k:k + 2] + item[k + 4:]
@@ -116,6 +120,22 @@ def scrolled(*overflow):
     ], [candidate(2), candidate(7, position=FIXED), *(candidate(k, order=k, x=(16, 16), y=(40, 40)) for k in (0, 4, 1, 6, 3, 5))]
 
 
+# two reel labels of one layer, a note and an alarm above them. The alarm is hoisted first and drawn last. The mark is claimed twice, and
+# its second claim is on the note's layer, behind the note. The fixed one, which this panel doesn't claim, has no place in the order
+layered = (
+    opening(480, 280, claims=1), [
+        item(style(left=px(24), top=px(24), width=px(200), height=px(96))),
+        item(style(left=px(144), top=px(72), width=px(200), height=px(96))),
+        item(style(left=px(72), top=px(136), width=px(200), height=px(112))),
+        item(style(left=px(240), top=px(120), width=px(208), height=px(80))),
+        item(style(left=px(168), top=px(192), width=px(136), height=px(72))),
+        item(style(left=px(0), top=px(0), width=px(480), height=px(280))),
+    ], [
+        candidate(3, layer=255), candidate(0), candidate(5, position=FIXED, layer=9), candidate(2, layer=2), candidate(1),
+        candidate(4, layer=1), candidate(4, order=1, layer=2),
+    ])
+
+
 def sixteenth(*overflow):
     """box 0 is centered left of the panel, and its free space is an odd count of eighths: x is half an eighth off. Box 1 is whole"""
     return screen(
@@ -126,13 +146,13 @@ def sixteenth(*overflow):
 
 
 telling = {
-    'incident': screen(panel, [item(label, (160, 24)), item(note)], [candidate(0), candidate(1, order=1)]),
-    'arabic': screen(arabic, [item(mirrored_label, (160, 24)), item(mirrored_note)], [candidate(0, x=(800, 800)), candidate(1, order=1, x=(800, 800))]),
+    'incident': screen(panel, [item(label, (160, 24)), item(note)], [candidate(0), candidate(1, order=1, layer=1)]),
+    'arabic': screen(arabic, [item(mirrored_label, (160, 24)), item(mirrored_note)], [candidate(0, x=(800, 800)), candidate(1, order=1, x=(800, 800), layer=1)]),
     'dialog': screen(
         opening(1024, 600),
         [item(style(px(0), px(0), px(0), px(0), margin=(auto,) * 4, padding=(px(24),) * 4, border=(px(2),) * 4, width=px(400), height=px(240))),
          item(style(px(0), px(0), px(0), px(0), max=(px(600), auto), justify=(CENTER, 0), align=(CENTER, 0)), (512.5, 180))],
-        [candidate(0), candidate(1, position=FIXED)]),
+        [candidate(0, layer=16), candidate(1, position=FIXED, layer=17)]),
     'labels': screen(
         opening(640, 360, x=8, y=8),
         [item(style(left=px(12), top=px(12)), (96.5, 18)),
@@ -151,18 +171,20 @@ telling = {
          item(style(px(0), px(0), px(0), px(0), width=word(PERCENT, 0.5), ratio=2, margin=(auto,) * 4)),
          item(style(px(20), px(20), px(20), px(20), width=px(100), height=px(50), justify=(END, 0), align=(START, 0))),
          item(style(px(20), px(20), px(20), px(20), justify=(STRETCHED, 0), flags=2), (30, 30))],
-        [candidate(k, order=k) for k in range(8)]),
+        [candidate(k, order=k, layer=7 - k) for k in range(8)]),
     'refused': screen(opening(800, 480), [item(style(padding=(auto, none, none, none)))], [candidate(0)]),
     'scrolled': screen(*scrolled(HIDDEN, SCROLL)),
     'scrolled-arabic': screen(*mirrored(*scrolled(HIDDEN, SCROLL))),
     'clipped': screen(*scrolled(CLIP, HIDDEN)),
     'sixteenth': sixteenth(SCROLL, SCROLL),
+    'layers': screen(*layered),
+    'layers-arabic': screen(*mirrored(*layered)),
 }
-# each with a mirror image that has the same verdicts
-IMAGES = {'incident': 'arabic', 'scrolled': 'scrolled-arabic', 'reach-touching': 'reach-touching-arabic'}
+# each with a mirror image that has the same verdicts and the same layers
+IMAGES = {'incident': 'arabic', 'scrolled': 'scrolled-arabic', 'layers': 'layers-arabic', 'reach-touching': 'reach-touching-arabic'}
 
 ABOUT = {
-    'incident': 'a label, and the note that said why a restore was refused, with numbers made up. It ends 8 pixels left of the panel: x −328 pixels (`-2624`), width 320. The overflow holds the label alone: no scrolling goes there. The label is seen, the note unseen',
+    'incident': 'a label, and the note that said why a restore was refused, with numbers made up. It ends 8 pixels left of the panel: x −328 pixels (`-2624`), width 320. The overflow holds the label alone: no scrolling goes there. The label is seen, the note unseen. The note is on layer 1, above the label',
     'arabic': 'its mirror image, right-to-left: the note begins 8 pixels right of the panel, at 808 (`6464`). In each row the two x and the width add up to 800. The verdicts are the same',
     'dialog': 'a dialog centered by auto margins, and one centered by alignment whose size its content gives',
     'labels': 'labels as large as the font says, one in an area of its own, one at the end edge',
@@ -172,8 +194,15 @@ ABOUT = {
     'scrolled-arabic': 'its mirror image, right-to-left: the same verdicts, and the same offsets, counted leftwards',
     'clipped': 'the boxes of `scrolled` in a panel that clips across and is hidden down: node 6 is still brought up; what lies to the right is unseen, though the overflow holds it',
     'sixteenth': 'box 0 is centered left of the panel and lies on a sixteenth of a pixel: its row is refused with 9. Scrolling brings up box 1, which is whole. The other boxes have their verdicts',
+    'layers': 'boxes that overlap, on four layers ([picture](../docs/layers.svg), [in which order they are drawn](../docs/SCREEN-FORMAT.md#in-which-order-boxes-are-drawn)): two reel labels (nodes 0 and 1) on layer 0, a note (2) on layer 2, an alarm (3) on layer 255, hoisted first and drawn last, and a mark (4) that is claimed twice, on layers 1 and 2. A further one is fixed, which this panel doesn\'t claim. Hoisted as nodes 3, 0, 2, 1, 4, 4, drawn as places 1, 3, 4, 2, 5, 0. The list doesn\'t tell the layers',
+    'layers-arabic': 'its mirror image, right-to-left: the same layers, and so the same drawing order',
     'limits/list-largest': 'one box at the largest numbers that the list prints; the overflow\'s right is larger, and prints `*`',
-    'limits/items-128-candidates-256': 'the longest screen, and the longest list: 256 rows',
+    'limits/items-128-candidates-256': 'the longest screen, 128,623 bytes, and the longest list: 256 rows, one on each layer',
+    'limits/one-byte-too-long': 'such a screen and one byte more, all that the programs read: refusal 8',
+    'limits/candidate-of-13-fields': 'a candidate line without its layer, as files had them before layers: refusal 8',
+    'limits/layer-255': 'the highest layer',
+    'limits/layer-256': 'the least that is none: it reads well, and is refused with 4. So is `layer-300`, and `layer-256-unclaimed`, where this panel doesn\'t claim the candidate',
+    'limits/layer-over': 'a layer of 4,294,967,296, which is no code: refusal 8',
     'limits/reach-touching': 'ten boxes of a few eighths around a tiny panel: they end at an edge, hang over it by one eighth, begin at it or one eighth before it',
     'limits/reach-far': 'the largest offsets that are printed, 9,999,998 eighths on each axis',
     'limits/reach-rectangle-left': '`sixteenth` in a visible panel. There the overflow holds box 0, and its left edge is no whole eighth: both rows are refused with 9',
@@ -194,13 +223,13 @@ def one(header=HEADER, style=example_style, replies=(0,) * 6, candidate=CANDIDAT
 def many(n, m, nodes=lambda k, n: k % n if n else 0):
     """n items, m candidates, each a box of its own size"""
     items = [item(style(left=px(k), top=px(2 * k), width=px(k + 0.125), height=px(10)), (k, k)) for k in range(n)]
-    return screen(opening(4000, 3000), items, [candidate(nodes(k, n), order=k) for k in range(m)])
+    return screen(opening(4000, 3000), items, [candidate(nodes(k, n), order=k, layer=k * 101 % 256) for k in range(m)])
 
 
 def tiny(boxes, o):
     """boxes of a few eighths: x, y, width, height from the area's corner"""
     return (o, [item(style([LENGTH, x], auto, [LENGTH, y], auto, width=[LENGTH, w], height=[LENGTH, h])) for x, y, w, h in boxes],
-            [candidate(k) for k in reversed(range(len(boxes)))])
+            [candidate(k, layer=k % 3) for k in reversed(range(len(boxes)))])
 
 
 # around an area of 8 by 16 eighths: ends at its start edge, hangs over it by one eighth; begins one eighth before its far edge, begins there
@@ -221,11 +250,11 @@ limits = {
     'one-byte-too-long': many(128, 256) + b'\0',
     'claimed-twice': screen(
         opening(800, 480), [item(style(left=px(10), top=px(10), width=px(50), height=px(20))), item(style(left=px(1), top=px(1)), (9, 9))],
-        [candidate(0), candidate(1), candidate(0, x=(300, 300))]),
+        [candidate(0, layer=3), candidate(1), candidate(0, x=(300, 300), layer=2)]),
     'claimed-twice-elsewhere': screen(
         opening(800, 480), [item(style(), (50, 20))],
         [candidate(0, x=(100, 100), y=(40, 40)), candidate(0, x=(300, 300), y=(80, 80))]),
-    'unclaimed': screen(opening(800, 480, claims=1), [item(style(), (5, 5))] * 2, [candidate(0), candidate(1, position=FIXED), candidate(1, position=STATIC)]),
+    'unclaimed': screen(opening(800, 480, claims=1), [item(style(), (5, 5))] * 2, [candidate(0), candidate(1, position=FIXED, layer=255), candidate(1, position=STATIC, layer=8)]),
     'float-largest': one(put(HEADER, 0, 9999999)),
     'float-smallest': one(put(HEADER, 0, -9999999)),
     'float-over': one(put(HEADER, 0, 10000000)),
@@ -237,6 +266,12 @@ limits = {
     'code-largest': one(candidate=put(CANDIDATE, 1, 4294967295)),
     'code-over': one(candidate=put(CANDIDATE, 1, 4294967296)),
     'node-largest': one(candidate=put(CANDIDATE, 0, 4294967295)),
+    'candidate-of-13-fields': one(candidate=CANDIDATE[:LAYER]),
+    'layer-255': one(candidate=put(CANDIDATE, LAYER, 255)),
+    'layer-256': one(candidate=put(CANDIDATE, LAYER, 256)),
+    'layer-256-unclaimed': one(put(HEADER, 5, 2), candidate=put(CANDIDATE, LAYER, 256)),
+    'layer-300': one(candidate=put(CANDIDATE, LAYER, 300)),
+    'layer-over': one(candidate=put(CANDIDATE, LAYER, 4294967296)),
     'minus-zero': one(put(put(put(HEADER, 2, b'-0'), 3, b'+0'), 4, b'-0')),
     'no-last-feed': example[:-1],
     'line-left-over': example + lines(CANDIDATE),
@@ -248,6 +283,7 @@ limits = {
     'refusal-3-tag': one(style=put(example_style, 0, 257)),
     'refusal-3-before-4': one(style=put(example_style, 56, 256), candidate=put(CANDIDATE, 0, 1)),
     'refusal-4-node': one(candidate=put(CANDIDATE, 0, 1)),
+    'refusal-3-before-layer': one(style=put(example_style, 0, 2), candidate=put(CANDIDATE, LAYER, 256)),
     'refusal-4-no-item': screen(opening(800, 480), [], [candidate(0)]),
     'reach-touching': screen(*tiny(touching, opening(1, 2, x=3, y=-5, overflow=(SCROLL, HIDDEN)))),
     'reach-touching-arabic': screen(*mirrored(*tiny(touching, opening(1, 2, x=3, y=-5, overflow=(SCROLL, HIDDEN))))),
@@ -265,7 +301,7 @@ limits = {
         [candidate(0), candidate(1)]),
     'reach-far': screen(*tiny([(9999998, 9999998, 1, 1)], [1, 1, 0, 0, LTR, 3, SCROLL, SCROLL])),
     'reach-rectangle-left': sixteenth(VISIBLE, VISIBLE),
-    'refusal-8-before-1': one(put(HEADER, 4, 2), candidate=put(CANDIDATE, 12, b'x')),
+    'refusal-8-before-1': one(put(HEADER, 4, 2), candidate=put(CANDIDATE, LAYER, b'x')),
 }
 
 # document 01's list, as it stands there
@@ -285,6 +321,7 @@ def files(lists):
         out[place(name) + '.reach'] = lists[name] and reach_model.printed(text, lists[name])
     for name, image in IMAGES.items():
         assert out[place(name) + '.reach'] == out[place(image) + '.reach'], name
+        assert layers(out[place(name) + '.screen']) == layers(out[place(image) + '.screen']), name
     out['crates/boxlist/stdin'] = telling['incident']
     out['crates/boxlist/stdout'] = lists['incident']
     if os.path.isdir(os.path.join(root, 'crates/boxreach')):
@@ -292,6 +329,13 @@ def files(lists):
         out['crates/boxreach/stdout'] = out[place('scrolled') + '.reach']
     out['screens/README.md'] = readme().encode()
     return out
+
+
+def layers(text):
+    """the last field of each candidate line"""
+    rows = text.splitlines()
+    items = int(reach_model.columns(rows[0], 11)[8])
+    return [row[-11:] for row in rows[1 + items:]]
 
 
 def place(name):

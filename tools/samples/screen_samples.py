@@ -11,8 +11,8 @@ root = os.path.join(os.path.dirname(os.path.abspath(__file__)), '..', '..', 'cra
 FIRST = 'eeee' + 'cccccc'
 STYLE = 'ce' * 22 + 'ce' + 'ccccccccc' + 'e' + 'c'
 REPLY = 'eeeeee'
-CANDIDATE = 'ccc' + 'eeccc' * 2
-assert (len(FIRST), len(STYLE), len(REPLY), len(CANDIDATE)) == (10, 57, 6, 13)
+CANDIDATE = 'ccc' + 'eeccc' * 2 + 'c'
+assert (len(FIRST), len(STYLE), len(REPLY), len(CANDIDATE)) == (10, 57, 6, 14)
 
 
 def bits(x):
@@ -56,7 +56,7 @@ def read(text):
         raise Bad
     items = [line(STYLE + REPLY, l) for l in lines[1:1 + n]]
     candidates = [line(CANDIDATE, l) for l in lines[1 + n:]]
-    return header, sum((i[:57] for i in items), []), sum((i[57:] for i in items), []), sum(candidates, [])
+    return header, sum((i[:len(STYLE)] for i in items), []), sum((i[len(STYLE):] for i in items), []), sum(candidates, [])
 
 
 # ---- what is printed
@@ -98,19 +98,23 @@ def refused(number):
     return ' refused' + code(number) + '\n'
 
 
+def first(words, kinds):
+    """the first record; words that were not read keep the 7 that the program lends"""
+    return (words + [7] * len(kinds))[:len(kinds)]
+
+
 def shown(text):
     try:
         header, styles, replies, candidates = read(text)
     except Bad:
         return refused(8)
     out = 'header' + ''.join(' %d' % w for w in header) + '\n'
-    # words that were not read keep the 7 that the program lends
-    out += 'first replies' + ''.join(' %d' % w for w in (replies + [7] * 6)[:6]) + '\n'
-    out += 'first candidate' + ''.join(' %d' % w for w in (candidates + [7] * 13)[:13]) + '\n'
+    out += 'first replies' + ''.join(' %d' % w for w in first(replies, REPLY)) + '\n'
+    out += 'first candidate' + ''.join(' %d' % w for w in first(candidates, CANDIDATE)) + '\n'
     for name, words in (('styles', styles), ('replies', replies), ('candidates', candidates)):
         out += '%s %d words, sum %d\n' % (name, len(words), checksum(words))
     w, h, x, y = header[:4]
-    sides = tuple((replies + [7] * 6)[2:6])
+    sides = tuple(first(replies, REPLY)[2:])
     return out + row(header[8], (x, y, w, h) + sides) + overflow(sides)
 
 
@@ -134,7 +138,8 @@ def example_style():
 
 HEADER = [6400, 3840, 0, 0, 0, 3, 0, 0, 1, 1]
 REPLIES = [0] * 6
-CAND = [0, 0, 2] + [0] * 10
+CAND = [0, 0, 2] + [0] * 11
+LAYER = len(CANDIDATE) - 1
 
 
 def screen(header=HEADER, style=None, replies=REPLIES, candidate=CAND):
@@ -150,16 +155,16 @@ samples = {
     'example': good,
     'all-different': screen(
         [-8, 16, -24, 32, 5, 6, 7, 8, 1, 1], [41 * j - 900 if STYLE[j] == 'e' else 37 * j + 1 for j in range(57)], [100, -200, 300, -400, 500, -600],
-        [11, 12, 13, -14, 15, 16, 17, 18, -19, 20, 21, 22, 23]),
+        [11, 12, 13, -14, 15, 16, 17, 18, -19, 20, 21, 22, 23, 24]),
     'two-of-each': lines(
         [800, 480, 8, -8, 1, 2, 3, 0, 2, 2], list(range(57)) + [1, 2, 3, 4, 5, 6], list(range(100, 157)) + [-1, -2, -3, -4, -5, -6],
-        list(range(13)), list(range(13, 26))),
+        list(range(14)), list(range(14, 28))),
     'none-of-either': lines([800, 480, 0, 0, 0, 0, 0, 0, 0, 0]),
     'float-largest': screen(put(put(HEADER, 0, 9999999), 1, -9999999)),
     'float-over': screen(put(HEADER, 0, 10000000)),
     'float-under': screen(replies=put(REPLIES, 5, -10000000)),
-    'code-largest': screen(candidate=put(CAND, 12, 4294967295)),
-    'code-over': screen(candidate=put(CAND, 12, 4294967296)),
+    'code-largest': screen(candidate=put(CAND, LAYER - 1, 4294967295)),
+    'code-over': screen(candidate=put(CAND, LAYER - 1, 4294967296)),
     'code-eleven-digits': screen(candidate=put(CAND, 1, b'99999999999')),
     'code-minus-one': screen(put(HEADER, 4, -1)),
     'float-in-tag': screen(style=put(example_style(), 0, -1)),
@@ -181,7 +186,15 @@ samples = {
     'tab': screen(put(HEADER, 2, b'\t5')),
     'carriage-return': good.replace(b'\n', b'\r\n'),
     'feed-in-field': screen(put(HEADER, 2, b'5\n')),
-    'bad-last-field': screen(candidate=put(CAND, 12, b'x')),
+    'layer-missing': lines(HEADER, example_style() + REPLIES, CAND[:LAYER]),
+    'field-after-layer': lines(HEADER, example_style() + REPLIES, CAND + [0]),
+    'layer-255': screen(candidate=put(CAND, LAYER, 255)),
+    'layer-300': screen(candidate=put(CAND, LAYER, 300)),
+    'layer-largest': screen(candidate=put(CAND, LAYER, 4294967295)),
+    'layer-over': screen(candidate=put(CAND, LAYER, 4294967296)),
+    'layer-minus-one': screen(candidate=put(CAND, LAYER, -1)),
+    'layer-half': screen(candidate=put(CAND, LAYER, b'0.5')),
+    'bad-last-field': screen(candidate=put(CAND, LAYER, b'x')),
     'bad-last-reply': screen(replies=put(REPLIES, 5, b'x')),
     'bad-first-style': screen(style=put(example_style(), 0, b'x')),
     'no-last-feed': good[:-1],

@@ -192,6 +192,9 @@ pub fn random(r: &mut Random) -> Vec<u8> {
                 f.push(flip(r, 300, c));
             }
         }
+        let layer = [0, 0, 1, 7, 255, r.draw(256) as i64][r.draw(6) as usize];
+        let wrong = [256, 300, 4_294_967_295, 4_294_967_296, -1][r.draw(5) as usize];
+        f.push(if r.draw(150) == 0 { wrong } else { layer });
         rows.push(f);
     }
     let mut text = vec![];
