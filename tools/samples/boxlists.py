@@ -124,11 +124,11 @@ def scrolled(*overflow):
 # its second claim is on the note's layer, behind the note. The fixed one, which this panel doesn't claim, has no place in the order
 layered = (
     opening(480, 280, claims=1), [
-        item(style(left=px(24), top=px(24), width=px(200), height=px(96))),
-        item(style(left=px(144), top=px(72), width=px(200), height=px(96))),
-        item(style(left=px(72), top=px(136), width=px(200), height=px(112))),
-        item(style(left=px(240), top=px(120), width=px(208), height=px(80))),
-        item(style(left=px(168), top=px(192), width=px(136), height=px(72))),
+        item(style(left=px(24), top=px(24), width=px(176), height=px(72))),
+        item(style(left=px(168), top=px(64), width=px(176), height=px(72))),
+        item(style(left=px(40), top=px(120), width=px(176), height=px(104))),
+        item(style(left=px(264), top=px(104), width=px(192), height=px(96))),
+        item(style(left=px(152), top=px(184), width=px(176), height=px(72))),
         item(style(left=px(0), top=px(0), width=px(480), height=px(280))),
     ], [
         candidate(3, layer=255), candidate(0), candidate(5, position=FIXED, layer=9), candidate(2, layer=2), candidate(1),
