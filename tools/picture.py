@@ -11,6 +11,9 @@ and which boxes no scrolling brings up.
     --name NODE=WORD    a word for a box beside its number; may stand several times
     --title TEXT        the picture's title
 
+Boxes are drawn in the drawing order, worked out here from the candidate lines: lower layers first, and within one layer as they are
+hoisted; so a box covers what is drawn before it, whose outline goes on as dots. Layers are told where some box is above layer 0.
+
 A box is drawn plain if it is seen as it stands, with a double line if scrolling brings it up, hatched if it is unseen, dotted if it is
 refused with 9. What can't be drawn is told below. A refused screen is drawn as its refusal and its meaning. Exit status: 1 if a check
 fails, 2 if a file or a program is missing, fails, or the call is wrong."""
@@ -27,24 +30,30 @@ sys.dont_write_bytecode = True
 
 PICTURES = {
     "docs/incident.svg": ("The panel of the incident, and its Arabic mirror image", {0: "label", 1: "note"}, ["screens/incident", "screens/arabic"]),
+    "docs/layers.svg": ("Boxes that overlap, in the order in which they are drawn", {0: "reel A", 1: "reel B", 2: "note", 3: "alarm", 4: "mark"}, ["screens/layers"]),
     "docs/scrolled.svg": ("Panels that scroll, and one that clips across", {}, ["screens/scrolled", "screens/scrolled-arabic", "screens/clipped", "screens/sixteenth"]),
 }
 
 OVERFLOWS = ("visible", "clip", "hidden", "scroll")
 MEANINGS = {"8": "The text is no screen.", "1": "Line 1 has a direction, claims or an overflow outside its list.",
-            "3": "An item has a tag or a code that its field doesn't take.", "4": "A candidate has a node that is no item, or a code outside its list."}
+            "3": "An item has a tag or a code that its field doesn't take.", "4": "A candidate has a node that is no item, a code outside its list, or a layer above 255."}
 SEEN, SCROLLED, UNSEEN, REFUSED = "seen", "scrolled", "unseen", "refused"
+# fields of a screen file, from 0: of the first line, of a candidate line; and the positions that are claimed, each with its bit in claims
+CLAIMS, ITEM_COUNT = 5, 8
+NODE, POSITION, LAYER = 0, 2, 13
+CLAIMED_BY = {2: 1, 3: 2}
 
 # pixels of the picture
 GAP, SIDE, MOST_HEIGHT, EDGE = 24, 456, 360, 22
 TEXT, HEAD, LINE = 13, 16, 18
 MANY = 40  # boxes, above which a label stands in its box or nowhere
 INK, PALE_INK, GROUND, SHOWN, AREA = "#1b2027", "#4a5460", "#e3e6ea", "#f4f8fc", "#ffffff"
+LINES = {SEEN: "#2c6437", SCROLLED: "#1c4a86", UNSEEN: "#8f1d14", REFUSED: "#5b4a00"}
 STYLES = {
-    SEEN: 'fill="#c3e2c7" fill-opacity="0.6" stroke="#2c6437" stroke-width="1.5"',
-    SCROLLED: 'fill="#c2d8f5" fill-opacity="0.7" stroke="#1c4a86" stroke-width="1.5"',
-    UNSEEN: 'fill="url(#hatch)" stroke="#8f1d14" stroke-width="2" stroke-dasharray="7 3"',
-    REFUSED: 'fill="url(#dots)" stroke="#5b4a00" stroke-width="1.5" stroke-dasharray="2 3"',
+    SEEN: f'fill="#dbeddd" stroke="{LINES[SEEN]}" stroke-width="1.5"',
+    SCROLLED: f'fill="#d4e4f8" stroke="{LINES[SCROLLED]}" stroke-width="1.5"',
+    UNSEEN: f'fill="url(#hatch)" stroke="{LINES[UNSEEN]}" stroke-width="2" stroke-dasharray="7 3"',
+    REFUSED: f'fill="url(#dots)" stroke="{LINES[REFUSED]}" stroke-width="1.5" stroke-dasharray="2 3"',
 }
 PATTERNS = """<defs>
 <pattern id="hatch" patternUnits="userSpaceOnUse" width="9" height="9" patternTransform="rotate(45)"><rect width="9" height="9" fill="#fdeeeb"/><line x1="0" y1="0" x2="0" y2="9" stroke="#c8524a" stroke-width="3.5"/></pattern>
@@ -103,11 +112,17 @@ def number(text):
     return None if text == "*" else int(text)
 
 
+def claimed(text):
+    """Node and layer of each claimed candidate of a good screen, in hoisted order: the candidate lines in turn, as no box surfaces any."""
+    header, *rows = ([int(f) for f in columns(line, 11)] for line in text.decode().splitlines())
+    return [(row[NODE], row[LAYER]) for row in rows[header[ITEM_COUNT]:] if header[CLAIMS] & CLAIMED_BY.get(row[POSITION], 0)]
+
+
 class Box:
     """A row of the list and of the verdicts. x and y count from the area's left and top edge, in eighths; None for `*`."""
 
-    def __init__(self, place, listed, verdict, offset):
-        self.places, self.node, self.verdict = [place], int(listed[0]), verdict
+    def __init__(self, listed, verdict, offset):
+        self.layers, self.node, self.verdict = [], int(listed[0]), verdict
         x, y, self.width, self.height = map(number, listed[1:5])
         self.x, self.y = (None if v is None else v - o for v, o in zip((x, y), offset))
         self.scroll = (int(verdict[1]), int(verdict[2])) if verdict[0] == "seen" else None
@@ -141,21 +156,34 @@ class Screen:
         self.overflow = [number(n) for n in columns(rows[-1], 8)[1:]]
         if len(reached) != len(rows) - 1:
             raise Fault(f"{name}: {len(rows) - 2} boxes in the list, {len(reached) - 1} verdicts")
-        self.boxes = []
-        for listed_row, verdict_row in zip(rows[1:-1], reached[1:]):
-            place, node, *verdict = columns(verdict_row, 8)
-            box = Box(int(place), columns(listed_row, 8), verdict, self.offset)
-            if int(node) != box.node:
-                raise Fault(f"{name}: at place {place} the list has node {box.node}, the verdicts {node}")
-            # a node that is claimed twice has one layout
-            again = next((b for b in self.boxes if b.node == box.node), None)
-            if again:
-                again.places += box.places
-            else:
-                self.boxes.append(box)
+        claims = claimed(text)
+        if len(claims) != len(rows) - 2:
+            raise Fault(f"{name}: {len(claims)} claimed candidates, {len(rows) - 2} boxes in the list")
+        self.by_node = {}
+        for listed_row, verdict_row, claim in zip(rows[1:-1], reached[1:], claims):
+            self.place(columns(listed_row, 8), columns(verdict_row, 8), *claim)
+        self.boxes = list(self.by_node.values())
+        # node and layer of each place: lower layers first, and within one layer in hoisted order, as the sort is stable
+        self.drawing_order = sorted(claims, key=lambda claim: claim[1])
+        self.drawn_last = {node: at for at, (node, _) in enumerate(self.drawing_order)}
+        self.layered = any(layer for _, layer in claims)
+
+    def place(self, listed, reached, claimed_node, layer):
+        """A node that is claimed twice has one layout: it is one box, on two layers."""
+        place, node, *verdict = reached
+        box = Box(listed, verdict, self.offset)
+        if not int(node) == claimed_node == box.node:
+            raise Fault(f"{self.name}: at place {place} the list has node {box.node}, the verdicts {node}, the candidate lines {claimed_node}")
+        self.by_node.setdefault(box.node, box).layers.append(layer)
 
     def called(self, box):
         return f"{box.node} {self.names[box.node]}" if box.node in self.names else str(box.node)
+
+    def layer_said(self, box):
+        """nothing where all are on layer 0"""
+        if not self.layered:
+            return ""
+        return f"layer{'s' if len(box.layers) > 1 else ''} {listing([str(layer) for layer in sorted(box.layers)])}"
 
     def scrolls(self, axis):
         return self.codes[axis] in ("hidden", "scroll")
@@ -250,11 +278,23 @@ def notes_of(screen):
         few = seen[:12]
         notes.append((SEEN, f"{listing([screen.called(b) for b in few])}: seen without scrolling." if len(seen) == len(few)
                       else f"{len(seen)} boxes are seen without scrolling."))
+    if screen.layered:
+        notes.append((None, order_said(screen)))
     if not screen.boxes:
         notes.append((None, "No box is claimed."))
     if None in screen.overflow:
         notes.append((None, "The overflow rectangle isn't drawn: a number of it is no whole eighth, or above 9,999,999 eighths in size (*)."))
     return notes
+
+
+def order_said(screen):
+    by_layer, drawn = {}, set()
+    for node, layer in screen.drawing_order:
+        by_layer.setdefault(layer, []).append(screen.called(screen.by_node[node]) + (" again" if node in drawn else ""))
+        drawn.add(node)
+    if len(screen.drawing_order) > 12:
+        return f"Drawn lower layers first: {len(screen.drawing_order)} boxes on {len(by_layer)} layers."
+    return f"Drawn in this order: {', '.join(f'layer {layer} ({listing(boxes)})' for layer, boxes in by_layer.items())}."
 
 
 def capital(text):
@@ -320,34 +360,22 @@ class Drawing:
             left, right = s.from_start(*s.overflow[:2])
             overflow = (left, s.overflow[2], right, s.overflow[3])
         window = self.window(area, [x for x in (*spans, shown, overflow) if x])
-        left, top, right, bottom = window
-        self.scale = min((self.width - 2 * EDGE) / max(right - left, 1), (MOST_HEIGHT - 2 * EDGE) / max(bottom - top, 1))
-        self.left, self.top = left, top
-        height = (bottom - top) * self.scale + 2 * EDGE
-        wide = (right - left) * self.scale + 2 * EDGE
-        self.x0, self.y0 = (self.width - wide) / 2 + EDGE, self.height + EDGE
-        clip = f"frame{self.place}"
-        self.frame = (0, self.height, self.width, height)
-        self.parts.append(f'<clipPath id="{clip}"><rect x="0" y="{self.height:.1f}" width="{self.width}" height="{height:.1f}"/></clipPath><g clip-path="url(#{clip})">')
-        self.parts.append(rectangle(0, self.height, self.width, height, f'fill="{GROUND}"'))
+        height = self.framed(window)
         if shown and shown != area:
             self.kinds.add("shown")
             self.rect(shown, f'fill="{SHOWN}" stroke="#8a97a6" stroke-width="1"')
         self.rect(area, f'fill="{AREA}" stroke="{INK}" stroke-width="2.5"')
         self.obstacles = [*lines_of(self.at(area), 5)]
-        self.arrows(area)
         beyond = [b for b, span in zip(self.drawable, spans) if not inside(span, window)]
         visible = [b for b in self.drawable if b not in beyond]
-        for kind in (SEEN, SCROLLED, REFUSED, UNSEEN):
-            for box in visible:
-                if box.kind() == kind:
-                    self.box(box)
+        dotted = self.boxes(visible)
+        self.arrows(area)
         self.rect(area, f'fill="none" stroke="{INK}" stroke-width="2.5"')
         if overflow:
             self.kinds.add("overflow")
             self.rect(overflow, 'fill="none" stroke="#6a3d9a" stroke-width="2" stroke-dasharray="10 5"')
             self.obstacles += lines_of(self.at(overflow), 4)
-        taken = self.labels(visible, self.at(area)) + [self.at(b.span()) for b in visible]
+        taken = self.labels(visible, self.at(area), dotted) + [self.at(b.span()) for b in visible]
         if len(visible) <= MANY:
             self.captions(area, shown, taken)
         self.parts.append("</g>")
@@ -356,6 +384,18 @@ class Drawing:
             self.height += 6
             where = [f"{s.called(b)} ({pixels(b.x)}, {pixels(b.y)} px from the area's corner)" for b in beyond[:6]]
             self.text(f"Beyond the picture: {listing(where)}{', and more' if len(beyond) > 6 else ''}.", TEXT, PALE_INK)
+
+    def framed(self, window):
+        """The scale and the ground of what is drawn. Answers how high it is."""
+        self.left, self.top, right, bottom = window
+        self.scale = min((self.width - 2 * EDGE) / max(right - self.left, 1), (MOST_HEIGHT - 2 * EDGE) / max(bottom - self.top, 1))
+        wide, height = (right - self.left) * self.scale + 2 * EDGE, (bottom - self.top) * self.scale + 2 * EDGE
+        self.x0, self.y0 = (self.width - wide) / 2 + EDGE, self.height + EDGE
+        clip = f"frame{self.place}"
+        self.frame = (0, self.height, self.width, height)
+        self.parts.append(f'<clipPath id="{clip}"><rect x="0" y="{self.height:.1f}" width="{self.width}" height="{height:.1f}"/></clipPath><g clip-path="url(#{clip})">')
+        self.parts.append(rectangle(0, self.height, self.width, height, f'fill="{GROUND}"'))
+        return height
 
     def shown(self):
         """All that an offset shows: the area at first and last offset, and between."""
@@ -412,34 +452,55 @@ class Drawing:
         width, height = max(width, 2), max(height, 2)
         self.parts.append(rectangle(x, y, width, height, STYLES[kind]))
         if kind == SCROLLED and min(width, height) > 8:
-            self.parts.append(rectangle(x + 3, y + 3, width - 6, height - 6, 'fill="none" stroke="#1c4a86" stroke-width="1"'))
+            self.parts.append(rectangle(x + 3, y + 3, width - 6, height - 6, f'fill="none" stroke="{LINES[SCROLLED]}" stroke-width="1"'))
+
+    def covers(self, over, box):
+        """whether a box is drawn over a part of another"""
+        drawn = self.screen.drawn_last
+        return drawn[over.node] > drawn[box.node] and overlap(self.at(over.span()), self.at(box.span())) > 0
+
+    def boxes(self, boxes):
+        """All in their drawing order, and then the outlines of those of which others cover a part. Answers these lines."""
+        for node, _ in self.screen.drawing_order:
+            if self.screen.by_node[node] in boxes:
+                self.box(self.screen.by_node[node])
+        lines = []
+        for box in boxes:
+            if any(self.covers(over, box) for over in boxes):
+                self.kinds.add("covered")
+                self.rect(box.span(), covered_style(box.kind()))
+                lines += lines_of(self.at(box.span()), 3)
+        return lines
 
     # labels
 
     def label(self, box):
         """the lines of a label, the longer and the shorter form"""
-        name, kind = self.screen.called(box), box.kind()
-        if kind == UNSEEN:
-            return [[f"{name}: unseen"], [name, "unseen"], [name]]
-        if kind == REFUSED:
-            return [[f"{name}: refused 9"], [name, "refused 9"], [name]]
+        name, layer, kind = self.screen.called(box), self.screen.layer_said(box), box.kind()
+        head, tail = f"{name}, {layer}" if layer else name, {UNSEEN: ["unseen"], REFUSED: ["refused 9"]}.get(kind, [])
         if kind == SCROLLED:
-            ways = [f"{a} {pixels(n)}" for n, a in ((box.scroll[0], "\u2190" if self.screen.rtl else "\u2192"), (box.scroll[1], "\u2193")) if n]
-            return [[f"{name}: {'  '.join(ways)}"], [name, *ways], [name, "  ".join(ways)], [name]]
-        return [[name]]
+            tail = [f"{a} {pixels(n)}" for n, a in ((box.scroll[0], "\u2190" if self.screen.rtl else "\u2192"), (box.scroll[1], "\u2193")) if n]
+        forms = [[f"{head}: {'  '.join(tail)}"], [head, *tail], [head, "  ".join(tail)]] if tail else [[head]]
+        if layer:
+            forms.append([name, layer, *tail])
+        return [list(form) for form in dict.fromkeys(map(tuple, [*forms, [name]]))]
 
-    def labels(self, boxes, area):
+    def labels(self, boxes, area, dotted):
         """Each label where it costs least: in its box or beside it, clear of lines, of other boxes and labels. Answers where they stand."""
         spans, taken = [self.at(b.span()) for b in boxes], []
         crowded = len(boxes) > MANY
         order = sorted(range(len(boxes)), key=lambda k: (UNSEEN, REFUSED, SCROLLED, SEEN).index(boxes[k].kind()))
         for k in order:
             best, outside = None, boxes[k].kind() == UNSEEN and not overlap(spans[k], area)
+            others = [j for j in range(len(boxes)) if j != k]
+            below = {j for j in others if self.covers(boxes[k], boxes[j])}
             forms = self.label(boxes[k])
             for rank, lines in enumerate(forms):
                 for inner, rect in self.spots(spans[k], lines, crowded):
                     cost = (120 if lines == forms[-1] and rank else 6 * rank) + (0 if inner else 40)
-                    cost += sum(8 * overlap(rect, t) for t in taken) + sum(0.6 * overlap(rect, o) for j, o in enumerate(spans) if j != k)
+                    cost += sum(8 * overlap(rect, t) for t in taken) + sum(2 * overlap(rect, line) for line in dotted)
+                    # in its box a label may stand over those that the box covers
+                    cost += sum(0.6 * overlap(rect, spans[j]) for j in others if not (inner and j in below))
                     cost += 0 if inner else sum(1.5 * overlap(rect, o) for o in self.obstacles) + (0.2 * overlap(rect, area) if outside else 0)
                     cost = round(cost + 50 * (rect[2] * rect[3] - overlap(rect, self.frame)), 3)
                     if best is None or cost < best[0]:
@@ -481,7 +542,9 @@ class Drawing:
         wide, high = max(width_of(line, TEXT, True) for line in lines) + 8, len(lines) * 15 + 4
         if wide <= width and high <= height:
             yield True, (x + (width - wide) / 2, y + (height - high) / 2, wide, high)
-            for corner in ((x + 2, y + 1), (x + width - wide - 2, y + 1), (x + 2, y + height - high - 1), (x + width - wide - 2, y + height - high - 1)):
+            edge_x, edge_y = min(4, (width - wide) / 2), min(4, (height - high) / 2)
+            left, right, top, bottom = x + edge_x, x + width - wide - edge_x, y + edge_y, y + height - high - edge_y
+            for corner in ((left, top), (right, top), (left, bottom), (right, bottom)):
                 yield True, (*corner, wide, high)
         if crowded:
             return
@@ -530,14 +593,19 @@ def arrow(x0, y0, x1, y1):
 def sample(kind, x, y, width, height):
     out = rectangle(x + 1, y, width - 2, height, STYLES[kind])
     if kind == SCROLLED:
-        out += rectangle(x + 4, y + 3, width - 8, height - 6, 'fill="none" stroke="#1c4a86" stroke-width="1"')
+        out += rectangle(x + 4, y + 3, width - 8, height - 6, f'fill="none" stroke="{LINES[SCROLLED]}" stroke-width="1"')
     return out
+
+
+def covered_style(kind):
+    return f'fill="none" stroke="{LINES[kind]}" stroke-width="1.2" stroke-dasharray="1.5 3.5"'
 
 
 # ---- the whole picture
 
 
-def legend(drawings, width):
+def legend_rows(drawings):
+    """(style, sentence) for each kind of rectangle in the picture"""
     kinds = set().union(*(d.kinds for d in drawings))
     rtl = any(not d.screen.refusal and d.screen.rtl for d in drawings)
     ltr = any(not d.screen.refusal and not d.screen.rtl for d in drawings)
@@ -555,6 +623,13 @@ def legend(drawings, width):
                        (UNSEEN, "A box that no scrolling brings up: unseen."), (REFUSED, "A box without a verdict: refused 9, a number is no whole eighth of a pixel.")):
         if kind in kinds or any(kind == k for d in drawings if not d.screen.refusal for k, _ in notes_of(d.screen)):
             rows.append((STYLES[kind], text))
+    if "covered" in kinds:
+        rows.append((covered_style(SEEN), "Where a box is covered: those over it are drawn later."))
+    return rows
+
+
+def legend(drawings, width):
+    rows = legend_rows(drawings)
     if not rows:
         return [], 0
     parts, y = [], 0
@@ -569,7 +644,7 @@ def legend(drawings, width):
             x = c * (wide + GAP)
             parts.append(rectangle(x + 1, at + 3, 26, 14, style))
             if style == STYLES[SCROLLED]:
-                parts.append(rectangle(x + 4, at + 6, 20, 8, 'fill="none" stroke="#1c4a86" stroke-width="1"'))
+                parts.append(rectangle(x + 4, at + 6, 20, 8, f'fill="none" stroke="{LINES[SCROLLED]}" stroke-width="1"'))
             for line in wrapped(text, wide - 38):
                 parts.append(said(x + 38, at + 15, line))
                 at += LINE
