@@ -183,7 +183,8 @@ class Screen:
         """nothing where all are on layer 0"""
         if not self.layered:
             return ""
-        return f"layer{'s' if len(box.layers) > 1 else ''} {listing([str(layer) for layer in sorted(box.layers)])}"
+        layers = sorted(set(box.layers))
+        return f"layer{'s' if len(layers) > 1 else ''} {listing([str(layer) for layer in layers])}"
 
     def scrolls(self, axis):
         return self.codes[axis] in ("hidden", "scroll")
