@@ -13,6 +13,7 @@ use Rattle.screen_fields.specs.declared.format.Kind.the-variants.{Code, 
 use Rattle.screen_fields.specs.declared.format.Line.{Line}
 use Rattle.screen_fields.specs.declared.format.Line.the-variants.{First, Item, Candidate}
 use Rattle.screen_fields.specs.Format.{isFloat, headerWidth, firstFields, styleFields, replyWidth, replyFields, candidateFields, fieldsOf, bytesOf, FIRST-BYTES, ITEM-BYTES, CANDIDATE-BYTES}
+use Rattle.screen_fields.specs.Laws.{CandidateLine, BytesByWidths}
 use Rattle.screen_fields.proofs.Text.{apart}
 
 -- the test that the code makes
@@ -100,3 +101,12 @@ item-bytes = rw item-width refl
 pub candidate-bytes : bytesOf Candidate ≡ CANDIDATE-BYTES
 unfolding bytesOf
 candidate-bytes = rw candidate-width refl
+
+-- ---- laws of the lines
+
+pub candidate-line : CandidateLine
+unfolding fieldsOf candidateFields isFloat
+candidate-line = (refl, λ n. refl)
+
+pub bytes-by-widths : BytesByWidths
+bytes-by-widths = (first-bytes, item-bytes, candidate-bytes)

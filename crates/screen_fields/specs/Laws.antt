@@ -3,18 +3,21 @@
 use Prim.Native.Nat.{ℕ, _+_, _-_, _*_, _<_, _≤_}
 use mathlib.Core.Path.{_≡_}
 use mathlib.Core.Bool.{Bool, true, false, _&&_}
-use mathlib.Core.List.{List, [], _∷_, _++_}
+use mathlib.Core.List.{List, [], _∷_, _++_, map}
 use lib.ListN.{length, replicate}
 use lib.Ieee.{Float, ofBits, toBits, binary32}
 use Rattle.util.specs.declared.eighths.Count.the-variants.{Whole}
 use Rattle.util.specs.Eighths.{eighths, countOf}
+use Rattle.records.specs.Records as records
+use Rattle.tree_record.specs.Candidate.{candidateKinds}
 use Rattle.boxlist_lines.specs.declared.Ink.the-variants.{Digits}
 use Rattle.boxlist_lines.specs.Column.{cells, countInk, eighthsText, codeText}
 use Rattle.screen_fields.specs.declared.format.Kind.{Kind}
 use Rattle.screen_fields.specs.declared.format.Kind.the-variants.{Code, Eighths}
+use Rattle.screen_fields.specs.declared.format.Line.the-variants.{First, Item, Candidate}
 use Rattle.screen_fields.specs.declared.field.Numeral.the-variants.{Malformed, Number}
 use Rattle.screen_fields.specs.declared.field.Word.the-variants.{Of}
-use Rattle.screen_fields.specs.Format.{COLUMNS}
+use Rattle.screen_fields.specs.Format.{isFloat, fieldsOf, COLUMNS, bytesOf, FIRST-BYTES, ITEM-BYTES, CANDIDATE-BYTES}
 use Rattle.screen_fields.specs.Field.{isDigit, numeralOf, wordOf}
 
 -- ---- a field
@@ -107,3 +110,20 @@ ListedCount = (x : Float) (s : Bool) (n : ℕ) → countOf x ≡ Whole s n → n
 
 abbrev pub ListedCode : Type 0
 ListedCode = (n : ℕ) → n ≤ 9999999 → numeralOf (codeText n) ≡ Number false n
+
+-- ---- lines
+
+-- a word of a record is a float
+abbrev pub holdsFloat : records.Kind → Bool
+holdsFloat (records.below limit) = false
+holdsFloat records.whole = false
+holdsFloat records.float = true
+
+-- request #104, "candidate lines of the screen file have 14 fields": one for each word of the record, a float in eighths exactly where the word
+-- is a float, else a code
+abbrev pub CandidateLine : Type 0
+CandidateLine = (length (fieldsOf Candidate) ≡ 14) × ((n : ℕ) → map isFloat (fieldsOf Candidate) ≡ map holdsFloat (candidateKinds n))
+
+-- the bytes of each line, by the records' widths
+abbrev pub BytesByWidths : Type 0
+BytesByWidths = (bytesOf First ≡ FIRST-BYTES) × (bytesOf Item ≡ ITEM-BYTES) × (bytesOf Candidate ≡ CANDIDATE-BYTES)
