@@ -1,6 +1,6 @@
 #!/usr/bin/env python3
-"""Holds every number of hosts/c/oof.h, the state's words of hosts/rust/src/ffi.rs, and what both hosts call the words of a style
-to the definitions in crates/*/specs.
+"""Holds every number of hosts/c/oof.h, the state's words and the widths of hosts/rust/src, and what both hosts call the words of a
+style to the definitions in crates/*/specs.
 
     hosts/words.py [HEADER]
 
@@ -53,6 +53,7 @@ SIDES = ["LEFT", "RIGHT", "TOP", "BOTTOM"]
 known = {}
 for name in ("lengthWords", "lengths", "codeWords", "afterLengths", "styleWords"):
     known[name] = eval(body(RECORD, name)[0][1], {}, known)
+known["layerWord"] = number(CANDIDATE, "layerWord")
 
 
 def place(record, field, at):
@@ -99,7 +100,7 @@ def style_names():
 
 def candidate():
     record, axis = body(CANDIDATE, "candidateOf")[0][1], body(CANDIDATE, "axisOf")[0][1]
-    out = {"NODE": place(record, "node", "getD"), "ORDER": place(record, "order", "getD"), "POSITION": place(record, "position", "getD")}
+    out = {field.upper(): place(record, field, "getD") for field in ("node", "order", "position", "layer")}
     ends = re.search(r"area = floatAt r (k|\([^()]*\)) to floatAt r (k|\([^()]*\))", axis)
     inner = {"START": ends[1], "END": ends[2]}
     for field, name in (("keyword", "EDGE"), ("safety", "SAFETY"), ("fallback", "FALLBACK")):
@@ -212,6 +213,7 @@ def wanted():
     assert count("measureWords") == count("layOutWords") == count("finishWords")
     refusals = text("run/specs/Refusals.antt")
     out |= {"MOST_ITEMS": int(re.search(r"ltb (\d+) \(items", refusals)[1]), "MOST_RECORDS": int(re.search(r"ltb (\d+) \(length list", refusals)[1])}
+    out["MOST_LAYER"] = int(re.findall(r"\bbelow (\d+)", body(CANDIDATE, "candidateKinds")[0][1])[-1]) - 1
     # those of the entries: 7 and 8 belong to parts that have none
     out |= {k: v for k, v in codes("refusal/specs/Refusal.antt", "numberOf", "").items() if v not in (7, 8)} | {"ACCEPTED": 0}
     style_codes, record_codes = "style/specs/Codes.antt", "tree_record/specs/Codes.antt"
@@ -234,8 +236,14 @@ def main():
     wrong = [f"{n} is {found.get(n, 'missing')}, by the definitions {want.get(n, 'unknown')}" for n in sorted(found | want) if found.get(n) != want.get(n)]
     names = {"PROGRESS": "PROGRESS", "KEYWORD_REPLY": "KEYWORD", "FILL_REPLY": "FILL", "FILLED_WORKING": "WORKING", "FILLED_UNCLAIMED": "UNCLAIMED",
              "BEGUN": "BEGUN", "ANSWERED": "ANSWERED", "OVERFLOW": "OVERFLOW", "AREA": "AREA", "CODES": "DIRECTION", "LENGTHS": "LENGTHS"}
-    rust = dict(re.findall(r"^    pub const (\w+): usize = (\d+);", (root / "hosts/rust/src/ffi.rs").read_text(), re.M))
-    wrong += [f"ffi.rs: {n} is {rust.get(n)}" for n in sorted(rust | names) if int(rust.get(n, -1)) != want.get("OOF_STATE_" + names.get(n, ""))]
+    names = {"state::" + n: "STATE_" + to for n, to in names.items()}
+    names |= {"STYLE": "STYLE_WORDS", "CANDIDATE": "CANDIDATE_WORDS", "LAYER": "CANDIDATE_LAYER", "LAYOUT": "LAYOUT_WORDS", "STATE": "STATE_WORDS",
+              "ANSWER": "ANSWER_WORDS", "EDGES": "PIXEL_EDGES", "VERDICT": "REACH_WORDS", "FOUND": "FOUND_WORDS"}
+    rust = {}
+    for file in ("ffi.rs", "words.rs"):
+        numbers = re.findall(r"^(    )?pub const (\w+): usize = (\d+);", (root / "hosts/rust/src" / file).read_text(), re.M)
+        rust |= {("state::" if inner else "") + n: int(v) for inner, n, v in numbers}
+    wrong += [f"Rust: {n} is {rust.get(n, 'missing')}" for n in sorted(rust | names) if rust.get(n) != want.get("OOF_" + names.get(n, ""))]
     called = style_names()
     for path, table in ((header, r"names\[OOF_STYLE_WORDS\] = \{(.*?)\};"), (root / "hosts/rust/src/bad_word.rs", r"NAMES: \[&str; STYLE\] = \[(.*?)\];")):
         said = re.findall(r'"([^"]*)"', re.search(table, path.read_text(), re.S)[1])

@@ -1,7 +1,7 @@
 /* An English panel and its Arabic mirror image, placed by callbacks and printed side by side. A label stands 20 pixels from
  * the start edge and 12 from the top of an 800 by 480 panel, which scrolls and stands at 100, 40 of its window; its size is
- * what the font says. Then the note of the incident (README.md at the root of the repository), in the panel's pixels. Of both
- * it is said whether scrolling can bring them into view. */
+ * what the font says. Then the incident's panel (README.md at the root of the repository): the same label, and a note on the layer
+ * above it, in the panel's pixels. Of both boxes it is said whether scrolling can bring them into view, and which is drawn first. */
 #include <stdio.h>
 #include <stdlib.h>
 #include "oof.h"
@@ -21,14 +21,16 @@ typedef struct {
 /* ---- a panel: the words of one run, and what was said */
 
 enum { LINES = 4, COLUMN = 96 };
+enum { LABEL = 0, NOTE = 1, NODES = 2 };
 
 typedef struct {
     uint32_t direction;
-    uint32_t styles[OOF_STYLE_WORDS];
-    uint32_t candidates[OOF_CANDIDATE_WORDS];
-    uint32_t layouts[OOF_LAYOUT_WORDS];
-    uint32_t working[OOF_CANDIDATE_WORDS];
-    uint32_t unclaimed[OOF_CANDIDATE_WORDS];
+    size_t boxes; /* items, and records of each list */
+    uint32_t styles[NODES * OOF_STYLE_WORDS];
+    uint32_t candidates[NODES * OOF_CANDIDATE_WORDS];
+    uint32_t layouts[NODES * OOF_LAYOUT_WORDS];
+    uint32_t working[NODES * OOF_CANDIDATE_WORDS];
+    uint32_t unclaimed[NODES * OOF_CANDIDATE_WORDS];
     uint32_t state[OOF_STATE_WORDS];
     uint32_t answer[OOF_ANSWER_WORDS];
     char said[LINES][COLUMN];
@@ -37,75 +39,75 @@ typedef struct {
 
 /* the words that every call is lent */
 #define SLICES(p)                                                                                                     \
-    (p)->styles, OOF_STYLE_WORDS, (p)->layouts, OOF_LAYOUT_WORDS, (p)->working, OOF_CANDIDATE_WORDS, (p)->unclaimed,   \
-        OOF_CANDIDATE_WORDS, (p)->state
+    (p)->styles, (p)->boxes * OOF_STYLE_WORDS, (p)->layouts, (p)->boxes * OOF_LAYOUT_WORDS, (p)->working,               \
+        (p)->boxes * OOF_CANDIDATE_WORDS, (p)->unclaimed, (p)->boxes * OOF_CANDIDATE_WORDS, (p)->state
 #define LENT(p) SLICES(p), (p)->answer
 
 static const float panel_x = 100, panel_y = 40, panel_width = 800, panel_height = 480;
 
-/* a box whose lengths are auto or 0, but for those of its panel */
-static panel panel_of(uint32_t direction)
+/* where a box would stand in x without insets: at one point, in the window's coordinates */
+static void stand_at(uint32_t *candidate, float x, uint32_t edge)
+{
+    candidate[OOF_CANDIDATE_X_START] = candidate[OOF_CANDIDATE_X_END] = oof_word(x);
+    candidate[OOF_CANDIDATE_X_EDGE] = candidate[OOF_CANDIDATE_X_FALLBACK] = edge;
+}
+
+/* a box whose lengths are auto or 0, at the panel's start edge; its style is yet to be filled in */
+static uint32_t *add_box(panel *p, uint32_t node, uint32_t layer)
+{
+    uint32_t *style = p->styles + node * OOF_STYLE_WORDS, *candidate = p->candidates + p->boxes++ * OOF_CANDIDATE_WORDS;
+    for (size_t at = OOF_STYLE_INSET_LEFT; at <= OOF_STYLE_INSET_BOTTOM; at += 2)
+        oof_set_length(style, at, OOF_TAG_AUTO, 0);
+    for (size_t at = OOF_STYLE_MARGIN_LEFT; at <= OOF_STYLE_BORDER_BOTTOM; at += 2)
+        oof_set_length(style, at, OOF_TAG_PX, 0);
+    for (size_t at = OOF_STYLE_WIDTH; at <= OOF_STYLE_MAX_HEIGHT; at += 2)
+        oof_set_length(style, at, OOF_TAG_AUTO, 0);
+    style[OOF_STYLE_DIRECTION] = p->direction;
+    style[OOF_STYLE_JUSTIFY] = style[OOF_STYLE_ALIGN] = OOF_ALIGN_ABSENT;
+    candidate[OOF_CANDIDATE_NODE] = node;
+    candidate[OOF_CANDIDATE_POSITION] = OOF_POSITION_ABSOLUTE;
+    candidate[OOF_CANDIDATE_LAYER] = layer;
+    candidate[OOF_CANDIDATE_Y_START] = candidate[OOF_CANDIDATE_Y_END] = oof_word(panel_y);
+    if (p->direction == OOF_DIRECTION_LTR)
+        stand_at(candidate, panel_x, OOF_EDGE_START);
+    else /* reflected in the panel */
+        stand_at(candidate, panel_x + panel_width, OOF_EDGE_END);
+    return style;
+}
+
+/* the label; in an Arabic panel its mirror image: direction flipped, left and right exchanged */
+static void add_label(panel *p)
+{
+    uint32_t *style = add_box(p, LABEL, 0);
+    int ltr = p->direction == OOF_DIRECTION_LTR;
+    oof_set_length(style, OOF_STYLE_INSET_TOP, OOF_TAG_PX, 12);
+    oof_set_length(style, ltr ? OOF_STYLE_INSET_LEFT : OOF_STYLE_INSET_RIGHT, OOF_TAG_PX, 20);
+    oof_set_length(style, ltr ? OOF_STYLE_PADDING_LEFT : OOF_STYLE_PADDING_RIGHT, OOF_TAG_PX, 8);
+    oof_set_length(style, ltr ? OOF_STYLE_PADDING_RIGHT : OOF_STYLE_PADDING_LEFT, OOF_TAG_PX, 16);
+}
+
+/* the note, 320 by 96: it ends 8 pixels before what it speaks of, and that stands in the panel's first column. It is drawn over
+ * labels, wherever it stands in the hoisted order */
+static void add_note(panel *p)
+{
+    uint32_t *style = add_box(p, NOTE, 1);
+    int ltr = p->direction == OOF_DIRECTION_LTR;
+    oof_set_length(style, OOF_STYLE_INSET_TOP, OOF_TAG_PX, 200);
+    oof_set_length(style, ltr ? OOF_STYLE_INSET_RIGHT : OOF_STYLE_INSET_LEFT, OOF_TAG_PX, panel_width);
+    oof_set_length(style, ltr ? OOF_STYLE_MARGIN_RIGHT : OOF_STYLE_MARGIN_LEFT, OOF_TAG_PX, 8);
+    oof_set_length(style, OOF_STYLE_WIDTH, OOF_TAG_PX, 320);
+    oof_set_length(style, OOF_STYLE_HEIGHT, OOF_TAG_PX, 96);
+}
+
+/* a panel with the label, and with the note before it if that is asked for */
+static panel panel_with(uint32_t direction, int with_note)
 {
     panel p;
     memset(&p, 0, sizeof p); /* a state of zeros is a finished run */
     p.direction = direction;
-    for (size_t at = OOF_STYLE_INSET_LEFT; at <= OOF_STYLE_INSET_BOTTOM; at += 2)
-        oof_set_length(p.styles, at, OOF_TAG_AUTO, 0);
-    for (size_t at = OOF_STYLE_MARGIN_LEFT; at <= OOF_STYLE_BORDER_BOTTOM; at += 2)
-        oof_set_length(p.styles, at, OOF_TAG_PX, 0);
-    for (size_t at = OOF_STYLE_WIDTH; at <= OOF_STYLE_MAX_HEIGHT; at += 2)
-        oof_set_length(p.styles, at, OOF_TAG_AUTO, 0);
-    p.styles[OOF_STYLE_DIRECTION] = direction;
-    p.styles[OOF_STYLE_JUSTIFY] = OOF_ALIGN_ABSENT;
-    p.styles[OOF_STYLE_ALIGN] = OOF_ALIGN_ABSENT;
-    p.candidates[OOF_CANDIDATE_POSITION] = OOF_POSITION_ABSOLUTE;
-    p.candidates[OOF_CANDIDATE_Y_START] = oof_word(panel_y);
-    p.candidates[OOF_CANDIDATE_Y_END] = oof_word(panel_y);
-    return p;
-}
-
-/* where the box would stand in x without insets: at one point, in the window's coordinates */
-static void stand_at(panel *p, float x, uint32_t edge)
-{
-    p->candidates[OOF_CANDIDATE_X_START] = oof_word(x);
-    p->candidates[OOF_CANDIDATE_X_END] = oof_word(x);
-    p->candidates[OOF_CANDIDATE_X_EDGE] = edge;
-    p->candidates[OOF_CANDIDATE_X_FALLBACK] = edge;
-}
-
-static panel english(void)
-{
-    panel p = panel_of(OOF_DIRECTION_LTR);
-    oof_set_length(p.styles, OOF_STYLE_INSET_TOP, OOF_TAG_PX, 12);
-    oof_set_length(p.styles, OOF_STYLE_INSET_LEFT, OOF_TAG_PX, 20);
-    oof_set_length(p.styles, OOF_STYLE_PADDING_LEFT, OOF_TAG_PX, 8);
-    oof_set_length(p.styles, OOF_STYLE_PADDING_RIGHT, OOF_TAG_PX, 16);
-    stand_at(&p, panel_x, OOF_EDGE_START);
-    return p;
-}
-
-/* the mirror image: direction flipped, left and right exchanged, the static position reflected in the panel */
-static panel arabic(void)
-{
-    panel p = panel_of(OOF_DIRECTION_RTL);
-    oof_set_length(p.styles, OOF_STYLE_INSET_TOP, OOF_TAG_PX, 12);
-    oof_set_length(p.styles, OOF_STYLE_INSET_RIGHT, OOF_TAG_PX, 20);
-    oof_set_length(p.styles, OOF_STYLE_PADDING_LEFT, OOF_TAG_PX, 16);
-    oof_set_length(p.styles, OOF_STYLE_PADDING_RIGHT, OOF_TAG_PX, 8);
-    stand_at(&p, panel_x + panel_width, OOF_EDGE_END);
-    return p;
-}
-
-/* the note of the incident, 320 by 96: it ends 8 pixels before what it speaks of, and that stands in the panel's first column */
-static panel note(uint32_t direction)
-{
-    panel p = panel_of(direction);
-    int ltr = direction == OOF_DIRECTION_LTR;
-    oof_set_length(p.styles, OOF_STYLE_INSET_TOP, OOF_TAG_PX, 200);
-    oof_set_length(p.styles, ltr ? OOF_STYLE_INSET_RIGHT : OOF_STYLE_INSET_LEFT, OOF_TAG_PX, panel_width);
-    oof_set_length(p.styles, ltr ? OOF_STYLE_MARGIN_RIGHT : OOF_STYLE_MARGIN_LEFT, OOF_TAG_PX, 8);
-    oof_set_length(p.styles, OOF_STYLE_WIDTH, OOF_TAG_PX, 320);
-    oof_set_length(p.styles, OOF_STYLE_HEIGHT, OOF_TAG_PX, 96);
+    if (with_note)
+        add_note(&p);
+    add_label(&p);
     return p;
 }
 
@@ -186,10 +188,11 @@ static uint32_t answer_question(panel *p, const host *h)
 static uint32_t place(panel *p)
 {
     const host toolkit = {p, measure_label, lay_out_label};
+    const size_t records = p->boxes * OOF_CANDIDATE_WORDS;
     uint32_t result = oof_open(panel_width, panel_height, panel_x, panel_y, p->direction, OOF_CLAIMS_ABSOLUTE,
-                               OOF_OVERFLOW_SCROLL, OOF_OVERFLOW_SCROLL, p->styles, OOF_STYLE_WORDS, p->candidates,
-                               OOF_CANDIDATE_WORDS, p->layouts, OOF_LAYOUT_WORDS, p->working, OOF_CANDIDATE_WORDS,
-                               p->unclaimed, OOF_CANDIDATE_WORDS, p->state, p->answer);
+                               OOF_OVERFLOW_SCROLL, OOF_OVERFLOW_SCROLL, p->styles, p->boxes * OOF_STYLE_WORDS, p->candidates,
+                               records, p->layouts, p->boxes * OOF_LAYOUT_WORDS, p->working, records, p->unclaimed, records,
+                               p->state, p->answer);
     while (result == OOF_ACCEPTED && p->answer[OOF_ANSWER_KIND] != OOF_FINISH)
         result = answer_question(p, &toolkit);
     return result;
@@ -230,11 +233,11 @@ static void print_both(const panel *e, const panel *a)
     row("  padding", text[2][0], text[2][1]);
 }
 
-/* the pixel edges of the box, from the panel's corner */
-static const char *pixels(const panel *p, char *text, size_t room)
+/* the pixel edges of a box, from the panel's corner */
+static const char *pixels(const panel *p, uint32_t node, char *text, size_t room)
 {
     int32_t edges[OOF_PIXEL_EDGES];
-    uint32_t result = oof_pixels(p->layouts, panel_x, panel_y, edges);
+    uint32_t result = oof_pixels(p->layouts + node * OOF_LAYOUT_WORDS, panel_x, panel_y, edges);
     if (result != OOF_ACCEPTED)
         return oof_refusal_name(result);
     snprintf(text, room, "%d to %d, %d to %d", (int)edges[OOF_PIXEL_LEFT], (int)edges[OOF_PIXEL_RIGHT],
@@ -242,11 +245,17 @@ static const char *pixels(const panel *p, char *text, size_t room)
     return text;
 }
 
-/* whether scrolling can bring the box into view, and the least offsets that do, in pixels */
-static const char *reach(const panel *p, char *text, size_t room)
+/* the node of the box at a place of the hoisted order */
+static uint32_t node_at(const panel *p, size_t place)
+{
+    return p->working[place * OOF_CANDIDATE_WORDS + OOF_CANDIDATE_NODE];
+}
+
+/* whether scrolling can bring the box at a place into view, and the least offsets that do, in pixels */
+static const char *reach(const panel *p, size_t place, char *text, size_t room)
 {
     uint32_t verdict[OOF_REACH_WORDS];
-    uint32_t result = oof_reach(0, SLICES(p), verdict);
+    uint32_t result = oof_reach(place, SLICES(p), verdict);
     if (result != OOF_ACCEPTED)
         return oof_refusal_name(result);
     if (verdict[OOF_REACH_KIND] == OOF_UNSEEN)
@@ -255,11 +264,27 @@ static const char *reach(const panel *p, char *text, size_t room)
     return text;
 }
 
+/* of the first box of each panel */
 static void print_pixels_and_reach(const char *pixels_of, const char *reach_of, const panel *e, const panel *a)
 {
     char text[2][COLUMN];
-    row(pixels_of, pixels(e, text[0], COLUMN), pixels(a, text[1], COLUMN));
-    row(reach_of, reach(e, text[0], COLUMN), reach(a, text[1], COLUMN));
+    row(pixels_of, pixels(e, node_at(e, 0), text[0], COLUMN), pixels(a, node_at(a, 0), text[1], COLUMN));
+    row(reach_of, reach(e, 0, text[0], COLUMN), reach(a, 0, text[1], COLUMN));
+}
+
+/* the boxes as they are drawn, each with its place in the hoisted order */
+static const char *drawn(const panel *p, char *text, size_t room)
+{
+    static const char *const names[NODES] = {"label", "note"};
+    uint32_t order[NODES];
+    size_t boxes = p->state[OOF_STATE_WORKING], length = 0;
+    uint32_t result = oof_drawing_order(SLICES(p), order, boxes);
+    if (result != OOF_ACCEPTED)
+        return oof_refusal_name(result);
+    for (size_t k = 0; k < boxes && length < room; k++)
+        length += (size_t)snprintf(text + length, room - length, "%s%s, place %u", k ? "; " : "", names[node_at(p, order[k])],
+                                   (unsigned)order[k]);
+    return text;
 }
 
 /* a reply that no question waits for: refused, and no word is written */
@@ -274,8 +299,10 @@ static int refused_by_name(panel *p)
 
 int main(void)
 {
-    panel e = english(), a = arabic(), note_e = note(OOF_DIRECTION_LTR), note_a = note(OOF_DIRECTION_RTL);
-    panel *all[4] = {&e, &a, &note_e, &note_a};
+    panel e = panel_with(OOF_DIRECTION_LTR, 0), a = panel_with(OOF_DIRECTION_RTL, 0);
+    panel incident_e = panel_with(OOF_DIRECTION_LTR, 1), incident_a = panel_with(OOF_DIRECTION_RTL, 1);
+    panel *all[4] = {&e, &a, &incident_e, &incident_a};
+    char text[2][COLUMN];
     for (int k = 0; k < 4; k++) {
         uint32_t result = place(all[k]);
         if (result != OOF_ACCEPTED) {
@@ -285,7 +312,8 @@ int main(void)
     }
     print_both(&e, &a);
     print_pixels_and_reach("  pixels", "  verdict", &e, &a);
-    print_pixels_and_reach("note, pixels", "note, verdict", &note_e, &note_a);
+    print_pixels_and_reach("note, pixels", "note, verdict", &incident_e, &incident_a);
+    row("drawing order", drawn(&incident_e, text[0], COLUMN), drawn(&incident_a, text[1], COLUMN));
     float x = layout(&e, OOF_LAYOUT_X), image = layout(&a, OOF_LAYOUT_X), width = layout(&e, OOF_LAYOUT_WIDTH);
     int mirrored = x + image + width == 2 * panel_x + panel_width;
     printf("%g + %g + %g is %g: %s\n", x, image, width, x + image + width, mirrored ? "mirrored" : "NOT MIRRORED");

@@ -2,8 +2,8 @@
  *
  * A host opens a run with oof_open, reads the question that stands in the answer's words, and replies with the entry of
  * that question's kind, until the answer is a finish. Then the layouts hold each placed box. oof_reach says of each whether
- * scrolling can bring it into view. oof_pixels rounds a layout to whole pixels, and oof_first_bad_word says which word of a
- * table of styles breaks a code rule; they belong to no run.
+ * scrolling can bring it into view, and oof_drawing_order in which order to draw them. oof_pixels rounds a layout to whole
+ * pixels, and oof_first_bad_word says which word of a table of styles breaks a code rule; they belong to no run.
  *
  *     result = oof_open(.., state, answer);
  *     while (result == 0 && answer[OOF_ANSWER_KIND] != OOF_FINISH)
@@ -12,12 +12,14 @@
  *         result = oof_pixels(layouts + OOF_LAYOUT_WORDS * node, x, y, edges);
  *     if (result == 0)
  *         result = oof_reach(place, .., state, verdict);
+ *     if (result == 0)
+ *         result = oof_drawing_order(.., state, order, state[OOF_STATE_WORKING]);
  *
  * RESULT. That of oof_first_bad_word is 1 or 0 and no refusal: item and word are written, or nothing is. Of every other
  * entry 0: the call was accepted, and the answer's words say what comes next (of oof_pixels: the edges are written; of
- * oof_reach: the verdict). 1 to 6, and 9, of oof_pixels and oof_reach alone: it was refused, for the reason of that number
- * (enum oof_refusal), and NO LENT WORD WAS WRITTEN: layouts, lists, answer, edges and verdict keep every bit. 7 and 8 are
- * refusals of parts that have no entry here. What stands in the state's words after a refusal:
+ * oof_reach: the verdict; of oof_drawing_order: the order). 1 to 6, and 9, of oof_pixels and oof_reach alone: it was refused,
+ * for the reason of that number (enum oof_refusal), and NO LENT WORD WAS WRITTEN: layouts, lists, answer, edges, verdict and
+ * order keep every bit. 7 and 8 are refusals of parts that have no entry here. What stands in the state's words after a refusal:
  *   - after a refused reply, what stood there before, bit for bit, so the reply can be mended and made again;
  *   - after a refused opening, a finished run with all counts 0, so that no reply is taken until an opening is accepted.
  *     A run that stood in these words before is given up by any opening.
@@ -50,15 +52,16 @@ extern "C" {
 
 enum {
     OOF_STYLE_WORDS = 57,
-    OOF_CANDIDATE_WORDS = 13,
+    OOF_CANDIDATE_WORDS = 14,
     OOF_LAYOUT_WORDS = 23,
     OOF_STATE_WORDS = 27,
     OOF_ANSWER_WORDS = 10,
     OOF_PIXEL_EDGES = 4,
     OOF_REACH_WORDS = 3,
     OOF_FOUND_WORDS = 2,
-    OOF_MOST_ITEMS = 1024,  /* of a table of styles */
-    OOF_MOST_RECORDS = 4096 /* of a working or an unclaimed list */
+    OOF_MOST_ITEMS = 1024,   /* of a table of styles */
+    OOF_MOST_RECORDS = 4096, /* of a working or an unclaimed list */
+    OOF_MOST_LAYER = 255     /* of a candidate */
 };
 
 /* ---- refusals */
@@ -67,13 +70,13 @@ enum oof_refusal {
     OOF_ACCEPTED = 0,
     OOF_BAD_AREA = 1,      /* an opening's direction, claims or overflow code is outside its list */
     OOF_BAD_EXTENT = 2,    /* a slice isn't whole records, is too long, or has another length than at the opening; or, of
-                              oof_reach, no box has that place */
+                              oof_reach, no box has that place; of oof_drawing_order, the order isn't one word a box */
     OOF_BAD_STYLE = 3,     /* a tag or code that its field doesn't take, in any item of the table; oof_first_bad_word says
                               which */
-    OOF_BAD_CANDIDATE = 4, /* a node outside the table, or a code outside its list */
+    OOF_BAD_CANDIDATE = 4, /* a node outside the table, a code outside its list, or a layer above OOF_MOST_LAYER */
     OOF_LIST_FULL = 5,     /* the claimed or the unclaimed records would exceed their list */
     OOF_WRONG_REPLY = 6,   /* not the open question's kind, no question open, or a state whose counts don't fit; of
-                              oof_reach, a question open, or such counts */
+                              oof_reach and oof_drawing_order, a question open, or such counts */
     OOF_NOT_IN_EIGHTHS = 9 /* of oof_pixels and oof_reach: a number that isn't a whole eighth, or is above 9,999,999 eighths
                               in size */
 };
@@ -226,9 +229,14 @@ static inline void oof_set_length(uint32_t *style, size_t at, uint32_t tag, floa
     style[at + 1] = oof_word(value);
 }
 
-/* ---- a candidate, 13 words. Its static area is where the box would stand without insets, in THE CALLER'S COORDINATES:
- * the area's offset is included, as it is in the layout that comes out. A label that would start at the first pixel of an
- * area whose x is 100 has OOF_CANDIDATE_X_START 100, not 0. */
+/* ---- a candidate, 14 words. The records of both lists, and those that a box surfaces, have the same words.
+ * Its static area is where the box would stand without insets, in THE CALLER'S COORDINATES: the area's offset is included, as
+ * it is in the layout that comes out. A label that would start at the first pixel of an area whose x is 100 has
+ * OOF_CANDIDATE_X_START 100, not 0.
+ * Its layer, 0 to OOF_MOST_LAYER, says what it is drawn over: every box of a lower layer, and those of its own that stand before
+ * it in the hoisted order (oof_drawing_order). It isn't a float, and a higher one is refused with 4, also of a candidate that
+ * won't be claimed. A record keeps it, claimed or not, surfaced and shifted too. Where a box stands, its size and the questions
+ * asked don't depend on it. */
 
 enum {
     OOF_CANDIDATE_NODE = 0,  /* which item of the table of styles */
@@ -243,7 +251,8 @@ enum {
     OOF_CANDIDATE_Y_END = 9,
     OOF_CANDIDATE_Y_EDGE = 10,
     OOF_CANDIDATE_Y_SAFETY = 11,
-    OOF_CANDIDATE_Y_FALLBACK = 12
+    OOF_CANDIDATE_Y_FALLBACK = 12,
+    OOF_CANDIDATE_LAYER = 13 /* an integer, 0 to OOF_MOST_LAYER */
 };
 
 /* ---- a layout, 23 words, all floats but the order. Node i's begins at word OOF_LAYOUT_WORDS * i. */
@@ -391,8 +400,9 @@ uint32_t oof_reply_height(float height,
 
 /* Replies to OOF_LAY_OUT, once the host has laid the node out at the final size: its own scrollable overflow, in x counted
  * from the start edge (leftwards in a right-to-left container), and the candidates that surfaced from within it, whole
- * records in the box's coordinates; they are shifted by the box's location, then claimed or not. The box's layout is
- * written. A reply refused because a list is full can be made again with fewer records. */
+ * records in the box's coordinates; they are shifted by the box's location, then claimed or not. They have layers of their
+ * own, not the box's. The box's layout is written. A reply refused because a list is full can be made again with fewer
+ * records. */
 uint32_t oof_reply_laid_out(float left, float right, float top, float bottom,
                             const uint32_t *surfaced, size_t surfaced_len,
                             const uint32_t *styles, size_t styles_len,
@@ -428,8 +438,9 @@ uint32_t oof_reply_laid_out(float left, float right, float top, float bottom,
  *       slices, and ask for places below state[OOF_STATE_WORKING].
  *   6   The run isn't finished, or the state counts more filled records than a list has. Answer the open question first, and
  *       lend the state as it came. Its counts of boxes begun and questions answered aren't looked at.
- *   4   A filled record of the working list, this box's or another's, has a node outside the table or a code outside its list.
- *       The run left none such: somebody else wrote there. Records of the unclaimed list aren't looked at.
+ *   4   A filled record of the working list, this box's or another's, has a node outside the table, a code outside its list or a
+ *       layer above OOF_MOST_LAYER. The run left none such: somebody else wrote there. Records of the unclaimed list aren't
+ *       looked at.
  *   9   A number isn't one that oof_pixels accepts: the area's width, height, x or y, this box's x, y, width or height, or the
  *       overflow rectangle's left, right, top or bottom, needed or not. Nothing is known of this box then. If the number is
  *       the box's own, other boxes may have answers; if it is the area's or the rectangle's, none has. One box that stands half
@@ -448,6 +459,43 @@ uint32_t oof_reach(size_t place,
                    const uint32_t *working, size_t working_len,
                    const uint32_t *unclaimed, size_t unclaimed_len,
                    const uint32_t *state, uint32_t *verdict);
+
+/* ---- which box is drawn over which */
+
+/* The order in which the boxes of a finished run are drawn: lower layers first, and within one layer the hoisted order.
+ *   styles, layouts, working, unclaimed, state   as the run's last call left them; only read. Of styles and layouts the lengths
+ *               count, of unclaimed the length and how many records are filled
+ *   order       one word a box: order_len must be state[OOF_STATE_WORKING]. Written on 0 only
+ * Each word is a place in the hoisted order, from 0, and not a node: order[0] is the place of the box that is drawn first, under
+ * all others, and the last word is that of the box over all others. Each place below order_len stands there exactly once. Nodes
+ * 5, 5, 2 with layers 1, 0, 0 have the order 1, 2, 0. To draw the boxes:
+ *
+ *     static uint32_t order[OOF_MOST_RECORDS]; // as many as there can be
+ *     size_t boxes = state[OOF_STATE_WORKING];
+ *     if (oof_drawing_order(styles, styles_len, .., state, order, boxes) == OOF_ACCEPTED)
+ *         for (size_t k = 0; k < boxes; k++) {
+ *             uint32_t node = working[OOF_CANDIDATE_WORDS * order[k] + OOF_CANDIDATE_NODE];
+ *             draw(node, layouts + OOF_LAYOUT_WORDS * node);
+ *         }
+ *
+ * A node that was claimed twice has two places and is drawn twice, both times with its last layout, on the layer of each place.
+ * A run without boxes, and the state of a refused opening, have an order of no words: it is accepted, and nothing is written.
+ * Refuses with 2, 6, 4, tested in this order:
+ *   2   A slice is one that a reply refuses: not whole records, too long, or of another length than at the opening. Or order_len
+ *       isn't state[OOF_STATE_WORKING], also where 6 would come next. Lend the run's own slices, and an order of that many words.
+ *   6   The run isn't finished, or the state counts more filled records than a list has. Answer the open question first, and
+ *       lend the state as it came. Its counts of boxes begun and questions answered aren't looked at.
+ *   4   A filled record of the working list has a node outside the table, a code outside its list or a layer above
+ *       OOF_MOST_LAYER. The run left none such: somebody else wrote there. Records of the unclaimed list aren't looked at.
+ * It reads no float: boxes that oof_pixels and oof_reach refuse with 9 are drawn in their turn too. The words are read as they
+ * are: a layer that somebody wrote into the working list after the finish counts.
+ * What it doesn't promise: that a box hides what it is drawn over, or that two boxes overlap at all.
+ * It passes over the filled working records once for each layer in use. */
+uint32_t oof_drawing_order(const uint32_t *styles, size_t styles_len,
+                           const uint32_t *layouts, size_t layouts_len,
+                           const uint32_t *working, size_t working_len,
+                           const uint32_t *unclaimed, size_t unclaimed_len,
+                           const uint32_t *state, uint32_t *order, size_t order_len);
 
 /* ---- whole pixels */
 

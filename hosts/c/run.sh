@@ -61,10 +61,11 @@ must_say "| $(thousands "$text") bytes of text and constants"
 open=$(sed -n 's/.*: open \([0-9]*\), .*/\1/p' stdout)
 reply=$(sed -n 's/.*, both \([^;]*\);.*/\1/p' stdout | grep -o '[0-9]\{1,\}' | sort -n | tail -n 1)
 reach=$(sed -n 's/.*; reach \([0-9]*\);.*/\1/p' stdout)
+drawing=$(sed -n 's/.*; drawing order \([0-9]*\);.*/\1/p' stdout)
 pixels=$(sed -n 's/.*; pixels \([0-9]*\);.*/\1/p' stdout)
 first=$(sed -n 's/.*; first bad word //p' stdout)
 case $("${CC:-cc}" -dumpversion) in
-12 | 12.*) must_say "| $(thousands "$open") bytes for \`oof_open\`, $(thousands "$reply") for a reply, $(thousands "$reach") for \`oof_reach\`, $(thousands "$pixels") for \`oof_pixels\`, $(thousands "$first") for \`oof_first_bad_word\`" ;;
+12 | 12.*) must_say "| $(thousands "$open") bytes for \`oof_open\`, $(thousands "$reply") for a reply, $(thousands "$reach") for \`oof_reach\`, $(thousands "$drawing") for \`oof_drawing_order\`, $(thousands "$pixels") for \`oof_pixels\`, $(thousands "$first") for \`oof_first_bad_word\`" ;;
 esac
 build example
 ./example > stdout

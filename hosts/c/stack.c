@@ -107,6 +107,18 @@ static uint32_t do_reach(void *context)
                      4 * OOF_CANDIDATE_WORDS, unclaimed, 4 * OOF_CANDIDATE_WORDS, state, verdict);
 }
 
+/* of the same run: the box on layer 9 and the one that it surfaced, on another layer, so that there are two passes */
+static uint32_t do_drawing_order(void *context)
+{
+    uint32_t order[2];
+    (void)context;
+    working[OOF_CANDIDATE_LAYER] = 9;
+    uint32_t result = oof_drawing_order(styles, items * OOF_STYLE_WORDS, layouts, items * OOF_LAYOUT_WORDS, working,
+                                        4 * OOF_CANDIDATE_WORDS, unclaimed, 4 * OOF_CANDIDATE_WORDS, state, order,
+                                        state[OOF_STATE_WORKING]);
+    return result == OOF_ACCEPTED && order[0] == 1 && order[1] == 0 ? OOF_ACCEPTED : OOF_BAD_EXTENT;
+}
+
 /* the whole table: no word of it breaks a rule; then its last one does */
 static uint32_t do_first_bad_word(void *context)
 {
@@ -143,7 +155,7 @@ static void fill(size_t count, uint32_t width, uint32_t height)
     }
 }
 
-enum { ENTRIES = 8 };
+enum { ENTRIES = 9 };
 
 static size_t most[ENTRIES];
 static int accepted;
@@ -177,14 +189,15 @@ int main(void)
             state[OOF_STATE_PROGRESS] = 0; /* the surfaced box is asked about next; a finished run, which scrolls, instead */
             state[OOF_STATE_OVERFLOW_X] = state[OOF_STATE_OVERFLOW_Y] = OOF_OVERFLOW_SCROLL;
             measure(5, do_reach, without);
+            measure(8, do_drawing_order, without);
             measure(7, do_first_bad_word, without);
         }
     measure(6, do_pixels, without);
     printf("hosts/c: bytes of stack, %d calls accepted: open %zu, both %zu, width %zu, height %zu, laid out %zu; reach %zu; "
-           "pixels %zu; first bad word %zu\n",
-           accepted, most[0], most[1], most[2], most[3], most[4], most[5], most[6], most[7]);
+           "drawing order %zu; pixels %zu; first bad word %zu\n",
+           accepted, most[0], most[1], most[2], most[3], most[4], most[5], most[8], most[6], most[7]);
     for (int entry = 0; entry < ENTRIES; entry++)
         if (most[entry] > LIMIT || most[entry] == 0)
             return EXIT_FAILURE;
-    return accepted == 41 ? EXIT_SUCCESS : EXIT_FAILURE;
+    return accepted == 49 ? EXIT_SUCCESS : EXIT_FAILURE;
 }

@@ -1,5 +1,5 @@
-/* What the header says of offsets, of refused calls, of pixels, of boxes that no scrolling brings up and of words that break a
- * rule, tried. Prints one line; exits with 1 at the first that isn't so. */
+/* What the header says of offsets, of layers, of refused calls, of pixels, of boxes that no scrolling brings up, of the drawing order
+ * and of words that break a rule, tried. Prints one line; exits with 1 at the first that isn't so. */
 #include <stdio.h>
 #include <stdlib.h>
 #include "oof.h"
@@ -141,6 +141,87 @@ static void refused_replies(void)
     MUST(oof_reply_both(120, 18, LENT(&w)) == OOF_ACCEPTED);
 }
 
+/* ---- layers of records */
+
+/* the box's layer is 7; it surfaces a fixed record on layer 255, which isn't claimed, and an absolute one on layer 3, which is */
+static void layers_kept(void)
+{
+    words w = box_at(100, 40, 100, 40);
+    uint32_t inner[2 * OOF_CANDIDATE_WORDS], *claimed = inner + OOF_CANDIDATE_WORDS;
+    w.candidates[OOF_CANDIDATE_LAYER] = 7;
+    memcpy(inner, w.candidates, sizeof w.candidates);
+    memcpy(claimed, w.candidates, sizeof w.candidates);
+    inner[OOF_CANDIDATE_POSITION] = OOF_POSITION_FIXED;
+    inner[OOF_CANDIDATE_LAYER] = OOF_MOST_LAYER, claimed[OOF_CANDIDATE_LAYER] = 3;
+    MUST(opened(&w) == OOF_ACCEPTED && w.working[OOF_CANDIDATE_LAYER] == 7);
+    MUST(oof_reply_both(120, 18, LENT(&w)) == OOF_ACCEPTED);
+    MUST(laid_out(&w, inner, 2 * OOF_CANDIDATE_WORDS) == OOF_ACCEPTED);
+    MUST(w.state[OOF_STATE_WORKING] == 2 && w.state[OOF_STATE_UNCLAIMED] == 1);
+    MUST(w.working[OOF_CANDIDATE_LAYER] == 7 && w.working[OOF_CANDIDATE_WORDS + OOF_CANDIDATE_LAYER] == 3);
+    MUST(w.unclaimed[OOF_CANDIDATE_LAYER] == 255);
+    MUST(oof_float(w.unclaimed[OOF_CANDIDATE_X_START]) == 200 && oof_float(w.unclaimed[OOF_CANDIDATE_Y_START]) == 80); /* shifted */
+
+    words fixed = box_at(100, 40, 100, 40);
+    fixed.candidates[OOF_CANDIDATE_POSITION] = OOF_POSITION_FIXED, fixed.candidates[OOF_CANDIDATE_LAYER] = 200;
+    MUST(opened(&fixed) == OOF_ACCEPTED && fixed.answer[OOF_ANSWER_KIND] == OOF_FINISH);
+    MUST(fixed.unclaimed[OOF_CANDIDATE_LAYER] == 200);
+}
+
+/* a layer above 255 is a bad candidate, claimed or not, lent or surfaced; the whole word is compared, and it is no float */
+static void layers_refused(void)
+{
+    const uint32_t high[6] = {256, 257, 0x01000000, 0x7FC00001, 0x80000000, 0xFFFFFFFF};
+    for (int k = 0; k < 6; k++)
+        for (uint32_t position = OOF_POSITION_ABSOLUTE; position <= OOF_POSITION_FIXED; position++) {
+            words w = box_at(100, 40, 100, 40), before;
+            w.candidates[OOF_CANDIDATE_POSITION] = position, w.candidates[OOF_CANDIDATE_LAYER] = high[k];
+            before = w;
+            MUST(opened(&w) == OOF_BAD_CANDIDATE && closed_only(&before, &w));
+            w.candidates[OOF_CANDIDATE_LAYER] = OOF_MOST_LAYER;
+            MUST(opened(&w) == OOF_ACCEPTED);
+
+            uint32_t inner[OOF_CANDIDATE_WORDS];
+            w = box_at(100, 40, 100, 40);
+            MUST(opened(&w) == OOF_ACCEPTED && oof_reply_both(120, 18, LENT(&w)) == OOF_ACCEPTED);
+            memcpy(inner, w.candidates, sizeof inner);
+            inner[OOF_CANDIDATE_POSITION] = position, inner[OOF_CANDIDATE_LAYER] = high[k];
+            before = w;
+            MUST(laid_out(&w, inner, OOF_CANDIDATE_WORDS) == OOF_BAD_CANDIDATE && same(&before, &w));
+            inner[OOF_CANDIDATE_LAYER] = 0;
+            MUST(laid_out(&w, inner, OOF_CANDIDATE_WORDS) == OOF_ACCEPTED);
+        }
+}
+
+/* what somebody writes between the calls: refused in a filled working record, not looked at elsewhere */
+static void layers_rewritten(void)
+{
+    words w = box_at(100, 40, 100, 40), before;
+    MUST(opened(&w) == OOF_ACCEPTED && w.working[OOF_CANDIDATE_WORDS + OOF_CANDIDATE_LAYER] > OOF_MOST_LAYER); /* the rear: noise */
+    w.working[OOF_CANDIDATE_LAYER] = 256;
+    before = w;
+    MUST(oof_reply_both(120, 18, LENT(&w)) == OOF_BAD_CANDIDATE && same(&before, &w));
+    w.working[OOF_CANDIDATE_LAYER] = 255;
+    MUST(oof_reply_both(120, 18, LENT(&w)) == OOF_ACCEPTED);
+    memcpy(w.unclaimed, w.candidates, sizeof w.candidates);
+    w.state[OOF_STATE_UNCLAIMED] = 1, w.unclaimed[OOF_CANDIDATE_LAYER] = 256;
+    MUST(laid_out(&w, w.candidates, 0) == OOF_ACCEPTED && w.unclaimed[OOF_CANDIDATE_LAYER] == 256);
+}
+
+/* records of 13 words, as they were before layers, are no whole records */
+static void records_of_13(void)
+{
+    words w = box_at(100, 40, 100, 40), before;
+    before = w;
+    MUST(oof_open(w.width, w.height, w.x, w.y, w.direction, OOF_CLAIMS_ABSOLUTE, OOF_OVERFLOW_VISIBLE, OOF_OVERFLOW_VISIBLE,
+                  w.styles, OOF_STYLE_WORDS, w.candidates, 13, w.layouts, OOF_LAYOUT_WORDS, w.working,
+                  ROOM * OOF_CANDIDATE_WORDS, w.unclaimed, ROOM * OOF_CANDIDATE_WORDS, w.state, w.answer) == OOF_BAD_EXTENT);
+    MUST(closed_only(&before, &w));
+    MUST(opened(&w) == OOF_ACCEPTED && oof_reply_both(120, 18, LENT(&w)) == OOF_ACCEPTED);
+    before = w;
+    MUST(laid_out(&w, w.candidates, 13) == OOF_BAD_EXTENT && same(&before, &w));
+    MUST(laid_out(&w, w.candidates, OOF_CANDIDATE_WORDS) == OOF_ACCEPTED);
+}
+
 /* ---- pixels */
 
 enum { LARGEST = 9999999 };
@@ -240,19 +321,23 @@ static void not_quarters(void)
     MUST(oof_pixels(w.layouts, 0, 0, edges) == OOF_NOT_IN_EIGHTHS);
 }
 
-/* ---- reach: what a call is lent, made up word by word or by a run */
+/* ---- a finished run: what a call is lent that reads one, made up word by word or by a run */
 
-enum { ITEMS = 2, RECORDS = 2 };
+enum { ITEMS = 2, RECORDS = 2, ITEM_ROOM = 6, RECORD_ROOM = 4 };
 enum { STYLES = 0, LAYOUTS = 1, WORKING = 2, UNCLAIMED = 3 }; /* the four slices, in their order */
 
 typedef struct {
-    uint32_t styles[ITEMS * OOF_STYLE_WORDS];
-    uint32_t layouts[ITEMS * OOF_LAYOUT_WORDS];
-    uint32_t working[RECORDS * OOF_CANDIDATE_WORDS];
-    uint32_t unclaimed[RECORDS * OOF_CANDIDATE_WORDS];
+    uint32_t styles[ITEM_ROOM * OOF_STYLE_WORDS];
+    uint32_t layouts[ITEM_ROOM * OOF_LAYOUT_WORDS];
+    uint32_t working[RECORD_ROOM * OOF_CANDIDATE_WORDS];
+    uint32_t unclaimed[RECORD_ROOM * OOF_CANDIDATE_WORDS];
     uint32_t state[OOF_STATE_WORDS];
     uint32_t lengths[4]; /* lent, at most those of the four slices */
 } ended;
+
+#define ENDED(e)                                                                                                      \
+    (e)->styles, (e)->lengths[STYLES], (e)->layouts, (e)->lengths[LAYOUTS], (e)->working, (e)->lengths[WORKING],       \
+        (e)->unclaimed, (e)->lengths[UNCLAIMED], (e)->state
 
 static const uint32_t all_lengths[4] = {ITEMS * OOF_STYLE_WORDS, ITEMS * OOF_LAYOUT_WORDS, RECORDS * OOF_CANDIDATE_WORDS,
                                         RECORDS * OOF_CANDIDATE_WORDS};
@@ -271,8 +356,7 @@ static uint32_t reach(const ended *e, size_t place, uint32_t *verdict)
     const ended before = *e;
     const uint32_t noise[OOF_REACH_WORDS] = {0x5A5A5A5A, 0xFFFFFFFF, 0x7FC00000};
     memcpy(verdict, noise, sizeof noise);
-    uint32_t result = oof_reach(place, e->styles, e->lengths[STYLES], e->layouts, e->lengths[LAYOUTS], e->working,
-                                e->lengths[WORKING], e->unclaimed, e->lengths[UNCLAIMED], e->state, verdict);
+    uint32_t result = oof_reach(place, ENDED(e), verdict);
     if (memcmp(&before, e, sizeof before) != 0 || (result != OOF_ACCEPTED && memcmp(verdict, noise, sizeof noise) != 0))
         return WROTE;
     return result;
@@ -529,18 +613,26 @@ static void wrong_states(void)
     MUST(seen(&e, 0, 13, 0));
 }
 
+/* the codes of a candidate, and the greatest of each */
+enum { CODES = 8 };
+static const struct {
+    int word;
+    uint32_t most;
+} codes[CODES] = {{OOF_CANDIDATE_POSITION, OOF_POSITION_STICKY}, {OOF_CANDIDATE_X_EDGE, OOF_EDGE_END},
+                  {OOF_CANDIDATE_X_SAFETY, OOF_SAFETY_SAFE},     {OOF_CANDIDATE_X_FALLBACK, OOF_EDGE_END},
+                  {OOF_CANDIDATE_Y_EDGE, OOF_EDGE_END},          {OOF_CANDIDATE_Y_SAFETY, OOF_SAFETY_SAFE},
+                  {OOF_CANDIDATE_Y_FALLBACK, OOF_EDGE_END},      {OOF_CANDIDATE_LAYER, OOF_MOST_LAYER}};
+
 /* any filled working record, and no other */
 static void bad_records(void)
 {
-    const int codes[7] = {OOF_CANDIDATE_POSITION, OOF_CANDIDATE_X_EDGE, OOF_CANDIDATE_X_SAFETY, OOF_CANDIDATE_X_FALLBACK,
-                          OOF_CANDIDATE_Y_EDGE, OOF_CANDIDATE_Y_SAFETY, OOF_CANDIDATE_Y_FALLBACK};
     for (int record = 0; record < RECORDS; record++) {
         ended e = scrolled();
         uint32_t *words = e.working + record * OOF_CANDIDATE_WORDS;
-        for (int k = 0; k < 7; k++) {
-            words[codes[k]] = k ? 3 : 5;
+        for (int k = 0; k < CODES; k++) {
+            words[codes[k].word] = codes[k].most + 1;
             MUST(refused(&e, 0, OOF_BAD_CANDIDATE));
-            words[codes[k]] = k ? 2 : 4;
+            words[codes[k].word] = codes[k].most;
             MUST(seen(&e, 0, 13, 0));
         }
         words[OOF_CANDIDATE_ORDER] = words[OOF_CANDIDATE_X_START] = words[OOF_CANDIDATE_Y_END] = 0xFFFFFFFF; /* no codes */
@@ -747,18 +839,19 @@ static int in_eighths(uint32_t word, int *count)
 
 static int bad_record(const uint32_t *record, uint32_t items)
 {
-    int bad = record[OOF_CANDIDATE_NODE] >= items || record[OOF_CANDIDATE_POSITION] > OOF_POSITION_STICKY;
-    for (int k = OOF_CANDIDATE_X_EDGE; k <= OOF_CANDIDATE_X_FALLBACK; k++)
-        bad |= record[k] > 2 || record[k + OOF_CANDIDATE_Y_EDGE - OOF_CANDIDATE_X_EDGE] > 2;
+    int bad = record[OOF_CANDIDATE_NODE] >= items;
+    for (int k = 0; k < CODES; k++)
+        bad |= record[codes[k].word] > codes[k].most;
     return bad;
 }
 
-static uint32_t modelled(const ended *e, size_t place, uint32_t *verdict)
+/* 2, 6 and 4, which all entries that read a finished run test; `other` is what the entry itself calls a bad extent */
+static uint32_t modelled_tests(const ended *e, int other)
 {
     const uint32_t *s = e->state, *lengths = e->lengths, items = lengths[STYLES] / OOF_STYLE_WORDS;
     if (lengths[STYLES] % OOF_STYLE_WORDS || lengths[LAYOUTS] != items * OOF_LAYOUT_WORDS ||
         lengths[WORKING] % OOF_CANDIDATE_WORDS || lengths[UNCLAIMED] % OOF_CANDIDATE_WORDS ||
-        memcmp(lengths, s + OOF_STATE_LENGTHS, 4 * sizeof *lengths) || place >= s[OOF_STATE_WORKING])
+        memcmp(lengths, s + OOF_STATE_LENGTHS, 4 * sizeof *lengths) || other)
         return OOF_BAD_EXTENT;
     if ((s[OOF_STATE_PROGRESS] >= 1 && s[OOF_STATE_PROGRESS] <= 5) ||
         s[OOF_STATE_WORKING] > lengths[WORKING] / OOF_CANDIDATE_WORDS ||
@@ -767,6 +860,14 @@ static uint32_t modelled(const ended *e, size_t place, uint32_t *verdict)
     for (uint32_t k = 0; k < s[OOF_STATE_WORKING]; k++)
         if (bad_record(e->working + k * OOF_CANDIDATE_WORDS, items))
             return OOF_BAD_CANDIDATE;
+    return OOF_ACCEPTED;
+}
+
+static uint32_t modelled(const ended *e, size_t place, uint32_t *verdict)
+{
+    const uint32_t *s = e->state, refusal = modelled_tests(e, place >= s[OOF_STATE_WORKING]);
+    if (refusal != OOF_ACCEPTED)
+        return refusal;
     const uint32_t *layout = e->layouts + e->working[place * OOF_CANDIDATE_WORDS] * OOF_LAYOUT_WORDS;
     int area[4], edge[4], box[4], good = 1;
     for (int k = 0; k < 4; k++) {
@@ -795,7 +896,7 @@ static void damage(ended *e)
     case 2: lend(e, STYLES, OOF_STYLE_WORDS), lend(e, LAYOUTS, OOF_LAYOUT_WORDS); break;
     case 3: e->state[OOF_STATE_PROGRESS] = below(8); break;
     case 4: e->state[OOF_STATE_WORKING + slice] = below(4); break; /* of the four counts */
-    case 5: e->working[below(RECORDS * OOF_CANDIDATE_WORDS)] = below(7); break;
+    case 5: e->working[below(RECORDS * OOF_CANDIDATE_WORDS)] = below(2) ? below(7) : 254 + below(4); break;
     case 6: e->layouts[below(ITEMS * OOF_LAYOUT_WORDS)] = oof_word(0.0625f * (float)between(-3, 3)); break;
     default: e->state[OOF_STATE_OVERFLOW + below(8)] = oof_word(0.0625f * (float)between(-3, 3)); break;
     }
@@ -823,6 +924,345 @@ static void random_words(void)
     MUST(wrong == 0);
     MUST(told[OOF_BAD_EXTENT] > 1000 && told[OOF_WRONG_REPLY] > 1000 && told[OOF_BAD_CANDIDATE] > 1000);
     MUST(told[OOF_NOT_IN_EIGHTHS] > 1000 && told[SEEN] > 1000 && told[SCROLLED] > 1000 && told[UNSEEN] > 1000);
+}
+
+/* ---- the drawing order */
+
+#define LIST(...) ((const uint32_t[]){__VA_ARGS__})
+
+/* a finished run of boxes with these nodes and layers, over six items and lists of four records. Every word that isn't to be read is
+ * noise: no style, no number, and a bad record behind the filled ones and in the unclaimed list. */
+static ended drawing(uint32_t boxes, const uint32_t *nodes, const uint32_t *layers)
+{
+    ended e;
+    memset(&e, 0xFF, sizeof e);
+    for (uint32_t k = 0; k < boxes; k++) {
+        uint32_t *record = e.working + k * OOF_CANDIDATE_WORDS;
+        for (int code = 0; code < CODES; code++)
+            record[codes[code].word] = codes[code].most;
+        record[OOF_CANDIDATE_NODE] = nodes[k], record[OOF_CANDIDATE_LAYER] = layers[k];
+    }
+    e.state[OOF_STATE_PROGRESS] = 0;
+    e.state[OOF_STATE_WORKING] = boxes, e.state[OOF_STATE_UNCLAIMED] = 1;
+    lend(&e, STYLES, ITEM_ROOM * OOF_STYLE_WORDS), lend(&e, LAYOUTS, ITEM_ROOM * OOF_LAYOUT_WORDS);
+    lend(&e, WORKING, RECORD_ROOM * OOF_CANDIDATE_WORDS), lend(&e, UNCLAIMED, RECORD_ROOM * OOF_CANDIDATE_WORDS);
+    return e;
+}
+
+/* its order is 1, 2, 0 */
+static ended three_boxes(void)
+{
+    return drawing(3, LIST(5, 5, 2), LIST(1, 0, 0));
+}
+
+enum { ORDER_ROOM = 6 };
+
+/* the call's result over an order of so many words, or WROTE if it wrote a word that it may only read, a word beside the order, or
+ * one of the order though it was refused */
+static uint32_t draw(const ended *e, size_t words, uint32_t *order)
+{
+    const ended before = *e;
+    uint32_t noise[ORDER_ROOM + 2], lent[ORDER_ROOM + 2];
+    for (uint32_t k = 0; k < ORDER_ROOM + 2; k++)
+        lent[k] = noise[k] = 0x5A5A5A5A + 0x01234567 * k;
+    uint32_t result = oof_drawing_order(ENDED(e), lent + 1, words);
+    memcpy(order, lent + 1, ORDER_ROOM * sizeof *order);
+    if (result == OOF_ACCEPTED)
+        memcpy(lent + 1, noise + 1, words * sizeof *lent);
+    return memcmp(&before, e, sizeof before) || memcmp(lent, noise, sizeof noise) ? WROTE : result;
+}
+
+static int drawn(const ended *e, size_t words, const uint32_t *places)
+{
+    uint32_t order[ORDER_ROOM];
+    return draw(e, words, order) == OOF_ACCEPTED && memcmp(order, places, words * sizeof *order) == 0;
+}
+
+static int undrawn(const ended *e, size_t words, uint32_t number)
+{
+    uint32_t order[ORDER_ROOM];
+    return draw(e, words, order) == number;
+}
+
+/* four boxes of one node with these layers */
+static int on_layers(const uint32_t *layers, const uint32_t *places)
+{
+    ended e = drawing(4, LIST(2, 2, 2, 2), layers);
+    return drawn(&e, 4, places);
+}
+
+static void drawing_orders(void)
+{
+    ended e = three_boxes();
+    MUST(drawn(&e, 3, LIST(1, 2, 0))); /* places, not nodes; within a layer the hoisted order */
+    e = drawing(4, LIST(3, 0, 5, 1), LIST(9, 9, 9, 9));
+    MUST(drawn(&e, 4, LIST(0, 1, 2, 3))); /* nodes have no say */
+    MUST(on_layers(LIST(0, 0, 0, 0), LIST(0, 1, 2, 3)) && on_layers(LIST(255, 255, 255, 255), LIST(0, 1, 2, 3)));
+    MUST(on_layers(LIST(0, 1, 2, 255), LIST(0, 1, 2, 3)) && on_layers(LIST(255, 254, 1, 0), LIST(3, 2, 1, 0)));
+    MUST(on_layers(LIST(4, 128, 4, 128), LIST(0, 2, 1, 3)) && on_layers(LIST(0, 255, 127, 255), LIST(0, 2, 1, 3)));
+    MUST(on_layers(LIST(128, 127, 128, 127), LIST(1, 3, 0, 2)) && on_layers(LIST(9, 10, 8, 9), LIST(2, 0, 3, 1)));
+
+    e = drawing(1, LIST(5), LIST(255));
+    MUST(drawn(&e, 1, LIST(0)));
+    e = drawing(0, NULL, NULL);
+    MUST(drawn(&e, 0, LIST(0)) && undrawn(&e, 1, OOF_BAD_EXTENT));
+    memset(&e, 0, sizeof e); /* zeros are a finished run over no words */
+    MUST(drawn(&e, 0, LIST(0)) && undrawn(&e, 1, OOF_BAD_EXTENT));
+
+    e = three_boxes();
+    e.working[OOF_CANDIDATE_LAYER] = 0; /* a layer that somebody wrote after the finish counts */
+    MUST(drawn(&e, 3, LIST(0, 1, 2)));
+}
+
+/* an order of other words than there are boxes, before all other tests; and the slices, as everywhere */
+static void undrawn_extents(void)
+{
+    ended e;
+    for (size_t words = 0; words < ORDER_ROOM; words++) {
+        e = three_boxes();
+        MUST(words == 3 ? drawn(&e, 3, LIST(1, 2, 0)) : undrawn(&e, words, OOF_BAD_EXTENT));
+        e.working[OOF_CANDIDATE_LAYER] = 256;
+        MUST(undrawn(&e, words, words == 3 ? OOF_BAD_CANDIDATE : OOF_BAD_EXTENT));
+        e.state[OOF_STATE_PROGRESS] = 5;
+        MUST(undrawn(&e, words, words == 3 ? OOF_WRONG_REPLY : OOF_BAD_EXTENT));
+    }
+    e = three_boxes();
+    for (int slice = 0; slice < 4; slice++) {
+        const uint32_t all = e.lengths[slice];
+        e.lengths[slice] = 0; /* another length than at the opening */
+        MUST(undrawn(&e, 3, OOF_BAD_EXTENT));
+        e.lengths[slice] = all, e.state[OOF_STATE_LENGTHS + slice]++;
+        MUST(undrawn(&e, 3, OOF_BAD_EXTENT));
+        lend(&e, slice, all - 1); /* not whole records, at the opening too */
+        MUST(undrawn(&e, 3, OOF_BAD_EXTENT));
+        lend(&e, slice, all);
+        MUST(drawn(&e, 3, LIST(1, 2, 0)));
+    }
+    lend(&e, LAYOUTS, (ITEM_ROOM - 1) * OOF_LAYOUT_WORDS);
+    MUST(undrawn(&e, 3, OOF_BAD_EXTENT));
+    lend(&e, STYLES, (ITEM_ROOM - 1) * OOF_STYLE_WORDS);
+    MUST(undrawn(&e, 3, OOF_BAD_CANDIDATE)); /* node 5 of five items */
+    lend(&e, WORKING, 3 * 13);
+    MUST(undrawn(&e, 3, OOF_BAD_EXTENT)); /* three records as they were before layers */
+}
+
+/* an unfinished run, or counts above the lists; no other count is looked at */
+static void undrawn_states(void)
+{
+    ended e = three_boxes();
+    for (uint32_t progress = 1; progress <= 5; progress++) {
+        e.state[OOF_STATE_PROGRESS] = progress;
+        MUST(undrawn(&e, 3, OOF_WRONG_REPLY) && undrawn(&e, 2, OOF_BAD_EXTENT));
+    }
+    e.state[OOF_STATE_PROGRESS] = 6; /* above the list is finished */
+    MUST(drawn(&e, 3, LIST(1, 2, 0)));
+    lend(&e, WORKING, 2 * OOF_CANDIDATE_WORDS); /* two records, of which three are filled */
+    MUST(undrawn(&e, 3, OOF_WRONG_REPLY) && undrawn(&e, 2, OOF_BAD_EXTENT));
+    e.state[OOF_STATE_WORKING] = 2;
+    MUST(drawn(&e, 2, LIST(1, 0)) && undrawn(&e, 3, OOF_BAD_EXTENT));
+
+    e = three_boxes();
+    e.state[OOF_STATE_UNCLAIMED] = RECORD_ROOM;
+    MUST(drawn(&e, 3, LIST(1, 2, 0)));
+    e.state[OOF_STATE_UNCLAIMED] = RECORD_ROOM + 1;
+    MUST(undrawn(&e, 3, OOF_WRONG_REPLY) && undrawn(&e, 4, OOF_BAD_EXTENT));
+    e.working[OOF_CANDIDATE_POSITION] = 5;
+    MUST(undrawn(&e, 3, OOF_WRONG_REPLY));
+    e.state[OOF_STATE_UNCLAIMED] = 0;
+    MUST(undrawn(&e, 3, OOF_BAD_CANDIDATE));
+
+    e = three_boxes();
+    e.state[OOF_STATE_BEGUN] = 0, e.state[OOF_STATE_ANSWERED] = 99;
+    MUST(drawn(&e, 3, LIST(1, 2, 0)));
+    e.state[OOF_STATE_WORKING] = 0xFFFFFFFF;
+    MUST(undrawn(&e, 3, OOF_BAD_EXTENT));
+}
+
+/* any filled working record, and no other */
+static void undrawn_records(void)
+{
+    const uint32_t high[5] = {257, 0x01000000, 0x7FC00001, 0x80000000, 0xFFFFFFFF};
+    for (uint32_t k = 0; k < 3; k++) {
+        ended e = three_boxes();
+        uint32_t *record = e.working + k * OOF_CANDIDATE_WORDS;
+        for (int code = 0; code < CODES; code++) { /* the layer is the last */
+            record[codes[code].word] = codes[code].most + 1;
+            MUST(undrawn(&e, 3, OOF_BAD_CANDIDATE));
+            record[codes[code].word] = codes[code].most;
+            MUST(undrawn(&e, 3, OOF_ACCEPTED));
+        }
+        for (int at = 0; at < 5; at++) {
+            record[OOF_CANDIDATE_LAYER] = high[at];
+            MUST(undrawn(&e, 3, OOF_BAD_CANDIDATE));
+        }
+        record[OOF_CANDIDATE_LAYER] = 0, record[OOF_CANDIDATE_NODE] = ITEM_ROOM;
+        MUST(undrawn(&e, 3, OOF_BAD_CANDIDATE));
+        e.state[OOF_STATE_WORKING] = k; /* it isn't filled any more */
+        MUST(k < 2 ? drawn(&e, k, LIST(0)) : drawn(&e, 2, LIST(1, 0)));
+    }
+}
+
+/* as long as lists may be, and a record longer: 4,096 boxes, layers 255 to 0 in turn. A list of 4,096 records is 57,344 words. */
+static void longest_drawing(void)
+{
+    enum { LIST_ROOM = (OOF_MOST_RECORDS + 1) * OOF_CANDIDATE_WORDS };
+    static uint32_t lists[2][LIST_ROOM], order[OOF_MOST_RECORDS + 1];
+    const uint32_t noise = 0x5A5A5A5A, each = OOF_MOST_RECORDS / 256;
+    ended e = three_boxes();
+    memset(lists, 0, sizeof lists);
+    for (uint32_t k = 0; k < OOF_MOST_RECORDS; k++)
+        lists[0][k * OOF_CANDIDATE_WORDS + OOF_CANDIDATE_LAYER] = OOF_MOST_LAYER - k % 256, order[k] = noise;
+    order[OOF_MOST_RECORDS] = noise;
+    e.state[OOF_STATE_WORKING] = OOF_MOST_RECORDS;
+    for (int longer = 2; longer >= 0; longer--) { /* the unclaimed list, the working list, neither */
+        lend(&e, WORKING, 57344 + (longer == 1) * OOF_CANDIDATE_WORDS);
+        lend(&e, UNCLAIMED, 57344 + (longer == 2) * OOF_CANDIDATE_WORDS);
+        uint32_t wrong = 0, result = oof_drawing_order(e.styles, e.lengths[STYLES], e.layouts, e.lengths[LAYOUTS], lists[0],
+                                                       e.lengths[WORKING], lists[1], e.lengths[UNCLAIMED], e.state, order,
+                                                       OOF_MOST_RECORDS);
+        MUST(result == (longer ? OOF_BAD_EXTENT : OOF_ACCEPTED));
+        for (uint32_t k = 0; k < OOF_MOST_RECORDS; k++) /* `each` boxes a layer: those of layer 0 stand at 255, 511, 767, .. */
+            wrong += order[k] != (longer ? noise : OOF_MOST_LAYER - k / each + 256 * (k % each));
+        MUST(wrong == 0 && order[OOF_MOST_RECORDS] == noise);
+    }
+}
+
+/* ---- drawing orders of runs: the incident's label, node 0, and its note, node 1 */
+
+static uint32_t *put_candidate(uint32_t *candidates, int place, uint32_t node, uint32_t layer)
+{
+    uint32_t *record = candidates + place * OOF_CANDIDATE_WORDS;
+    memset(record, 0, OOF_CANDIDATE_WORDS * sizeof *record);
+    record[OOF_CANDIDATE_NODE] = node, record[OOF_CANDIDATE_POSITION] = OOF_POSITION_ABSOLUTE;
+    record[OOF_CANDIDATE_LAYER] = layer;
+    return record;
+}
+
+/* the note over the label, whichever is hoisted first */
+static void note_over_label(void)
+{
+    uint32_t answer[OOF_ANSWER_WORDS], candidates[2 * OOF_CANDIDATE_WORDS];
+    for (uint32_t direction = OOF_DIRECTION_LTR; direction <= OOF_DIRECTION_RTL; direction++)
+        for (int note_first = 0; note_first < 2; note_first++) {
+            ended e = incident(direction);
+            put_candidate(candidates, note_first, 0, 0);
+            put_candidate(candidates, !note_first, 1, 1);
+            MUST(run_opened(&e, direction, OOF_CLAIMS_ABSOLUTE, OOF_OVERFLOW_SCROLL, candidates, answer) == OOF_ACCEPTED);
+            MUST(undrawn(&e, 2, OOF_WRONG_REPLY) && undrawn(&e, 1, OOF_BAD_EXTENT)); /* unfinished */
+            MUST(run_finished(&e, answer));
+            MUST(note_first ? drawn(&e, 2, LIST(1, 0)) : drawn(&e, 2, LIST(0, 1)));
+            e.styles[OOF_STYLE_PADDING_LEFT] = 2; /* no tag: a finished run's styles aren't read */
+            MUST(note_first ? drawn(&e, 2, LIST(1, 0)) : drawn(&e, 2, LIST(0, 1)));
+        }
+}
+
+/* a node that is claimed twice, a surfaced record, and openings that leave no box */
+static void odd_drawings(void)
+{
+    uint32_t answer[OOF_ANSWER_WORDS], candidates[2 * OOF_CANDIDATE_WORDS];
+    ended e = incident(OOF_DIRECTION_LTR);
+    put_candidate(candidates, 0, 0, 6);
+    uint32_t *second = put_candidate(candidates, 1, 0, 5);
+    MUST(run_opened(&e, OOF_DIRECTION_LTR, OOF_CLAIMS_ABSOLUTE, OOF_OVERFLOW_SCROLL, candidates, answer) == OOF_ACCEPTED);
+    MUST(run_finished(&e, answer) && drawn(&e, 2, LIST(1, 0)));
+
+    second[OOF_CANDIDATE_POSITION] = OOF_POSITION_FIXED; /* the label surfaces a note on layer 2, under it */
+    MUST(run_opened(&e, OOF_DIRECTION_LTR, OOF_CLAIMS_ABSOLUTE, OOF_OVERFLOW_SCROLL, candidates, answer) == OOF_ACCEPTED);
+    MUST(undrawn(&e, 1, OOF_WRONG_REPLY));
+    put_candidate(candidates, 0, 1, 2);
+    MUST(oof_reply_laid_out(0, 0, 0, 0, candidates, OOF_CANDIDATE_WORDS, ENDED(&e), answer) == OOF_ACCEPTED);
+    MUST(undrawn(&e, 1, OOF_BAD_EXTENT) && undrawn(&e, 2, OOF_WRONG_REPLY));
+    MUST(run_finished(&e, answer) && drawn(&e, 2, LIST(1, 0)));
+    MUST(e.unclaimed[OOF_CANDIDATE_LAYER] == 5);
+    e.unclaimed[OOF_CANDIDATE_LAYER] = 256;
+    MUST(drawn(&e, 2, LIST(1, 0))); /* the unclaimed list isn't looked at */
+
+    MUST(run_opened(&e, OOF_DIRECTION_LTR, 0, OOF_OVERFLOW_SCROLL, candidates, answer) == OOF_ACCEPTED);
+    MUST(answer[OOF_ANSWER_KIND] == OOF_FINISH && e.state[OOF_STATE_UNCLAIMED] == 2);
+    MUST(drawn(&e, 0, LIST(0)) && undrawn(&e, 1, OOF_BAD_EXTENT));
+    MUST(run_opened(&e, 2, OOF_CLAIMS_ABSOLUTE, OOF_OVERFLOW_SCROLL, candidates, answer) == OOF_BAD_AREA);
+    MUST(drawn(&e, 0, LIST(0)) && undrawn(&e, 1, OOF_BAD_EXTENT));
+}
+
+/* runs that differ in layers alone differ in the records' layers alone */
+static void placement_reads_no_layer(void)
+{
+    uint32_t answers[2][OOF_ANSWER_WORDS], candidates[2 * OOF_CANDIDATE_WORDS];
+    ended runs[2];
+    for (uint32_t k = 0; k < 2; k++) {
+        runs[k] = incident(OOF_DIRECTION_LTR);
+        put_candidate(candidates, 0, 0, 255 * k);
+        put_candidate(candidates, 1, 1, 254 * k)[OOF_CANDIDATE_POSITION] = OOF_POSITION_FIXED;
+        MUST(run_opened(&runs[k], OOF_DIRECTION_LTR, OOF_CLAIMS_ABSOLUTE, OOF_OVERFLOW_SCROLL, candidates, answers[k]) == OOF_ACCEPTED);
+        put_candidate(candidates, 0, 1, 3 * k);
+        MUST(oof_reply_laid_out(0, 0, 0, 0, candidates, OOF_CANDIDATE_WORDS, ENDED(&runs[k]), answers[k]) == OOF_ACCEPTED);
+        MUST(run_finished(&runs[k], answers[k]));
+    }
+    MUST(drawn(&runs[0], 2, LIST(0, 1)) && drawn(&runs[1], 2, LIST(1, 0)));
+    MUST(memcmp(answers[0], answers[1], sizeof answers[0]) == 0 && memcmp(&runs[0], &runs[1], sizeof runs[0]) != 0);
+    for (int k = 0; k < RECORDS; k++)
+        for (int list = 0; list < 2; list++)
+            (list ? runs[1].unclaimed : runs[1].working)[k * OOF_CANDIDATE_WORDS + OOF_CANDIDATE_LAYER] =
+                (list ? runs[0].unclaimed : runs[0].working)[k * OOF_CANDIDATE_WORDS + OOF_CANDIDATE_LAYER];
+    MUST(memcmp(&runs[0], &runs[1], sizeof runs[0]) == 0);
+}
+
+/* ---- random words, beside a count of the boxes that are drawn before */
+
+static uint32_t modelled_order(const ended *e, size_t words, uint32_t *order)
+{
+    const uint32_t boxes = e->state[OOF_STATE_WORKING], refusal = modelled_tests(e, words != boxes);
+    for (uint32_t k = 0; refusal == OOF_ACCEPTED && k < boxes; k++) {
+        uint32_t before = 0;
+        for (uint32_t j = 0; j < boxes; j++) {
+            const uint32_t layer = e->working[k * OOF_CANDIDATE_WORDS + OOF_CANDIDATE_LAYER];
+            const uint32_t other = e->working[j * OOF_CANDIDATE_WORDS + OOF_CANDIDATE_LAYER];
+            before += other < layer || (other == layer && j < k);
+        }
+        order[before] = k;
+    }
+    return refusal;
+}
+
+/* one word, or one length, to be refused or not to matter */
+static void damage_drawing(ended *e)
+{
+    int slice = (int)below(4);
+    const uint32_t all = e->lengths[slice];
+    switch (below(6)) {
+    case 0: e->lengths[slice] -= below(2) ? 1 : all / 2; break;
+    case 1: lend(e, slice, all / 2); break;
+    case 2: e->state[OOF_STATE_PROGRESS] = below(8); break;
+    case 3: e->state[OOF_STATE_WORKING + slice] = below(RECORD_ROOM + 2); break; /* of the four counts */
+    case 4: e->working[below(RECORD_ROOM * OOF_CANDIDATE_WORDS)] = below(2) ? below(7) : 254 + below(4); break;
+    default: e->unclaimed[below(RECORD_ROOM * OOF_CANDIDATE_WORDS)] = below(300); break;
+    }
+}
+
+static void random_drawings(void)
+{
+    enum { CALLS = 200000, LEVEL = 10, RAISED = 11, KINDS = 12 };
+    int wrong = 0, told[KINDS] = {0};
+    for (int call = 0; call < CALLS; call++) {
+        uint32_t boxes = below(RECORD_ROOM + 1), nodes[RECORD_ROOM], layers[RECORD_ROOM];
+        const uint32_t of = below(3) ? 1 + below(3) : 256;
+        for (int k = 0; k < RECORD_ROOM; k++)
+            nodes[k] = below(ITEM_ROOM), layers[k] = below(2) ? below(of) : 255 - below(of);
+        ended e = drawing(boxes, nodes, layers);
+        for (uint32_t k = below(4); k > 1; k--) /* none in half of the calls */
+            damage_drawing(&e);
+        size_t words = below(16) ? boxes : below(ORDER_ROOM);
+        uint32_t expected[ORDER_ROOM] = {0}, order[ORDER_ROOM];
+        uint32_t result = modelled_order(&e, words, expected), moved = 0;
+        if (draw(&e, words, order) != result || (result == OOF_ACCEPTED && memcmp(expected, order, words * sizeof *order)))
+            wrong++;
+        for (uint32_t k = 0; k < words; k++)
+            moved += expected[k] != k;
+        told[result != OOF_ACCEPTED ? (int)result : moved ? RAISED : LEVEL]++;
+    }
+    MUST(wrong == 0);
+    MUST(told[OOF_BAD_EXTENT] > 1000 && told[OOF_WRONG_REPLY] > 1000 && told[OOF_BAD_CANDIDATE] > 1000);
+    MUST(told[LEVEL] > 1000 && told[RAISED] > 1000);
 }
 
 /* ---- the first word that breaks a rule */
@@ -1024,6 +1464,10 @@ int main(void)
     offsets();
     refused_openings();
     refused_replies();
+    layers_kept();
+    layers_refused();
+    layers_rewritten();
+    records_of_13();
     whole_pixels();
     centered();
     not_quarters();
@@ -1039,6 +1483,15 @@ int main(void)
     boxes_of_runs();
     odd_runs();
     random_words();
+    drawing_orders();
+    undrawn_extents();
+    undrawn_states();
+    undrawn_records();
+    longest_drawing();
+    note_over_label();
+    odd_drawings();
+    placement_reads_no_layer();
+    random_drawings();
     first_bad_words();
     long_tables();
     every_word();
