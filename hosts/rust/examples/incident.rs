@@ -1,7 +1,11 @@
 //! The panel of the incident and its Arabic mirror image, in whole pixels: a label, and the note that said why a restore was refused.
 //! The note was to end 8 pixels before what it speaks of, and that stands in the panel's first column. The panel scrolls, and stands at
-//! 100, 40 of its window; the edges are counted from the panel's corner. Under each box: whether scrolling can bring it into view.
+//! 100, 40 of its window; the edges are counted from the panel's corner. Under each box: whether scrolling can bring it into view. The
+//! note is hoisted first, and drawn over the label, since its layer is higher.
 use oof::*;
+
+/// By item
+const NAMES: [&str; 2] = ["label", "note"];
 
 struct Font;
 impl Host for Font {
@@ -18,8 +22,8 @@ fn sides<T>(direction: Direction, start: T, end: T) -> (T, T) {
     }
 }
 
-/// Each box in hoisted order: its pixel edges, and the verdict
-fn place(direction: Direction) -> Vec<[String; 2]> {
+/// Styles of the label and of the note
+fn styles(direction: Direction) -> [Style; 2] {
     let (auto, px) = (LengthPercentageAuto::Auto, LengthPercentageAuto::Length);
     let label = {
         let (left, right) = sides(direction, px(24.0), auto);
@@ -33,30 +37,36 @@ fn place(direction: Direction) -> Vec<[String; 2]> {
         let size = Size { width: Dimension::Length(320.0), height: Dimension::Length(96.0) };
         Style { inset, margin, size, direction, ..Style::default() }
     };
+    [label, note]
+}
+
+/// A panel's lines: of each box its pixel edges and the verdict; the hoisted order; the drawing order
+fn place(direction: Direction) -> Vec<String> {
     let (size, offset) = (Size { width: 800.0, height: 480.0 }, Point { x: 100.0, y: 40.0 });
     let overflow = Point { x: Overflow::Scroll, y: Overflow::Scroll };
     let panel = Area { size, offset, direction, overflow, ..Area::default() };
-    let candidates = [0, 1].map(|node| Candidate { node, ..Candidate::default() });
-    let placed = compute_oof_layout_for_area(&mut Font, &panel, &[label, note], &candidates);
+    let [label, note] = [(0, 0), (1, 1)].map(|(node, layer)| Candidate { node, layer, ..Candidate::default() });
+    let placed = compute_oof_layout_for_area(&mut Font, &panel, &styles(direction), &[note, label]);
     let placed = placed.expect("nothing here is refused");
     let edges = placed.pixels(&panel);
-    let said = |(place, &node): (usize, &NodeId)| {
-        let Rect { left, right, top, bottom } = edges[node as usize].expect("it was placed").expect("it is in eighths");
-        let verdict = match placed.reach(place).expect("so is all of it").offset() {
+    let said = |node: usize| {
+        let Rect { left, right, top, bottom } = edges[node].expect("it was placed").expect("it is in eighths");
+        let place = placed.hoisted.iter().position(|&other| other as usize == node).expect("so it has a place");
+        let verdict = match placed.reach(place).expect("all of it is in eighths").offset() {
             Some(Point { x, y }) => format!("seen at {x}, {y}"),
             None => "unseen".to_string(),
         };
         [format!("{left} to {right}, {top} to {bottom}"), verdict]
     };
-    placed.hoisted.iter().enumerate().map(said).collect()
+    let hoisted = placed.hoisted.iter().map(|&node| NAMES[node as usize]).collect::<Vec<_>>();
+    let drawn = placed.drawing_order().into_iter().map(|place| hoisted[place]).collect::<Vec<_>>();
+    [said(0).as_slice(), &said(1), &[hoisted.join(", "), drawn.join(", ")]].concat()
 }
 
 fn main() {
-    let panels = [Direction::Ltr, Direction::Rtl].map(place);
-    println!("{:<6}  {:<24}  Arabic panel", "", "English panel");
-    for (place, name) in ["label", "note"].into_iter().enumerate() {
-        let [english, arabic] = panels.each_ref().map(|boxes| &boxes[place]);
-        println!("{name:<6}  {:<24}  {}", english[0], arabic[0]);
-        println!("{:<6}  {:<24}  {}", "", english[1], arabic[1]);
+    let [english, arabic] = [Direction::Ltr, Direction::Rtl].map(place);
+    println!("{:<8}  {:<24}  Arabic panel", "", "English panel");
+    for (k, name) in [NAMES[0], "", NAMES[1], "", "hoisted", "drawn"].into_iter().enumerate() {
+        println!("{name:<8}  {:<24}  {}", english[k], arabic[k]);
     }
 }

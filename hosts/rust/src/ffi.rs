@@ -1,4 +1,4 @@
-//! The eight entries of the static library `oof_c`, over words. This is the only module with `unsafe`.
+//! The nine entries of the static library `oof_c`, over words. This is the only module with `unsafe`.
 //!
 //! Every entry takes any words in any number, and a call that it refuses writes no lent word; [`first_bad_word`] refuses none. So the
 //! functions here are safe: the slices are Rust's, and two of which one may be written don't overlap.
@@ -51,7 +51,7 @@ pub struct Lent<'a> {
     pub styles: &'a [u32],
     /// As many layouts, 23 words each
     pub layouts: &'a mut [u32],
-    /// Room for claimed candidates, 13 words each
+    /// Room for claimed candidates, 14 words each
     pub working: &'a mut [u32],
     /// Room for the others
     pub unclaimed: &'a mut [u32],
@@ -184,6 +184,19 @@ mod c {
             state: *const u32,
             verdict: *mut u32,
         ) -> u32;
+        pub fn oof_drawing_order(
+            styles: *const u32,
+            styles_len: usize,
+            layouts: *const u32,
+            layouts_len: usize,
+            working: *const u32,
+            working_len: usize,
+            unclaimed: *const u32,
+            unclaimed_len: usize,
+            state: *const u32,
+            order: *mut u32,
+            order_len: usize,
+        ) -> u32;
         pub fn oof_pixels(layout: *const u32, x: f32, y: f32, edges: *mut i32) -> u32;
         pub fn oof_first_bad_word(styles: *const u32, styles_len: usize, found: *mut u32) -> u32;
     }
@@ -264,6 +277,28 @@ pub fn reach(place: usize, run: Finished, verdict: &mut [u32; VERDICT]) -> u32 {
             run.unclaimed.len(),
             run.state.as_ptr(),
             verdict.as_mut_ptr(),
+        )
+    }
+}
+
+/// The order in which the boxes of a finished run are drawn, as places in the hoisted order: lower layers first, and within one layer the
+/// hoisted order. `order` has one word a box; it is written when the call is accepted. The result is 0, or the number of a refusal.
+pub fn drawing_order(run: Finished, order: &mut [u32]) -> u32 {
+    // SAFETY: pointers and lengths come from Rust slices that live through the call; the entry only reads them and the state's 27
+    // words, and writes the words of `order`, which are borrowed uniquely
+    unsafe {
+        c::oof_drawing_order(
+            run.styles.as_ptr(),
+            run.styles.len(),
+            run.layouts.as_ptr(),
+            run.layouts.len(),
+            run.working.as_ptr(),
+            run.working.len(),
+            run.unclaimed.as_ptr(),
+            run.unclaimed.len(),
+            run.state.as_ptr(),
+            order.as_mut_ptr(),
+            order.len(),
         )
     }
 }

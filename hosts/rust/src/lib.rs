@@ -2,9 +2,9 @@
 //!
 //! [`compute_oof_layout_for_area`] reads like the function of that name in taffy 0.15.1: it takes an area, a table of styles
 //! and a list of candidates, calls the [`Host`] back to measure and to lay out, and returns where the boxes stand. Under it is
-//! the library's dialogue of questions and replies over lent words; [`ffi`] has its eight entries, with slices checked by
-//! Rust. [`Layout::pixels`] rounds a box to whole pixels, and [`Placed::reach`] says whether scrolling can bring it into view.
-//! [`first_bad_word`] says which word of a table of styles, held as words and perhaps half typed, breaks a code rule.
+//! the library's dialogue of questions and replies over lent words; [`ffi`] has its nine entries, with slices checked by
+//! Rust. [`Layout::pixels`] rounds a box to whole pixels, [`Placed::reach`] says whether scrolling can bring it into view, and
+//! [`Placed::drawing_order`] which boxes are drawn over it. [`first_bad_word`] says which word of a table of styles, held as words and perhaps half typed, breaks a code rule.
 //!
 //! ```
 //! use oof::*;
@@ -31,6 +31,7 @@
 #![deny(unsafe_code, missing_docs)]
 
 mod bad_word;
+mod drawing;
 pub mod ffi;
 mod geometry;
 mod pixels;

@@ -13,11 +13,11 @@ pub enum Refusal {
     /// A code of direction, claims or overflow is outside its list
     BadArea = 1,
     /// A slice isn't whole records, is too long, or (after the opening) has another length than at the opening; or no box has the
-    /// place that is asked for
+    /// place that is asked for; or a drawing order isn't one word a box
     BadExtent = 2,
     /// A code or tag isn't allowed in its field of a style: [`first_bad_word`](crate::first_bad_word) says which
     BadStyle = 3,
-    /// A candidate names no item of the table, or has a code outside its list
+    /// A candidate names no item of the table, has a code outside its list, or a layer above 255
     BadCandidate = 4,
     /// The claimed or the unclaimed candidates would exceed their list
     ListFull = 5,

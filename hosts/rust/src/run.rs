@@ -1,6 +1,6 @@
 //! The placement: the library's dialogue, turned into callbacks.
 use crate::ffi::{self, state, Finished, Lent, Reply};
-use crate::words::{Answer, CANDIDATE, LAYOUT};
+use crate::words::{Answer, CANDIDATE, LAYER, LAYOUT};
 use crate::{Area, AvailableSpace, Candidate, Layout, NodeId, Rect, Refusal, Size, Style};
 use std::fmt;
 
@@ -9,7 +9,8 @@ use std::fmt;
 pub struct LaidOut {
     /// How far the box's content reaches, from its start edge
     pub overflow: Rect<f32>,
-    /// Candidates from within the box that look for their containing block, in the box's coordinates: its location is added
+    /// Candidates from within the box that look for their containing block, in the box's coordinates: its location is added. They have
+    /// layers of their own, not the box's.
     pub surfaced: Vec<Candidate>,
 }
 
@@ -45,8 +46,9 @@ pub trait Host {
     }
 }
 
-/// What a placement came to. It keeps the words of its run, for [`reach`](Placed::reach): a field that is changed afterwards changes
-/// nothing there. Two are equal if their fields are, and the size, offset, direction and overflow of their areas.
+/// What a placement came to. It keeps the words of its run, for [`reach`](Placed::reach) and [`drawing_order`](Placed::drawing_order): a
+/// field that is changed afterwards changes nothing there. Two are equal if their fields are, the size, offset, direction and overflow of
+/// their areas, and the layers of their boxes.
 #[derive(Clone, Debug, PartialEq)]
 pub struct Placed {
     /// By item; nothing for those that weren't placed. An item that was claimed twice has its last layout.
@@ -99,10 +101,18 @@ impl Words {
         let numbers = std::array::from_fn(|k| f32::from_bits(self.state[state::AREA + k]));
         (numbers, [self.state[codes], self.state[codes + 2], self.state[codes + 3]])
     }
+    /// What the drawing order goes by: the layers of the boxes, in hoisted order
+    fn layers(&self) -> impl Iterator<Item = u32> + '_ {
+        self.working.as_chunks::<CANDIDATE>().0.iter().map(|record| record[LAYER])
+    }
+    /// How many boxes were placed
+    pub(crate) fn boxes(&self) -> usize {
+        self.state[state::FILLED_WORKING] as usize
+    }
 }
 impl PartialEq for Words {
     fn eq(&self, other: &Words) -> bool {
-        self.area() == other.area()
+        self.area() == other.area() && self.layers().eq(other.layers())
     }
 }
 impl fmt::Debug for Words {

@@ -87,7 +87,7 @@ pub struct AxisStaticPosition {
 }
 
 /// A box that looks for its containing block. `Default`: item 0, absolute, static position 0, which is the area's corner only
-/// where its offset is 0.
+/// where its offset is 0, layer 0.
 #[derive(Copy, Clone, Debug, Default, PartialEq)]
 pub struct Candidate {
     /// The item
@@ -98,6 +98,9 @@ pub struct Candidate {
     pub position: Position,
     /// Where it would stand in normal flow
     pub static_position: Point<AxisStaticPosition>,
+    /// What it is drawn over: every box of a lower layer, and those of its own that are hoisted before it
+    /// ([`Placed::drawing_order`](crate::Placed::drawing_order)). Where a box stands doesn't depend on it.
+    pub layer: u8,
 }
 
 /// Where a box stands.

@@ -1,10 +1,12 @@
-//! Records as 32-bit words, floats by their bits: 57 words a style, 13 a candidate, 23 a layout, 10 an answer.
+//! Records as 32-bit words, floats by their bits: 57 words a style, 14 a candidate, 23 a layout, 10 an answer.
 use crate::*;
 
 /// Words of a style
 pub const STYLE: usize = 57;
 /// Words of a candidate
-pub const CANDIDATE: usize = 13;
+pub const CANDIDATE: usize = 14;
+/// Which word of a candidate is its layer, 0 to 255
+pub const LAYER: usize = 13;
 /// Words of a layout
 pub const LAYOUT: usize = 23;
 
@@ -230,15 +232,17 @@ impl Candidate {
         (w[0], w[1], w[2]) = (self.node, self.order, self.position as u32);
         put_axis(&mut w[3..], self.static_position.x);
         put_axis(&mut w[8..], self.static_position.y);
+        w[LAYER] = u32::from(self.layer);
         w
     }
-    /// The candidate of these words; nothing where a code is outside its list
+    /// The candidate of these words; nothing where a code is outside its list, or the layer is above 255
     pub fn from_words(w: &[u32; CANDIDATE]) -> Option<Candidate> {
         Some(Candidate {
             node: w[0],
             order: w[1],
             position: coded(&POSITIONS, w[2])?,
             static_position: Point { x: axis(&w[3..])?, y: axis(&w[8..])? },
+            layer: u8::try_from(w[LAYER]).ok()?,
         })
     }
 }

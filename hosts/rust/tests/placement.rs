@@ -1,6 +1,6 @@
 //! Runs by callbacks, and every refusal by its name.
 use oof::ffi::{self, Lent, Reply};
-use oof::words::{CANDIDATE, LAYOUT};
+use oof::words::{CANDIDATE, LAYER, LAYOUT};
 use oof::*;
 
 const FONT: Size<f32> = Size { width: 120.0, height: 18.0 };
@@ -176,7 +176,7 @@ fn typed_refusals() {
     let (styles, one) = ([label()], [Candidate::default()]);
     let many = vec![Style::default(); 1025];
     assert_eq!(place(&mut host, &many, &one, Room::MOST), Err(Refusal::BadExtent));
-    for records in [4097, usize::MAX / 52, usize::MAX / 13 + 1, usize::MAX] {
+    for records in [4097, usize::MAX / (4 * CANDIDATE), usize::MAX / CANDIDATE + 1, usize::MAX] {
         for room in [Room { working: records, unclaimed: 0 }, Room { working: 1, unclaimed: records }] {
             assert_eq!(place(&mut host, &styles, &one, room), Err(Refusal::BadExtent), "{room:?}");
         }
@@ -262,7 +262,7 @@ fn closed(w: &Words) -> [u32; ffi::STATE] {
 }
 
 /// Ways to have an opening refused, and how
-const BAD_OPENINGS: [(Refusal, fn(&mut Words)); 13] = {
+const BAD_OPENINGS: [(Refusal, fn(&mut Words)); 15] = {
     use Refusal::*;
     [
         (BadArea, |w| w.codes[0] = 2),
@@ -271,12 +271,14 @@ const BAD_OPENINGS: [(Refusal, fn(&mut Words)); 13] = {
         (BadArea, |w| w.codes[3] = u32::MAX),
         (BadExtent, |w| w.styles.push(0)),
         (BadExtent, |w| w.layouts.push(0)),
-        (BadExtent, |w| w.candidates.truncate(12)),
-        (BadExtent, |w| w.working.resize(13 * 4097, 0)),
+        (BadExtent, |w| w.candidates.truncate(CANDIDATE - 1)),
+        (BadExtent, |w| w.working.resize(CANDIDATE * 4097, 0)),
         (BadExtent, |w| w.unclaimed.push(0)),
         (BadStyle, |w| w.styles[16] = 3),
         (BadStyle, |w| w.styles[0] = 257),
         (BadCandidate, |w| w.candidates[0] = 1),
+        (BadCandidate, |w| w.candidates[LAYER] = 256),
+        (BadCandidate, |w| (w.codes[1], w.candidates[LAYER]) = (0, u32::MAX)), // not claimed
         (ListFull, |w| w.working.clear()),
     ]
 };
@@ -317,6 +319,13 @@ fn after_a_refused_opening_no_reply_is_taken() {
     }
 }
 
+/// A candidate's words, with any word as its layer
+fn on_layer(layer: u32) -> [u32; CANDIDATE] {
+    let mut words = Candidate::default().to_words();
+    words[LAYER] = layer;
+    words
+}
+
 /// Each refusal of a reply, to the measure question and to the lay-out question; the run then goes on
 #[test]
 fn refused_replies_write_nothing() {
@@ -341,10 +350,12 @@ fn refused_replies_write_nothing() {
     refuse(&mut w, BadStyle, Reply::Both(1.0, 1.0), &[], |w| w.styles[56] = 256);
     refuse(&mut w, BadCandidate, Reply::Both(1.0, 1.0), &[], |w| w.working[2] = 5);
     assert_eq!(w.reply(Reply::Both(120.0, 18.0), &[7]), 0); // a slice lent with it isn't looked at
-    refuse(&mut w, BadExtent, laid, &[0; 12], |_| ());
-    refuse(&mut w, BadCandidate, laid, &[9; 13], |_| ());
+    refuse(&mut w, BadExtent, laid, &[0; CANDIDATE - 1], |_| ());
+    refuse(&mut w, BadCandidate, laid, &[9; CANDIDATE], |_| ());
+    refuse(&mut w, BadCandidate, laid, &on_layer(256), |_| ());
+    refuse(&mut w, BadCandidate, laid, &[], |w| w.working[LAYER] = 256);
     refuse(&mut w, ListFull, laid, &Candidate::default().to_words(), |_| ());
-    refuse(&mut w, WrongReply, Reply::Both(1.0, 1.0), &[0; 12], |_| ());
+    refuse(&mut w, WrongReply, Reply::Both(1.0, 1.0), &[0; CANDIDATE - 1], |_| ());
     assert_eq!(w.layouts, words().layouts);
     assert_eq!(w.reply(laid, &[]), 0);
     assert_eq!((w.answer[0], w.answer[1]), (0, 2));

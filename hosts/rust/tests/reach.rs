@@ -1,6 +1,6 @@
 //! Which boxes scrolling can bring into view: boxes of runs, and every refusal by its name.
 use oof::ffi::{self, state, Finished, Lent, Reply};
-use oof::words::{CANDIDATE, LAYOUT};
+use oof::words::{CANDIDATE, LAYER, LAYOUT};
 use oof::*;
 
 /// Every box's size is given, so that there is nothing to measure
@@ -228,6 +228,10 @@ fn refused_by_name() {
     w.layouts[11] = f32::NAN.to_bits(); // a padding
     assert_eq!(w.reach(0), Ok([1, 801, 0]));
     w.state[state::OVERFLOW] = (-0.1f32).to_bits();
+    assert_eq!(w.reach(0), Err(Refusal::NotInEighths));
+    w.working[LAYER] = 256;
+    assert_eq!(w.reach(0), Err(Refusal::BadCandidate));
+    w.working[LAYER] = 255;
     assert_eq!(w.reach(0), Err(Refusal::NotInEighths));
     w.state[state::FILLED_WORKING] = 2; // the second record isn't one
     assert_eq!(w.reach(0), Err(Refusal::BadCandidate));

@@ -1,5 +1,5 @@
 //! Every record's words, there and back.
-use oof::words::{Answer, Tagged, CANDIDATE, LAYOUT, STYLE};
+use oof::words::{Answer, Tagged, CANDIDATE, LAYER, LAYOUT, STYLE};
 use oof::*;
 
 const VALUES: [f32; 5] = [0.0, -0.0, 1.5, -250.25, f32::INFINITY];
@@ -109,13 +109,14 @@ fn candidates() {
             x: axis(1.0, 2.0, AxisStaticEdge::Center, AlignmentSafety::Safe, AxisStaticEdge::End),
             y: axis(3.0, 4.0, AxisStaticEdge::End, AlignmentSafety::Unsafe, AxisStaticEdge::Center),
         },
+        layer: 9,
     };
     let f = f32::to_bits;
-    let words: [u32; CANDIDATE] = [7, 8, 4, f(1.0), f(2.0), 1, 2, 2, f(3.0), f(4.0), 2, 1, 1];
+    let words: [u32; CANDIDATE] = [7, 8, 4, f(1.0), f(2.0), 1, 2, 2, f(3.0), f(4.0), 2, 1, 1, 9];
     assert_eq!(candidate.to_words(), words);
     assert_eq!(Candidate::from_words(&words), Some(candidate));
-    for (at, last) in [(2, 4), (5, 2), (6, 2), (7, 2), (10, 2), (11, 2), (12, 2)] {
-        for code in 0..=last + 1 {
+    for (at, last) in [(2, 4), (5, 2), (6, 2), (7, 2), (10, 2), (11, 2), (12, 2), (LAYER, 255)] {
+        for code in (0..=last + 1).chain([257, 512, 1 << 24, 1 << 31, u32::MAX]) {
             let mut w = words;
             w[at] = code;
             let read = Candidate::from_words(&w);
