@@ -1,6 +1,6 @@
 //! The static library, over words lent once.
 use crate::scene::{Scene, MEASURED};
-use oof::ffi::{self, Lent, Reply, ANSWER, STATE};
+use oof::ffi::{self, Finished, Lent, Reply, ANSWER, STATE};
 use oracle::case::{CANDIDATE, LAYOUT};
 
 pub struct Words {
@@ -9,7 +9,7 @@ pub struct Words {
     pub styles: Vec<u32>,
     candidates: Vec<u32>,
     pub layouts: Vec<u32>,
-    working: Vec<u32>,
+    pub working: Vec<u32>,
     pub state: [u32; STATE],
     pub answer: [u32; ANSWER],
 }
@@ -49,6 +49,11 @@ impl Words {
             answer: &mut self.answer,
         };
         ffi::reply(reply, &[], &mut lent)
+    }
+    /// Of a finished run
+    pub fn drawing_order(&self, order: &mut [u32]) -> u32 {
+        let Words { styles, layouts, working, state, .. } = self;
+        ffi::drawing_order(Finished { styles, layouts, working, unclaimed: &[], state }, order)
     }
     /// The reply to the open question; none after the finish
     pub fn next(&self) -> Option<Reply> {

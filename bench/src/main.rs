@@ -1,5 +1,5 @@
 //! Times the same runs through the published Rust and through the library, in one process; then the library's calls as the table grows,
-//! good and with a bad word.
+//! good and with a bad word, and the drawing order as more layers are in use.
 //!
 //!     bench [ROUNDS]
 //!     bench profile rust|library ITEMS BOXES RUNS      # one side alone on 64 tables in turn, for a profiler
@@ -12,7 +12,7 @@ mod scene;
 
 use library::Words;
 use oof::ffi::Reply;
-use oof::words::STYLE;
+use oof::words::{CANDIDATE, LAYER, STYLE};
 use oof::{first_bad_word, BadWord};
 use rust::Tree;
 use scene::{scene, Scene};
@@ -188,6 +188,47 @@ fn bad_words(rounds: usize, items: usize) {
     }
 }
 
+/// A finished run of so many boxes, whose layers are drawn from so many, spread over all 256
+fn on_layers(items: usize, boxes: usize, layers: u32) -> Words {
+    let mut words = Words::new(&scene(0, items, boxes));
+    assert_eq!(words.run(), 0);
+    for (record, k) in words.working.chunks_exact_mut(CANDIDATE).zip(0u32..) {
+        // each of them, then any
+        let layer = if k < layers { k } else { (k.wrapping_mul(0x9E37_79B1) >> 16) % layers };
+        record[LAYER] = layer * (256 / layers);
+    }
+    words
+}
+
+/// The places by layer, by the Rust's stable sort
+fn sort(words: &Words, places: &mut [u32]) {
+    places.iter_mut().zip(0..).for_each(|(place, k)| *place = k);
+    places.sort_by_key(|&place| words.working[CANDIDATE * place as usize + LAYER]);
+}
+
+/// The drawing order, beside one sum of the working list's words and a stable sort
+fn drawing(rounds: usize, items: usize, boxes: usize, layers: u32) {
+    let words = on_layers(items, boxes, layers);
+    let (mut order, mut sorted) = (vec![0; boxes], vec![0; boxes]);
+    assert_eq!(words.drawing_order(&mut order), 0);
+    sort(&words, &mut sorted);
+    assert_eq!(order, sorted);
+    let mut sum = || {
+        black_box(sum_of(black_box(&words.working)));
+    };
+    let mut draw = || assert_eq!(black_box(black_box(&words).drawing_order(&mut order)), 0);
+    let mut sort = || sort(black_box(&words), black_box(&mut sorted));
+    let [sum, draw, sort] = medians(rounds, [&mut sum, &mut draw, &mut sort]);
+    println!(
+        "| {boxes} | {layers} | {} | {} | {} | {:.1} | {:.2} ns |",
+        shown(sum),
+        shown(draw),
+        shown(sort),
+        draw / sum,
+        draw / boxes as f64 / f64::from(layers) * 1e9
+    );
+}
+
 fn main() {
     let args: Vec<String> = std::env::args().skip(1).collect();
     if args.first().is_some_and(|arg| arg == "profile") {
@@ -221,5 +262,12 @@ fn main() {
     println!("|---|---|---|---|---|---|---|");
     for items in ITEMS {
         bad_words(rounds, items);
+    }
+    println!();
+    println!("| boxes | layers in use | one sum of the list | the drawing order | a stable sort | order / sum | order, a box and layer |");
+    println!("|---|---|---|---|---|---|---|");
+    drawing(rounds, 100, 100, 2);
+    for layers in [1, 2, 16, 256] {
+        drawing(rounds, 1, 4096, layers);
     }
 }

@@ -222,6 +222,22 @@ static void records_of_13(void)
     MUST(laid_out(&w, w.candidates, OOF_CANDIDATE_WORDS) == OOF_ACCEPTED);
 }
 
+/* a list of 4,096 records is 57,344 words; one record more is too long, and 4,096 records of 13 words are no whole ones */
+static void longest_lists(void)
+{
+    enum { MOST = 57344 };
+    static uint32_t lists[2][MOST + OOF_CANDIDATE_WORDS];
+    const size_t lengths[5][2] = {{MOST, MOST}, {MOST + OOF_CANDIDATE_WORDS, MOST}, {MOST, MOST + OOF_CANDIDATE_WORDS}, {4096 * 13, 0},
+                                  {MOST, 4096 * 13}};
+    for (int k = 0; k < 5; k++) {
+        words w = box_at(100, 40, 100, 40);
+        uint32_t result = oof_open(w.width, w.height, w.x, w.y, w.direction, OOF_CLAIMS_ABSOLUTE, OOF_OVERFLOW_VISIBLE,
+                                   OOF_OVERFLOW_VISIBLE, w.styles, OOF_STYLE_WORDS, w.candidates, OOF_CANDIDATE_WORDS, w.layouts,
+                                   OOF_LAYOUT_WORDS, lists[0], lengths[k][0], lists[1], lengths[k][1], w.state, w.answer);
+        MUST(result == (k == 0 ? OOF_ACCEPTED : OOF_BAD_EXTENT));
+    }
+}
+
 /* ---- pixels */
 
 enum { LARGEST = 9999999 };
@@ -1468,6 +1484,7 @@ int main(void)
     layers_refused();
     layers_rewritten();
     records_of_13();
+    longest_lists();
     whole_pixels();
     centered();
     not_quarters();

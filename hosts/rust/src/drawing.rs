@@ -45,7 +45,8 @@ impl Placed {
     /// the run, so that nothing is refused here. The time is at most the boxes times the layers in use.
     pub fn drawing_order(&self) -> Vec<usize> {
         let mut order = vec![0; self.words.boxes()];
-        Refusal::verdict(ffi::drawing_order(self.words.lent(), &mut order)).expect("the words of a finished run are kept");
+        Refusal::verdict(ffi::drawing_order(self.words.lent(), &mut order))
+            .expect("the words of a finished run are kept");
         order.into_iter().map(|place| place as usize).collect()
     }
 }

@@ -58,7 +58,7 @@ fn stable() {
         seed = seed.wrapping_mul(1_664_525).wrapping_add(1_013_904_223);
         seed >> 16
     };
-    for count in [1, 2, 3, 17, 256, 4096] {
+    for count in [1, 2, 3, 17, 256, 1024] {
         for layers in [1, 2, 3, 256] {
             let candidates: Vec<_> = (0..count).map(|_| on(word() % NODES as u32, (word() % layers) as u8)).collect();
             let placed = placed(&candidates);
@@ -92,7 +92,8 @@ fn layers_are_kept() {
     let placed = place(&mut host, &panel(), &[on(0, 5), sticky(5, 200)]);
     assert_eq!(placed.hoisted, [0, 1, 3]);
     assert_eq!(placed.drawing_order(), [1, 0, 2]);
-    let unclaimed: Vec<_> = placed.unclaimed.iter().map(|c| (c.node, c.layer, c.static_position.x.area.start)).collect();
+    let unclaimed: Vec<_> =
+        placed.unclaimed.iter().map(|c| (c.node, c.layer, c.static_position.x.area.start)).collect();
     assert_eq!(unclaimed, [(5, 200, 0.0), (2, 255, 20.0), (4, 1, 20.0)]);
 }
 
@@ -115,7 +116,10 @@ fn equality() {
     let candidates = |layers: [u8; 2]| [on(0, layers[0]), on(1, layers[1])];
     let [level, raised, again] = [[0, 0], [1, 0], [1, 0]].map(|layers| placed(&candidates(layers)));
     assert_eq!((level.drawing_order(), raised.drawing_order()), (vec![0, 1], vec![1, 0]));
-    assert_eq!((&level.layouts, &level.hoisted, &level.unclaimed), (&raised.layouts, &raised.hoisted, &raised.unclaimed));
+    assert_eq!(
+        (&level.layouts, &level.hoisted, &level.unclaimed),
+        (&raised.layouts, &raised.hoisted, &raised.unclaimed)
+    );
     assert_eq!((level.overflow, level.questions), (raised.overflow, raised.questions));
     assert_ne!(level, raised);
     assert_eq!(again, raised);
@@ -123,9 +127,10 @@ fn equality() {
     let higher = placed(&candidates([9, 3]));
     assert_eq!(higher.drawing_order(), raised.drawing_order());
     assert_ne!(higher, raised);
-    // room has no say, and neither has a layer of a candidate that isn't there
+    // room has no say
     let room = Room { working: 2, unclaimed: 0 };
-    let tight = compute_oof_layout_with(&mut Surfacing::default(), &panel(), &[style(); NODES], &candidates([1, 0]), room);
+    let tight =
+        compute_oof_layout_with(&mut Surfacing::default(), &panel(), &[style(); NODES], &candidates([1, 0]), room);
     assert_eq!(tight, Ok(raised));
     // an unclaimed candidate's layer is its field's
     let none = Area { claims: Claims { absolute: false, fixed: false }, ..panel() };
@@ -177,7 +182,8 @@ impl Words {
     fn drawing_order(&self, words: usize) -> Result<Vec<u32>, Refusal> {
         let Words { styles, layouts, working, unclaimed, state } = self;
         let mut room = [0xDEAD_0004; 8];
-        let number = ffi::drawing_order(Finished { styles, layouts, working, unclaimed, state }, &mut room[1..][..words]);
+        let number =
+            ffi::drawing_order(Finished { styles, layouts, working, unclaimed, state }, &mut room[1..][..words]);
         let order = room[1..][..words].to_vec();
         if number == 0 {
             room[1..][..words].fill(0xDEAD_0004);
