@@ -479,7 +479,8 @@ uint32_t oof_reach(size_t place,
  *         }
  *
  * A node that was claimed twice has two places and is drawn twice, both times with its last layout, on the layer of each place.
- * A run without boxes, and the state of a refused opening, have an order of no words: it is accepted, and nothing is written.
+ * A run without boxes, and the state of a refused opening, have an order of 0 words, and nothing is written. The pointer isn't
+ * null there either.
  * Refuses with 2, 6, 4, tested in this order:
  *   2   A slice is one that a reply refuses: not whole records, too long, or of another length than at the opening. Or order_len
  *       isn't state[OOF_STATE_WORKING], also where 6 would come next. Lend the run's own slices, and an order of that many words.
@@ -490,7 +491,7 @@ uint32_t oof_reach(size_t place,
  * It reads no float: boxes that oof_pixels and oof_reach refuse with 9 are drawn in their turn too. The words are read as they
  * are: a layer that somebody wrote into the working list after the finish counts.
  * What it doesn't promise: that a box hides what it is drawn over, or that two boxes overlap at all.
- * It passes over the filled working records once for each layer in use. */
+ * Its time grows with the boxes times the layers in use, however high these are. */
 uint32_t oof_drawing_order(const uint32_t *styles, size_t styles_len,
                            const uint32_t *layouts, size_t layouts_len,
                            const uint32_t *working, size_t working_len,

@@ -42,7 +42,7 @@ impl Placed {
     ///
     /// It is as long as `hoisted`: without boxes it is empty. An item that was claimed twice has two places and is drawn twice, both times
     /// with its last layout. Layers count alone: that boxes overlap, or that one hides another, isn't looked at. It goes by the words of
-    /// the run, so that nothing is refused here. The time is at most the boxes times the layers in use.
+    /// the run, so that nothing is refused here. Its time grows with the boxes times the layers in use, however high these are.
     pub fn drawing_order(&self) -> Vec<usize> {
         let mut order = vec![0; self.words.boxes()];
         Refusal::verdict(ffi::drawing_order(self.words.lent(), &mut order))
