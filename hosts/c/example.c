@@ -1,7 +1,8 @@
 /* An English panel and its Arabic mirror image, placed by callbacks and printed side by side. A label stands 20 pixels from
  * the start edge and 12 from the top of an 800 by 480 panel, which scrolls and stands at 100, 40 of its window; its size is
- * what the font says. Then the incident's panel (README.md at the root of the repository): the same label, and a note on the layer
- * above it, in the panel's pixels. Of both boxes it is said whether scrolling can bring them into view, and which is drawn first. */
+ * what the font says. Then the incident's panel (README.md at the root of the repository): the same label, and before it the note,
+ * on the layer above. Of the label and of the note: their pixels in the panel, and whether scrolling can bring them into view; and
+ * in which order the incident's panel is drawn. */
 #include <stdio.h>
 #include <stdlib.h>
 #include "oof.h"

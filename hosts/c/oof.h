@@ -19,7 +19,8 @@
  * entry 0: the call was accepted, and the answer's words say what comes next (of oof_pixels: the edges are written; of
  * oof_reach: the verdict; of oof_drawing_order: the order). 1 to 6, and 9, of oof_pixels and oof_reach alone: it was refused,
  * for the reason of that number (enum oof_refusal), and NO LENT WORD WAS WRITTEN: layouts, lists, answer, edges, verdict and
- * order keep every bit. 7 and 8 are refusals of parts that have no entry here. What stands in the state's words after a refusal:
+ * order keep every bit. 7 and 8 are refusals of parts that have no entry here. What stands in the state's words after a
+ * refusal:
  *   - after a refused reply, what stood there before, bit for bit, so the reply can be mended and made again;
  *   - after a refused opening, a finished run with all counts 0, so that no reply is taken until an opening is accepted.
  *     A run that stood in these words before is given up by any opening.
@@ -233,10 +234,10 @@ static inline void oof_set_length(uint32_t *style, size_t at, uint32_t tag, floa
  * Its static area is where the box would stand without insets, in THE CALLER'S COORDINATES: the area's offset is included, as
  * it is in the layout that comes out. A label that would start at the first pixel of an area whose x is 100 has
  * OOF_CANDIDATE_X_START 100, not 0.
- * Its layer, 0 to OOF_MOST_LAYER, says what it is drawn over: every box of a lower layer, and those of its own that stand before
- * it in the hoisted order (oof_drawing_order). It isn't a float, and a higher one is refused with 4, also of a candidate that
- * won't be claimed. A record keeps it, claimed or not, surfaced and shifted too. Where a box stands, its size and the questions
- * asked don't depend on it. */
+ * Its layer, 0 to OOF_MOST_LAYER, says what it is drawn over: every box of a lower layer, and those of its own that stand
+ * before it in the hoisted order (oof_drawing_order). It isn't a float, and a higher one is refused with 4, also of a candidate
+ * that won't be claimed. A record keeps it, claimed or not, surfaced and shifted too. Where a box stands, its size and the
+ * questions asked don't depend on it. */
 
 enum {
     OOF_CANDIDATE_NODE = 0,  /* which item of the table of styles */
@@ -438,8 +439,8 @@ uint32_t oof_reply_laid_out(float left, float right, float top, float bottom,
  *       slices, and ask for places below state[OOF_STATE_WORKING].
  *   6   The run isn't finished, or the state counts more filled records than a list has. Answer the open question first, and
  *       lend the state as it came. Its counts of boxes begun and questions answered aren't looked at.
- *   4   A filled record of the working list, this box's or another's, has a node outside the table, a code outside its list or a
- *       layer above OOF_MOST_LAYER. The run left none such: somebody else wrote there. Records of the unclaimed list aren't
+ *   4   A filled record of the working list, this box's or another's, has a node outside the table, a code outside its list or
+ *       a layer above OOF_MOST_LAYER. The run left none such: somebody else wrote there. Records of the unclaimed list aren't
  *       looked at.
  *   9   A number isn't one that oof_pixels accepts: the area's width, height, x or y, this box's x, y, width or height, or the
  *       overflow rectangle's left, right, top or bottom, needed or not. Nothing is known of this box then. If the number is
@@ -466,9 +467,9 @@ uint32_t oof_reach(size_t place,
  *   styles, layouts, working, unclaimed, state   as the run's last call left them; only read. Of styles and layouts the lengths
  *               count, of unclaimed the length and how many records are filled
  *   order       one word a box: order_len must be state[OOF_STATE_WORKING]. Written on 0 only
- * Each word is a place in the hoisted order, from 0, and not a node: order[0] is the place of the box that is drawn first, under
- * all others, and the last word is that of the box over all others. Each place below order_len stands there exactly once. Nodes
- * 5, 5, 2 with layers 1, 0, 0 have the order 1, 2, 0. To draw the boxes:
+ * Each word is a place in the hoisted order, from 0, and not a node: order[0] is the place of the box that is drawn first,
+ * under all others, and the last word is that of the box over all others. Each place below order_len stands there exactly once.
+ * Nodes 5, 5, 2 with layers 1, 0, 0 have the order 1, 2, 0. To draw the boxes:
  *
  *     static uint32_t order[OOF_MOST_RECORDS]; // as many as there can be
  *     size_t boxes = state[OOF_STATE_WORKING];
@@ -482,8 +483,9 @@ uint32_t oof_reach(size_t place,
  * A run without boxes, and the state of a refused opening, have an order of 0 words, and nothing is written. The pointer isn't
  * null there either.
  * Refuses with 2, 6, 4, tested in this order:
- *   2   A slice is one that a reply refuses: not whole records, too long, or of another length than at the opening. Or order_len
- *       isn't state[OOF_STATE_WORKING], also where 6 would come next. Lend the run's own slices, and an order of that many words.
+ *   2   A slice is one that a reply refuses: not whole records, too long, or of another length than at the opening. Or
+ *       order_len isn't state[OOF_STATE_WORKING], also where 6 would come next. Lend the run's own slices, and an order of that
+ *       many words.
  *   6   The run isn't finished, or the state counts more filled records than a list has. Answer the open question first, and
  *       lend the state as it came. Its counts of boxes begun and questions answered aren't looked at.
  *   4   A filled record of the working list has a node outside the table, a code outside its list or a layer above

@@ -1,5 +1,5 @@
-/* What the header says of offsets, of layers, of refused calls, of pixels, of boxes that no scrolling brings up, of the drawing order
- * and of words that break a rule, tried. Prints one line; exits with 1 at the first that isn't so. */
+/* What the header says of offsets, of layers, of refused calls, of pixels, of boxes that no scrolling brings up, of the drawing
+ * order and of words that break a rule, tried. Prints one line; exits with 1 at the first that isn't so. */
 #include <stdio.h>
 #include <stdlib.h>
 #include "oof.h"
@@ -158,8 +158,8 @@ static void layers_kept(void)
     MUST(laid_out(&w, inner, 2 * OOF_CANDIDATE_WORDS) == OOF_ACCEPTED);
     MUST(w.state[OOF_STATE_WORKING] == 2 && w.state[OOF_STATE_UNCLAIMED] == 1);
     MUST(w.working[OOF_CANDIDATE_LAYER] == 7 && w.working[OOF_CANDIDATE_WORDS + OOF_CANDIDATE_LAYER] == 3);
-    MUST(w.unclaimed[OOF_CANDIDATE_LAYER] == 255);
-    MUST(oof_float(w.unclaimed[OOF_CANDIDATE_X_START]) == 200 && oof_float(w.unclaimed[OOF_CANDIDATE_Y_START]) == 80); /* shifted */
+    MUST(w.unclaimed[OOF_CANDIDATE_LAYER] == 255); /* shifted by the box's location, 100 and 40 */
+    MUST(oof_float(w.unclaimed[OOF_CANDIDATE_X_START]) == 200 && oof_float(w.unclaimed[OOF_CANDIDATE_Y_START]) == 80);
 
     words fixed = box_at(100, 40, 100, 40);
     fixed.candidates[OOF_CANDIDATE_POSITION] = OOF_POSITION_FIXED, fixed.candidates[OOF_CANDIDATE_LAYER] = 200;
@@ -196,7 +196,8 @@ static void layers_refused(void)
 static void layers_rewritten(void)
 {
     words w = box_at(100, 40, 100, 40), before;
-    MUST(opened(&w) == OOF_ACCEPTED && w.working[OOF_CANDIDATE_WORDS + OOF_CANDIDATE_LAYER] > OOF_MOST_LAYER); /* the rear: noise */
+    MUST(opened(&w) == OOF_ACCEPTED);
+    MUST(w.working[OOF_CANDIDATE_WORDS + OOF_CANDIDATE_LAYER] > OOF_MOST_LAYER); /* noise in the record that isn't filled */
     w.working[OOF_CANDIDATE_LAYER] = 256;
     before = w;
     MUST(oof_reply_both(120, 18, LENT(&w)) == OOF_BAD_CANDIDATE && same(&before, &w));
@@ -227,8 +228,8 @@ static void longest_lists(void)
 {
     enum { MOST = 57344 };
     static uint32_t lists[2][MOST + OOF_CANDIDATE_WORDS];
-    const size_t lengths[5][2] = {{MOST, MOST}, {MOST + OOF_CANDIDATE_WORDS, MOST}, {MOST, MOST + OOF_CANDIDATE_WORDS}, {4096 * 13, 0},
-                                  {MOST, 4096 * 13}};
+    const size_t longer = MOST + OOF_CANDIDATE_WORDS, narrow = 4096 * 13;
+    const size_t lengths[5][2] = {{MOST, MOST}, {longer, MOST}, {MOST, longer}, {narrow, 0}, {MOST, narrow}};
     for (int k = 0; k < 5; k++) {
         words w = box_at(100, 40, 100, 40);
         uint32_t result = oof_open(w.width, w.height, w.x, w.y, w.direction, OOF_CLAIMS_ABSOLUTE, OOF_OVERFLOW_VISIBLE,
@@ -946,8 +947,8 @@ static void random_words(void)
 
 #define LIST(...) ((const uint32_t[]){__VA_ARGS__})
 
-/* a finished run of boxes with these nodes and layers, over six items and lists of four records. Every word that isn't to be read is
- * noise: no style, no number, and a bad record behind the filled ones and in the unclaimed list. */
+/* a finished run of boxes with these nodes and layers, over six items and lists of four records. Every word that isn't to be read
+ * is noise: no style, no number, and a bad record behind the filled ones and in the unclaimed list. */
 static ended drawing(uint32_t boxes, const uint32_t *nodes, const uint32_t *layers)
 {
     ended e;
@@ -1209,10 +1210,11 @@ static void placement_reads_no_layer(void)
         runs[k] = incident(OOF_DIRECTION_LTR);
         put_candidate(candidates, 0, 0, 255 * k);
         put_candidate(candidates, 1, 1, 254 * k)[OOF_CANDIDATE_POSITION] = OOF_POSITION_FIXED;
-        MUST(run_opened(&runs[k], OOF_DIRECTION_LTR, OOF_CLAIMS_ABSOLUTE, OOF_OVERFLOW_SCROLL, candidates, answers[k]) == OOF_ACCEPTED);
+        uint32_t *answer = answers[k];
+        MUST(run_opened(&runs[k], OOF_DIRECTION_LTR, OOF_CLAIMS_ABSOLUTE, OOF_OVERFLOW_SCROLL, candidates, answer) == OOF_ACCEPTED);
         put_candidate(candidates, 0, 1, 3 * k);
-        MUST(oof_reply_laid_out(0, 0, 0, 0, candidates, OOF_CANDIDATE_WORDS, ENDED(&runs[k]), answers[k]) == OOF_ACCEPTED);
-        MUST(run_finished(&runs[k], answers[k]));
+        MUST(oof_reply_laid_out(0, 0, 0, 0, candidates, OOF_CANDIDATE_WORDS, ENDED(&runs[k]), answer) == OOF_ACCEPTED);
+        MUST(run_finished(&runs[k], answer));
     }
     MUST(drawn(&runs[0], 2, LIST(0, 1)) && drawn(&runs[1], 2, LIST(1, 0)));
     MUST(memcmp(answers[0], answers[1], sizeof answers[0]) == 0 && memcmp(&runs[0], &runs[1], sizeof runs[0]) != 0);
