@@ -12,7 +12,7 @@ use Rattle.geometry.specs.declared.Rect.{Rect}
 use Rattle.style.specs.declared.ContainingBlockClaims.{ContainingBlockClaims}
 use Rattle.tree.specs.declared.layout.OofCandidate.{OofCandidate}
 use Rattle.records.proofs.Laws.{word-of-record}
-use Rattle.tree_record.specs.Candidate.{candidateWidth, layerWord, layers, candidateOf}
+use Rattle.tree_record.specs.Candidate.{candidateWidth, layerWord, layerCount, candidateOf}
 use Rattle.sweep.specs.Laws.{HasLayers}
 use Rattle.sweep.specs.Sweep.{firstCandidates, candidatesIn, layersOf, side, keep, claimed, sweptInto}
 use Rattle.sweep.specs.declared.Filled.{Filled}
@@ -36,7 +36,7 @@ use Rattle.drawing_laws.proofs.Calls.{opening-reads-no-layer, reply-rea
 
 abbrev AllAllowed : List ℕ → Type 0
 AllAllowed [] = Unit {0}
-AllAllowed (v ∷ vs) = (v < layers) × AllAllowed vs
+AllAllowed (v ∷ vs) = (v < layerCount) × AllAllowed vs
 
 layer-at : (n : ℕ) (ws : List ℕ) (i : ℕ) → i < n → getD (layersOf (firstCandidates n ws)) i 0 ≡ getD ws (candidateWidth * i + layerWord) 0
 unfolding candidateOf
@@ -48,12 +48,12 @@ layer-at n ws i h =
 layers-long : (n : ℕ) (ws : List ℕ) → length (layersOf (firstCandidates n ws)) ≡ n
 layers-long n ws = length-map (firstCandidates n ws) (λ (c : OofCandidate). c .layer) ∙ first-length n ws
 
-all-at : (ls : List ℕ) → AllAllowed ls → (i : ℕ) → i < length ls → getD ls i 0 < layers
+all-at : (ls : List ℕ) → AllAllowed ls → (i : ℕ) → i < length ls → getD ls i 0 < layerCount
 all-at [] a i h = absurd (not-suc-le-zero h)
 all-at (l ∷ ls) a zero h = a .0
 all-at (l ∷ ls) a (suc i) h = all-at ls (a .1) i (le-of-suc-le-suc h)
 
-all-by : (ls : List ℕ) → ((i : ℕ) → i < length ls → getD ls i 0 < layers) → AllAllowed ls
+all-by : (ls : List ℕ) → ((i : ℕ) → i < length ls → getD ls i 0 < layerCount) → AllAllowed ls
 all-by [] f = tt
 all-by (l ∷ ls) f = (f 0 (omega arith), all-by ls (λ i h. f (suc i) (omega arith)))
 
@@ -81,7 +81,7 @@ by-words n ws a i h = rw (layer-at n ws i h) at (all-at (layersOf (firstCandidat
 whole-list : (ws : List ℕ) → LayersAllowed (length ws / candidateWidth) ws → (n : ℕ) → LayersAllowed n ws
 whole-list ws a n i h = go (ltb i (length ws / candidateWidth)) refl
   where
-    go : (b : Bool) → ltb i (length ws / candidateWidth) ≡ b → getD ws (candidateWidth * i + layerWord) 0 < layers
+    go : (b : Bool) → ltb i (length ws / candidateWidth) ≡ b → getD ws (candidateWidth * i + layerWord) 0 < layerCount
     go true e = a i (ltb-true i (length ws / candidateWidth) e)
     go false e =
         let past = ltb-false i (length ws / candidateWidth) e in

@@ -14,7 +14,7 @@ use Rattle.tree.specs.Static.{translated}
 use Rattle.records.specs.Records.{recordAt, written, whole, wrong, breaks, goodRecords}
 use Rattle.records.proofs.Laws.{word-of-record, good-is-unbroken, written-twice}
 use Rattle.tree_record.specs.Codes.{positionCode}
-use Rattle.tree_record.specs.Candidate.{candidateWidth, layerWord, layers, candidateKinds, axisOf, candidateOf, axisWords, candidateWords}
+use Rattle.tree_record.specs.Candidate.{candidateWidth, layerWord, layerCount, candidateKinds, axisOf, candidateOf, axisWords, candidateWords}
 use Rattle.sweep.specs.Sweep.{candidatesIn, moved, appended}
 use Rattle.sweep.specs.declared.Shift.{Shift}
 use Rattle.sweep.specs.declared.Shift.the-variants.{Unmoved, By}
@@ -94,7 +94,7 @@ module _ (n : ℕ) {ws ws' : List ℕ} (count : ℕ) where
           last k a b = omega arith
 
           layer : (i : ℕ) → i < count → wrong (getD (candidateKinds n) layerWord whole) (getD ws' (candidateWidth * i + layerWord) 0) ≡ false
-          layer i h = lt-leb layers (getD ws' (candidateWidth * i + layerWord) 0) (allowed i h)
+          layer i h = lt-leb layerCount (getD ws' (candidateWidth * i + layerWord) 0) (allowed i h)
 
 pub same-back : {ws ws' : List ℕ} → SameButLayers ws ws' → SameButLayers ws' ws
 same-back same = record { long = sym (same .long); words = λ i k h. sym (same .words i k h) }

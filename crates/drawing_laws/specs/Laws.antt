@@ -9,7 +9,7 @@ use Rattle.geometry.specs.declared.Rect.{Rect}
 use Rattle.style.specs.declared.ContainingBlockClaims.{ContainingBlockClaims}
 use Rattle.style.specs.declared.Style.{Style}
 use Rattle.tree.specs.declared.layout.OofCandidate.{OofCandidate}
-use Rattle.tree_record.specs.Candidate.{candidateWidth, layerWord, layers}
+use Rattle.tree_record.specs.Candidate.{candidateWidth, layerWord, layerCount}
 use Rattle.sweep.specs.Sweep.{candidatesIn, layersOf, claimed, others}
 use Rattle.oof_resolve.specs.declared.ContainingBlock.{ContainingBlock}
 use Rattle.oof_box.specs.Box.{placed}
@@ -80,7 +80,7 @@ pub record SameButLayers (ws ws' : List ℕ) : Type 0 where
 
 -- the first n records have layers from 0 to 255
 abbrev pub LayersAllowed : ℕ → List ℕ → Type 0
-LayersAllowed n ws = (i : ℕ) → i < n → getD ws (candidateWidth * i + layerWord) 0 < layers
+LayersAllowed n ws = (i : ℕ) → i < n → getD ws (candidateWidth * i + layerWord) 0 < layerCount
 
 -- two slices of candidates. "A higher layer is a bad candidate": so that both are refused for it or neither, all layers are allowed
 pub record SameCandidates (ws ws' : List ℕ) : Type 0 where

@@ -12,7 +12,7 @@ use Rattle.tree.specs.declared.layout.OofCandidate.{OofCandidate}
 use Rattle.tree.specs.declared.layout.OofPositioningArea.{OofPositioningArea}
 use Rattle.records.specs.Records.{whole, recordAt, records, wrong, breaks, goodRecords}
 use Rattle.records.proofs.Laws.{word-of-record, good-is-unbroken}
-use Rattle.tree_record.specs.Candidate.{candidateWidth, layerWord, layers, candidateKinds, candidateOf}
+use Rattle.tree_record.specs.Candidate.{candidateWidth, layerWord, layerCount, candidateKinds, candidateOf}
 use Rattle.tree_record.proofs.Laws.{decoded-fits}
 use Rattle.sweep.specs.Sweep.{firstCandidates, candidatesIn, keep, appended}
 use Rattle.sweep.specs.Laws.{AllFit}
@@ -63,7 +63,7 @@ module _ (n : ℕ) (ws : List ℕ) (g : goodRecords (candidateKinds n) ws (lengt
   -- and its layer
   pub below-there : IsBelow n (candidateOf (recordAt candidateWidth ws i))
   unfolding candidateOf wrong
-  below-there = (node-there, leb-false layers (getD (recordAt candidateWidth ws i) layerWord 0) (word-good layerWord (lit< tt)))
+  below-there = (node-there, leb-false layerCount (getD (recordAt candidateWidth ws i) layerWord 0) (word-good layerWord (lit< tt)))
 
   pub edge-there : getD (recordAt candidateWidth ws i) 5 0 < 3
   unfolding wrong

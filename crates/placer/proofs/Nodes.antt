@@ -13,7 +13,7 @@ use Rattle.records.proofs.Laws.{record-of-records, records-step, good-is-unbrok
 use Rattle.style.specs.declared.ContainingBlockClaims.{ContainingBlockClaims}
 use Rattle.tree.specs.declared.layout.OofCandidate.{OofCandidate}
 use Rattle.tree.specs.Static.{translated}
-use Rattle.tree_record.specs.Candidate.{candidateWidth, layerWord, layers, candidateKinds, candidateOf}
+use Rattle.tree_record.specs.Candidate.{candidateWidth, layerWord, layerCount, candidateKinds, candidateOf}
 use Rattle.tree_record.proofs.Places.{candidate-place}
 use Rattle.sweep.specs.declared.Shift.{Shift}
 use Rattle.sweep.specs.declared.Shift.the-variants.{Unmoved, By}
@@ -72,7 +72,7 @@ unfolding breaks wrong
 is-below n ws i e f =
     rw (candidate-place ws i) (
       leb-false n (getD ws (candidateWidth * i) 0) (ap (λ (at : ℕ). leb n (getD ws at 0)) (sym (add-zero (candidateWidth * i))) ∙ e),
-      leb-false layers (getD ws (candidateWidth * i + layerWord) 0) f,
+      leb-false layerCount (getD ws (candidateWidth * i + layerWord) 0) f,
     )
 
 records-none : (w : ℕ) (ws : List ℕ) → records w zero ws ≡ []

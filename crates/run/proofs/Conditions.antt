@@ -13,7 +13,7 @@ use Rattle.util.proofs.Floats.{no}
 use Rattle.style.specs.Laws.{tagsOf, among}
 use Rattle.style.proofs.Laws.{takes-its-tags}
 use Rattle.records.specs.Records.{room, good, goodRecords}
-use Rattle.tree_record.specs.Candidate.{candidateWidth, layerWord, layers, axisKinds, candidateKinds}
+use Rattle.tree_record.specs.Candidate.{candidateWidth, layerWord, layerCount, axisKinds, candidateKinds}
 use Rattle.tree_record.proofs.Good.{good-axis, good-record}
 use Rattle.style_record.specs.Record.{Kind, tag, number, upTo, ratio, keyword, safety, contain, kindOf, item, items}
 use Rattle.style_record.specs.Check.{safetyBreaks, breaksAs, breaksRule, breaks, checked}
@@ -212,7 +212,7 @@ record-decided : (n : ℕ) (list : List ℕ) (i : ℕ) → Decides (not (good (c
 record-decided n list i =
     rw (good-record n list (candidateWidth * i), add-zero)
     (by-iff
-    (guard _ (at-most layers (word list i layerWord))
+    (guard _ (at-most layerCount (word list i layerWord))
     (guard _ (at-most n (getD list (candidateWidth * i) 0))
     (guard _ (at-most 5 (word list i 2))
     (decides.both (good axisKinds list (candidateWidth * i + 3)) (good axisKinds list (candidateWidth * i + 8)) (axis-decided list i 3) (axis-decided list i 8)))))

@@ -20,14 +20,14 @@ use Rattle.records.specs.Records.{whole, recordAt, records, every, wrong, break
 use Rattle.records.proofs.Laws.{word-of-record, record-of-records, every-is, good-is-unbroken, rear-back}
 use Rattle.style.specs.Codes.{safetyCode}
 use Rattle.tree_record.specs.Codes.{positionCode, edgeCode}
-use Rattle.tree_record.specs.Candidate.{candidateWidth, layers, candidateKinds, candidateWords}
+use Rattle.tree_record.specs.Candidate.{candidateWidth, layerCount, candidateKinds, candidateWords}
 use Rattle.tree_record.proofs.Laws.{candidate-widths}
 use Rattle.sweep.specs.Sweep.{listWords, appended}
 use Rattle.sweep.proofs.Steps.{words-length, appended-length}
 
 -- a candidate's node is below n, and its layer is one
 abbrev pub IsBelow : ℕ → OofCandidate → Type 0
-IsBelow n c = (c .node < n) × (c .layer < layers)
+IsBelow n c = (c .node < n) × (c .layer < layerCount)
 
 abbrev pub AllBelow : ℕ → List OofCandidate → Type 0
 AllBelow n [] = Unit {0}
@@ -67,7 +67,7 @@ record-good n c h =
       edge-good (c .place .y .align .keyword),
       safety-good (c .place .y .align .safety),
       edge-good (c .place .y .align .fallback),
-      lt-leb layers (c .layer) (h .1),
+      lt-leb layerCount (c .layer) (h .1),
     )
     refl
 

@@ -7,7 +7,7 @@ use mathlib.Core.List.{List, [], _∷_, map}
 use lib.Dec.{leb}
 use lib.ListN.{getD, replicate}
 use Rattle.records.specs.Records.{every, wrong, breaks, good}
-use Rattle.tree_record.specs.Candidate.{candidateWidth, layerWord, layers, axisKinds, candidateKinds}
+use Rattle.tree_record.specs.Candidate.{candidateWidth, layerWord, layerCount, axisKinds, candidateKinds}
 
 -- computed, of two items: a record of node 1 is good, one of node 2 isn't
 nodes-computed : map (λ (node : ℕ). good (candidateKinds 2) (node ∷ replicate (candidateWidth - 1) 0) 0) (1 ∷ 2 ∷ []) ≡ true ∷ false ∷ []
@@ -49,10 +49,10 @@ module _ (n : ℕ) (ws : List ℕ) (at : ℕ) where
   code limit k = leb limit (getD ws (at + k) 0)
 
   pub good-record : good (candidateKinds n) ws at
-      ≡ cond (leb layers (getD ws (at + layerWord) 0)) false
+      ≡ cond (leb layerCount (getD ws (at + layerWord) 0)) false
       (cond (leb n (getD ws at 0)) false (cond (leb 5 (getD ws (at + 2) 0)) false (cond (good axisKinds ws (at + 3)) (good axisKinds ws (at + 8)) false)))
   unfolding good every breaks wrong code
   good-record =
-      last-first _ (code layers layerWord)
-      ∙ ap (cond (code layers layerWord) false) (record-codes (code n 0) (code 5 2) (code 3 5) (code 3 6) (code 3 7) (code 3 10) (code 3 11) (code 3 12))
+      last-first _ (code layerCount layerWord)
+      ∙ ap (cond (code layerCount layerWord) false) (record-codes (code n 0) (code 5 2) (code 3 5) (code 3 6) (code 3 7) (code 3 10) (code 3 11) (code 3 12))
       ∙ rw (add-zero, add-assoc at 3 2, add-assoc at 3 3, add-assoc at 3 4, add-assoc at 8 2, add-assoc at 8 3, add-assoc at 8 4) refl

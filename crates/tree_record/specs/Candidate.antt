@@ -18,8 +18,8 @@ abbrev pub layerWord : ℕ
 layerWord = 13
 
 -- "its layer, from 0 to 255": so many layers
-abbrev pub layers : ℕ
-layers = 256
+abbrev pub layerCount : ℕ
+layerCount = 256
 
 -- ---- what each word holds, n being the number of items
 
@@ -29,7 +29,7 @@ axisKinds = float ∷ float ∷ below 3 ∷ below 3 ∷ below 3 ∷ []
 
 -- node, order, position, x, y, layer
 abbrev pub candidateKinds : ℕ → List Kind
-candidateKinds n = below n ∷ whole ∷ below 5 ∷ (axisKinds ++ axisKinds ++ (below layers ∷ []))
+candidateKinds n = below n ∷ whole ∷ below 5 ∷ (axisKinds ++ axisKinds ++ (below layerCount ∷ []))
 
 -- ---- reading
 
