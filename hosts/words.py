@@ -213,8 +213,8 @@ def wanted():
     assert count("measureWords") == count("layOutWords") == count("finishWords")
     refusals = text("run/specs/Refusals.antt")
     out |= {"MOST_ITEMS": int(re.search(r"ltb (\d+) \(items", refusals)[1]), "MOST_RECORDS": int(re.search(r"ltb (\d+) \(length list", refusals)[1])}
-    assert body(CANDIDATE, "candidateKinds")[0][1].endswith("++ (below layers ∷ []))")
-    out["MOST_LAYER"] = number(CANDIDATE, "layers") - 1
+    assert body(CANDIDATE, "candidateKinds")[0][1].endswith("++ (below layerCount ∷ []))")
+    out["MOST_LAYER"] = number(CANDIDATE, "layerCount") - 1
     # those of the entries: 7 and 8 belong to parts that have none
     out |= {k: v for k, v in codes("refusal/specs/Refusal.antt", "numberOf", "").items() if v not in (7, 8)} | {"ACCEPTED": 0}
     style_codes, record_codes = "style/specs/Codes.antt", "tree_record/specs/Codes.antt"

@@ -488,6 +488,11 @@ thirteen = 0 ∷ 0 ∷ 2 ∷ replicate 10 0
 abbrev pub payload : ℕ
 payload = 2143289345
 
+-- lists of so many words, over a broken item
+unfoldable pub overWords : ℕ → ℕ → Lent
+overWords working unclaimed =
+    record { styles = broken; layouts = over broken 1 1 .layouts; working = replicate working 0; unclaimed = replicate unclaimed 0 }
+
 -- the layer of the unclaimed record rewritten
 unfoldable pub rewritingUnclaimedLayer : ℕ → Outcome
 rewritingUnclaimedLayer layer =
@@ -517,7 +522,8 @@ layers =
     -- records of 13 words; lists of 4,096 records
     refuses 2 (opening thirteen (over box 1 1))
     ∷ refuses 2 (next box openedBox (surfacing thirteen))
-    ∷ same (candidateWidth * 4096 ∷ []) (57344 ∷ [])
+    ∷ refuses 3 (opening absolute (overWords 57344 57344))
+    ∷ refuses 2 (opening absolute (overWords 57358 14))
     -- the highest layer, and the first that is none: claimed, unclaimed; and a word that would be another NaN as a float
     ∷ laysOut boxAsked (opening (onLayer 255 absolute) (over box 1 1))
     ∷ refuses 4 (opening (onLayer 256 absolute) (over box 1 1))

@@ -4,7 +4,8 @@
 //! and a list of candidates, calls the [`Host`] back to measure and to lay out, and returns where the boxes stand. Under it is
 //! the library's dialogue of questions and replies over lent words; [`ffi`] has its nine entries, with slices checked by
 //! Rust. [`Layout::pixels`] rounds a box to whole pixels, [`Placed::reach`] says whether scrolling can bring it into view, and
-//! [`Placed::drawing_order`] which boxes are drawn over it. [`first_bad_word`] says which word of a table of styles, held as words and perhaps half typed, breaks a code rule.
+//! [`Placed::drawing_order`] in which order the boxes are drawn. [`first_bad_word`] says which word of a table of styles, held as
+//! words and perhaps half typed, breaks a code rule.
 //!
 //! ```
 //! use oof::*;
