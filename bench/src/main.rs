@@ -229,20 +229,24 @@ fn drawing(rounds: usize, items: usize, boxes: usize, layers: u32) {
     );
 }
 
+/// So many runs of one side, for a profiler: `rust` or `library`, items, boxes, runs
+fn profile(args: &[String]) {
+    let [items, boxes, runs] = [1, 2, 3].map(|i| args[i].parse::<usize>().expect("a number"));
+    let scenes: Vec<_> = (0..64).map(|seed| scene(seed, items, boxes)).collect();
+    let mut trees: Vec<Tree> = scenes.iter().map(Tree::new).collect();
+    let mut words: Vec<Words> = scenes.iter().map(Words::new).collect();
+    for at in 0..runs {
+        match args[0].as_str() {
+            "rust" => drop(black_box(trees[at % 64].run())),
+            _ => assert_eq!(words[at % 64].run(), 0),
+        }
+    }
+}
+
 fn main() {
     let args: Vec<String> = std::env::args().skip(1).collect();
     if args.first().is_some_and(|arg| arg == "profile") {
-        let [items, boxes, runs] = [2, 3, 4].map(|i| args[i].parse::<usize>().expect("a number"));
-        let scenes: Vec<_> = (0..64).map(|seed| scene(seed, items, boxes)).collect();
-        let mut trees: Vec<Tree> = scenes.iter().map(Tree::new).collect();
-        let mut words: Vec<Words> = scenes.iter().map(Words::new).collect();
-        for at in 0..runs {
-            match args[1].as_str() {
-                "rust" => drop(black_box(trees[at % 64].run())),
-                _ => assert_eq!(words[at % 64].run(), 0),
-            }
-        }
-        return;
+        return profile(&args[1..]);
     }
     let rounds = args.first().map_or(101, |s| s.parse().expect("rounds"));
     println!("| a run | questions a box | the Rust | the library | ratio |");

@@ -995,7 +995,7 @@ static int drawn(const ended *e, size_t words, const uint32_t *places)
     return draw(e, words, order) == OOF_ACCEPTED && memcmp(order, places, words * sizeof *order) == 0;
 }
 
-static int undrawn(const ended *e, size_t words, uint32_t number)
+static int gives(const ended *e, size_t words, uint32_t number)
 {
     uint32_t order[ORDER_ROOM];
     return draw(e, words, order) == number;
@@ -1022,9 +1022,9 @@ static void drawing_orders(void)
     e = drawing(1, LIST(5), LIST(255));
     MUST(drawn(&e, 1, LIST(0)));
     e = drawing(0, NULL, NULL);
-    MUST(drawn(&e, 0, LIST(0)) && undrawn(&e, 1, OOF_BAD_EXTENT));
+    MUST(drawn(&e, 0, LIST(0)) && gives(&e, 1, OOF_BAD_EXTENT));
     memset(&e, 0, sizeof e); /* zeros are a finished run over no words */
-    MUST(drawn(&e, 0, LIST(0)) && undrawn(&e, 1, OOF_BAD_EXTENT));
+    MUST(drawn(&e, 0, LIST(0)) && gives(&e, 1, OOF_BAD_EXTENT));
 
     e = three_boxes();
     e.working[OOF_CANDIDATE_LAYER] = 0; /* a layer that somebody wrote after the finish counts */
@@ -1037,30 +1037,30 @@ static void undrawn_extents(void)
     ended e;
     for (size_t words = 0; words < ORDER_ROOM; words++) {
         e = three_boxes();
-        MUST(words == 3 ? drawn(&e, 3, LIST(1, 2, 0)) : undrawn(&e, words, OOF_BAD_EXTENT));
+        MUST(words == 3 ? drawn(&e, 3, LIST(1, 2, 0)) : gives(&e, words, OOF_BAD_EXTENT));
         e.working[OOF_CANDIDATE_LAYER] = 256;
-        MUST(undrawn(&e, words, words == 3 ? OOF_BAD_CANDIDATE : OOF_BAD_EXTENT));
+        MUST(gives(&e, words, words == 3 ? OOF_BAD_CANDIDATE : OOF_BAD_EXTENT));
         e.state[OOF_STATE_PROGRESS] = 5;
-        MUST(undrawn(&e, words, words == 3 ? OOF_WRONG_REPLY : OOF_BAD_EXTENT));
+        MUST(gives(&e, words, words == 3 ? OOF_WRONG_REPLY : OOF_BAD_EXTENT));
     }
     e = three_boxes();
     for (int slice = 0; slice < 4; slice++) {
         const uint32_t all = e.lengths[slice];
         e.lengths[slice] = 0; /* another length than at the opening */
-        MUST(undrawn(&e, 3, OOF_BAD_EXTENT));
+        MUST(gives(&e, 3, OOF_BAD_EXTENT));
         e.lengths[slice] = all, e.state[OOF_STATE_LENGTHS + slice]++;
-        MUST(undrawn(&e, 3, OOF_BAD_EXTENT));
+        MUST(gives(&e, 3, OOF_BAD_EXTENT));
         lend(&e, slice, all - 1); /* not whole records, at the opening too */
-        MUST(undrawn(&e, 3, OOF_BAD_EXTENT));
+        MUST(gives(&e, 3, OOF_BAD_EXTENT));
         lend(&e, slice, all);
         MUST(drawn(&e, 3, LIST(1, 2, 0)));
     }
     lend(&e, LAYOUTS, (ITEM_ROOM - 1) * OOF_LAYOUT_WORDS);
-    MUST(undrawn(&e, 3, OOF_BAD_EXTENT));
+    MUST(gives(&e, 3, OOF_BAD_EXTENT));
     lend(&e, STYLES, (ITEM_ROOM - 1) * OOF_STYLE_WORDS);
-    MUST(undrawn(&e, 3, OOF_BAD_CANDIDATE)); /* node 5 of five items */
+    MUST(gives(&e, 3, OOF_BAD_CANDIDATE)); /* node 5 of five items */
     lend(&e, WORKING, 3 * 13);
-    MUST(undrawn(&e, 3, OOF_BAD_EXTENT)); /* three records as they were before layers */
+    MUST(gives(&e, 3, OOF_BAD_EXTENT)); /* three records as they were before layers */
 }
 
 /* an unfinished run, or counts above the lists; no other count is looked at */
@@ -1069,30 +1069,30 @@ static void undrawn_states(void)
     ended e = three_boxes();
     for (uint32_t progress = 1; progress <= 5; progress++) {
         e.state[OOF_STATE_PROGRESS] = progress;
-        MUST(undrawn(&e, 3, OOF_WRONG_REPLY) && undrawn(&e, 2, OOF_BAD_EXTENT));
+        MUST(gives(&e, 3, OOF_WRONG_REPLY) && gives(&e, 2, OOF_BAD_EXTENT));
     }
     e.state[OOF_STATE_PROGRESS] = 6; /* above the list is finished */
     MUST(drawn(&e, 3, LIST(1, 2, 0)));
     lend(&e, WORKING, 2 * OOF_CANDIDATE_WORDS); /* two records, of which three are filled */
-    MUST(undrawn(&e, 3, OOF_WRONG_REPLY) && undrawn(&e, 2, OOF_BAD_EXTENT));
+    MUST(gives(&e, 3, OOF_WRONG_REPLY) && gives(&e, 2, OOF_BAD_EXTENT));
     e.state[OOF_STATE_WORKING] = 2;
-    MUST(drawn(&e, 2, LIST(1, 0)) && undrawn(&e, 3, OOF_BAD_EXTENT));
+    MUST(drawn(&e, 2, LIST(1, 0)) && gives(&e, 3, OOF_BAD_EXTENT));
 
     e = three_boxes();
     e.state[OOF_STATE_UNCLAIMED] = RECORD_ROOM;
     MUST(drawn(&e, 3, LIST(1, 2, 0)));
     e.state[OOF_STATE_UNCLAIMED] = RECORD_ROOM + 1;
-    MUST(undrawn(&e, 3, OOF_WRONG_REPLY) && undrawn(&e, 4, OOF_BAD_EXTENT));
+    MUST(gives(&e, 3, OOF_WRONG_REPLY) && gives(&e, 4, OOF_BAD_EXTENT));
     e.working[OOF_CANDIDATE_POSITION] = 5;
-    MUST(undrawn(&e, 3, OOF_WRONG_REPLY));
+    MUST(gives(&e, 3, OOF_WRONG_REPLY));
     e.state[OOF_STATE_UNCLAIMED] = 0;
-    MUST(undrawn(&e, 3, OOF_BAD_CANDIDATE));
+    MUST(gives(&e, 3, OOF_BAD_CANDIDATE));
 
     e = three_boxes();
     e.state[OOF_STATE_BEGUN] = 0, e.state[OOF_STATE_ANSWERED] = 99;
     MUST(drawn(&e, 3, LIST(1, 2, 0)));
     e.state[OOF_STATE_WORKING] = 0xFFFFFFFF;
-    MUST(undrawn(&e, 3, OOF_BAD_EXTENT));
+    MUST(gives(&e, 3, OOF_BAD_EXTENT));
 }
 
 /* any filled working record, and no other */
@@ -1104,16 +1104,16 @@ static void undrawn_records(void)
         uint32_t *record = e.working + k * OOF_CANDIDATE_WORDS;
         for (int code = 0; code < CODES; code++) { /* the layer is the last */
             record[codes[code].word] = codes[code].most + 1;
-            MUST(undrawn(&e, 3, OOF_BAD_CANDIDATE));
+            MUST(gives(&e, 3, OOF_BAD_CANDIDATE));
             record[codes[code].word] = codes[code].most;
-            MUST(undrawn(&e, 3, OOF_ACCEPTED));
+            MUST(gives(&e, 3, OOF_ACCEPTED));
         }
         for (int at = 0; at < 5; at++) {
             record[OOF_CANDIDATE_LAYER] = high[at];
-            MUST(undrawn(&e, 3, OOF_BAD_CANDIDATE));
+            MUST(gives(&e, 3, OOF_BAD_CANDIDATE));
         }
         record[OOF_CANDIDATE_LAYER] = 0, record[OOF_CANDIDATE_NODE] = ITEM_ROOM;
-        MUST(undrawn(&e, 3, OOF_BAD_CANDIDATE));
+        MUST(gives(&e, 3, OOF_BAD_CANDIDATE));
         e.state[OOF_STATE_WORKING] = k; /* it isn't filled any more */
         MUST(k < 2 ? drawn(&e, k, LIST(0)) : drawn(&e, 2, LIST(1, 0)));
     }
@@ -1165,7 +1165,7 @@ static void note_over_label(void)
             put_candidate(candidates, note_first, 0, 0);
             put_candidate(candidates, !note_first, 1, 1);
             MUST(run_opened(&e, direction, OOF_CLAIMS_ABSOLUTE, OOF_OVERFLOW_SCROLL, candidates, answer) == OOF_ACCEPTED);
-            MUST(undrawn(&e, 2, OOF_WRONG_REPLY) && undrawn(&e, 1, OOF_BAD_EXTENT)); /* unfinished */
+            MUST(gives(&e, 2, OOF_WRONG_REPLY) && gives(&e, 1, OOF_BAD_EXTENT)); /* unfinished */
             MUST(run_finished(&e, answer));
             MUST(note_first ? drawn(&e, 2, LIST(1, 0)) : drawn(&e, 2, LIST(0, 1)));
             e.styles[OOF_STYLE_PADDING_LEFT] = 2; /* no tag: a finished run's styles aren't read */
@@ -1185,10 +1185,10 @@ static void odd_drawings(void)
 
     second[OOF_CANDIDATE_POSITION] = OOF_POSITION_FIXED; /* the label surfaces a note on layer 2, under it */
     MUST(run_opened(&e, OOF_DIRECTION_LTR, OOF_CLAIMS_ABSOLUTE, OOF_OVERFLOW_SCROLL, candidates, answer) == OOF_ACCEPTED);
-    MUST(undrawn(&e, 1, OOF_WRONG_REPLY));
+    MUST(gives(&e, 1, OOF_WRONG_REPLY));
     put_candidate(candidates, 0, 1, 2);
     MUST(oof_reply_laid_out(0, 0, 0, 0, candidates, OOF_CANDIDATE_WORDS, ENDED(&e), answer) == OOF_ACCEPTED);
-    MUST(undrawn(&e, 1, OOF_BAD_EXTENT) && undrawn(&e, 2, OOF_WRONG_REPLY));
+    MUST(gives(&e, 1, OOF_BAD_EXTENT) && gives(&e, 2, OOF_WRONG_REPLY));
     MUST(run_finished(&e, answer) && drawn(&e, 2, LIST(1, 0)));
     MUST(e.unclaimed[OOF_CANDIDATE_LAYER] == 5);
     e.unclaimed[OOF_CANDIDATE_LAYER] = 256;
@@ -1196,9 +1196,9 @@ static void odd_drawings(void)
 
     MUST(run_opened(&e, OOF_DIRECTION_LTR, 0, OOF_OVERFLOW_SCROLL, candidates, answer) == OOF_ACCEPTED);
     MUST(answer[OOF_ANSWER_KIND] == OOF_FINISH && e.state[OOF_STATE_UNCLAIMED] == 2);
-    MUST(drawn(&e, 0, LIST(0)) && undrawn(&e, 1, OOF_BAD_EXTENT));
+    MUST(drawn(&e, 0, LIST(0)) && gives(&e, 1, OOF_BAD_EXTENT));
     MUST(run_opened(&e, 2, OOF_CLAIMS_ABSOLUTE, OOF_OVERFLOW_SCROLL, candidates, answer) == OOF_BAD_AREA);
-    MUST(drawn(&e, 0, LIST(0)) && undrawn(&e, 1, OOF_BAD_EXTENT));
+    MUST(drawn(&e, 0, LIST(0)) && gives(&e, 1, OOF_BAD_EXTENT));
 }
 
 /* runs that differ in layers alone differ in the records' layers alone */
@@ -1477,6 +1477,19 @@ static void style_word_names(void)
     MUST(!strcmp(oof_style_word_name(0xFFFFFFFF), "no word of a style"));
 }
 
+static void of_drawings(void)
+{
+    drawing_orders();
+    undrawn_extents();
+    undrawn_states();
+    undrawn_records();
+    longest_drawing();
+    note_over_label();
+    odd_drawings();
+    placement_reads_no_layer();
+    random_drawings();
+}
+
 int main(void)
 {
     offsets();
@@ -1502,15 +1515,7 @@ int main(void)
     boxes_of_runs();
     odd_runs();
     random_words();
-    drawing_orders();
-    undrawn_extents();
-    undrawn_states();
-    undrawn_records();
-    longest_drawing();
-    note_over_label();
-    odd_drawings();
-    placement_reads_no_layer();
-    random_drawings();
+    of_drawings();
     first_bad_words();
     long_tables();
     every_word();

@@ -26,8 +26,10 @@ impl Placed {
     ///     Candidate { node: 0, layer: LABELS, ..Candidate::default() },
     ///     Candidate { node: 2, layer: LABELS, ..Candidate::default() },
     /// ];
+    /// let from_left = |x| Style { inset: Rect { left: LengthPercentageAuto::Length(x), ..Rect::AUTO }, ..Style::default() };
+    /// let styles = [from_left(10.0), from_left(20.0), from_left(30.0)];
     /// let panel = Area { size: Size { width: 800.0, height: 480.0 }, ..Area::default() };
-    /// let placed = compute_oof_layout_for_area(&mut Font, &panel, &[Style::default(); 3], &candidates).unwrap();
+    /// let placed = compute_oof_layout_for_area(&mut Font, &panel, &styles, &candidates).unwrap();
     ///
     /// assert_eq!(placed.hoisted, [1, 0, 2]);
     /// assert_eq!(placed.drawing_order(), [1, 2, 0]); // places, not items
@@ -37,7 +39,7 @@ impl Placed {
     ///     let layout = placed.layouts[node].expect("it was placed");
     ///     drawn.push((names[node], layout.location.x)); // here a renderer draws the box
     /// }
-    /// assert_eq!(drawn, [("first label", 0.0), ("second label", 0.0), ("alarm note", 0.0)]);
+    /// assert_eq!(drawn, [("first label", 10.0), ("second label", 30.0), ("alarm note", 20.0)]);
     /// ```
     ///
     /// It is as long as `hoisted`: without boxes it is empty. An item that was claimed twice has two places and is drawn twice, both times
