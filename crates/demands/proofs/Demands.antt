@@ -23,6 +23,7 @@ use Rattle.refusal.specs.declared.Refusal.the-variants.{BadStyle}
 use Rattle.style_record.specs.Check.{checked}
 use Rattle.style_record.specs.Decode.{styleAt}
 use Rattle.style_record.specs.declared.check.TableCheck.{TableCheck}
+use Rattle.sweep.specs.Sweep.{layersOf, claimed}
 use Rattle.oof_box.specs.declared.question.Reply.{Reply}
 use Rattle.oof_box.specs.declared.question.Reply.the-variants.{LaidOut}
 use Rattle.oof_box.specs.Cut.{layoutAfter}
@@ -33,6 +34,7 @@ use Rattle.run.specs.declared.State.{State}
 use Rattle.run.specs.declared.Step.{Step}
 use Rattle.run.specs.declared.Answer.the-variants.{Refused}
 use Rattle.run.specs.Call.{Lent, Outcome, outcome}
+use Rattle.run.specs.Refusals.{accepted}
 use Rattle.run.specs.Conditions.{StyleIsBad, FirstIs, NoneHolds}
 use Rattle.run.specs.Theorems.{Names, WroteSize, openIn, oneIfAsked, isRefused, askedFor, Heard, Loan, own, other, Turn, next, nextWith, turned, Lends, AllLend, called, Stands, heededIn, courseOf, laidSoFar}
 use Rattle.run.specs.Run.{claimsOf, extentsOf, boxAtHand, opened, replied, takenBy, laidOut}
@@ -46,12 +48,13 @@ use Rattle.reach_laws.specs.Laws.{toldOf}
 use Rattle.reach_laws.proofs.Runs.{mirrored-verdict}
 use Rattle.drawing_laws.specs.Laws.{allCame, KeepsLayers, SameOutcomes, drawnOf}
 use Rattle.drawing_laws.proofs.Kept.{layers-of-a-run}
+use Rattle.drawing_laws.proofs.Finished.{finished-is-drawn as run-is-drawn}
 use Rattle.drawing_laws.proofs.Runs.{run-reads-no-layer}
 use Rattle.drawing_laws.proofs.Mirrored.{mirrored-drawing as images-drawn}
 use Rattle.reach_laws.proofs.Answered.{quarters-are-answered as all-answered}
 use Rattle.reach.specs.declared.Reached.{Reached}
 use Rattle.reach.proofs.Exactly as reach
-use Rattle.drawing.specs.Drawing.{Drawn, drawn}
+use Rattle.drawing.specs.Drawing.{drawingOrder, Drawn, drawn}
 use Rattle.drawing.proofs.Exactly as drawing
 use Rattle.boxlist_print.specs.declared.Listing.{Listing}
 use Rattle.boxlist_print.specs.Rows.{Prints}
@@ -69,7 +72,7 @@ use Rattle.pixels_laws.specs.Laws.{HasEdges}
 use Rattle.pixels_laws.proofs.Run.{run-has-edges}
 use Rattle.pixels_laws.proofs.Tests.{refused-first, edges-first}
 use Rattle.demands.specs.Entries.{Opens, RepliesTo, AnyCalls, Takes, Run, RefusedSince, BothRuns, AfterEach}
-use Rattle.demands.specs.Demands.{OpeningDemands, ReplyDemands, AlignmentDemands, PixelsDemands, ReachDemands, DrawingDemands, CheckDemands, ScreenDemands, OpeningsGoByTheCheck, RepliesGoByTheCheck, ThreeQuestionsEach, EqualsStraightRun, SizedLayout, SizeLaw, LaidOutAsAsked, MirrorImage, MirroredReach, MirroredDrawing, LayersAreKept, PlacementReadsNoLayer, QuartersHaveEdges, QuartersAreAnswered}
+use Rattle.demands.specs.Demands.{OpeningDemands, ReplyDemands, AlignmentDemands, PixelsDemands, ReachDemands, DrawingDemands, CheckDemands, ScreenDemands, OpeningsGoByTheCheck, RepliesGoByTheCheck, ThreeQuestionsEach, EqualsStraightRun, SizedLayout, SizeLaw, LaidOutAsAsked, MirrorImage, MirroredReach, MirroredDrawing, LayersAreKept, FinishedIsDrawn, PlacementReadsNoLayer, QuartersHaveEdges, QuartersAreAnswered}
 
 -- ---- one call
 
@@ -104,7 +107,7 @@ drawing-demands s lent before c =
       refused = drawing.refused-exactly s lent before;
       accepted = drawing.accepted-exactly s lent before;
       kept = drawing.refused-keeps s lent before;
-      written = drawing.drawn-in-order s lent before;
+      in-order = drawing.drawn-in-order s lent before;
     })
 
 pub check-demands : (styles : List ℕ) {r : TableCheck} → r ≡ checked styles → CheckDemands styles r
@@ -224,6 +227,16 @@ pub layers-are-kept : LayersAreKept
 layers-are-kept o candidates lent turns has calls =
     subst (KeepsLayers (claimsOf o) (allCame candidates (heededIn o candidates lent turns))) (sym (run-is o candidates lent calls))
     (layers-of-a-run o candidates lent turns (run-opened o candidates lent calls) (run-lends o candidates lent calls))
+
+pub finished-is-drawn : FinishedIsDrawn
+finished-is-drawn o candidates lent turns has before calls =
+    let boxes = claimed (claimsOf o) (allCame candidates (heededIn o candidates lent turns)) in
+    subst
+    (λ (x : Outcome).
+    x .step .state .progress ≡ Finished → length before ≡ x .step .state .counts .filled .working
+    → drawnOf before (lent .styles) x ≡ record { verdict = accepted; order = drawingOrder (layersOf boxes) })
+    (sym (run-is o candidates lent calls))
+    (run-is-drawn o candidates lent turns before (run-opened o candidates lent calls) (run-lends o candidates lent calls))
 
 pub placement-reads-no-layer : PlacementReadsNoLayer
 placement-reads-no-layer o candidates candidates' lent lent' turns turns' has has' came slices same calls calls' =

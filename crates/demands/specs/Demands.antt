@@ -29,6 +29,7 @@ use Rattle.tree.specs.declared.layout.Aligned.the-variants as aligned
 use Rattle.tree.specs.declared.layout.Layout.{Layout}
 use Rattle.records.specs.Records.{written}
 use Rattle.tree_record.specs.Layout.{layoutWidth, layoutWords}
+use Rattle.sweep.specs.Sweep.{layersOf, claimed}
 use Rattle.pixels.specs.Conditions.{pixelTests}
 use Rattle.pixels.specs.Pixels.{pixelEdges}
 use Rattle.pixels.specs.declared.PixelRect.{PixelRect}
@@ -61,7 +62,7 @@ use Rattle.reach.specs.Reach.{reached}
 use Rattle.reach.specs.declared.Reached.{Reached}
 use Rattle.reach.specs.declared.Reached.the-variants as reach
 use Rattle.drawing.specs.Conditions.{drawingTests}
-use Rattle.drawing.specs.Drawing.{boxLayers, Drawn, drawn}
+use Rattle.drawing.specs.Drawing.{drawingOrder, boxLayers, Drawn, drawn}
 use Rattle.drawing.specs.Laws.{EachOnce, InOrder}
 use Rattle.boxlist_print.specs.declared.Listing.{Listing}
 use Rattle.boxlist_print.specs.Rows.{Prints}
@@ -126,7 +127,7 @@ pub record DrawingDemands (s : State) (lent : Lent) (before : List ℕ) (has : D
   pub refused : (q : Refusal) → (has .verdict ≡ verdict.refused q) ↔ FirstIs (drawingTests s lent before) (numberOf q)
   pub accepted : (has .verdict ≡ verdict.accepted) ↔ NoneHolds (drawingTests s lent before)
   pub kept : (q : Refusal) → has .verdict ≡ verdict.refused q → has .order ≡ before
-  pub written : has .verdict ≡ verdict.accepted → EachOnce (s .counts .filled .working) (has .order) × InOrder (boxLayers s lent) (has .order)
+  pub in-order : has .verdict ≡ verdict.accepted → EachOnce (s .counts .filled .working) (has .order) × InOrder (boxLayers s lent) (has .order)
 
 -- request #103. `check_styles` refuses nothing: "it names that item and the first of its words, in record order from 0, that breaks one, or
 -- nothing exactly when no word of the table does". The rules are refusal 3's, and it names a word exactly where 3's condition holds. The table
@@ -205,6 +206,7 @@ OfImages P =
     → (both : BothRuns o candidates lent lent' messages has has')
     → AfterEach (P o candidates lent lent') both
 
+-- request #104: "the mirrored screens keep equal layers", in both lists (`layer` of `CandidateImage` and of `SameButX`)
 abbrev pub MirrorImage : Type 0
 MirrorImage = OfImages (λ o candidates lent lent' has has'. MirroredRuns (o .area) (unclaimedAtOpening o candidates lent) has has')
 
@@ -213,12 +215,14 @@ MirrorImage = OfImages (λ o candidates lent lent' has has'. MirroredRuns (o .ar
 abbrev pub MirroredReach : Type 0
 MirroredReach = OfImages (λ o candidates lent lent' has has'. (place : ℕ) → toldOf place (lent .styles) has ≡ toldOf place (lent' .styles) has')
 
--- request #104: "the mirrored screens keep equal layers", and so the same drawing order. With any words in its slice, a drawing call leaves the
--- same in both, or is refused with the same number
+-- request #104: so is the drawing order. With any words in its slice, a drawing call leaves the same in both, or is refused with the same
+-- number
 abbrev pub MirroredDrawing : Type 0
 MirroredDrawing = OfImages (λ o candidates lent lent' has has'. (before : List ℕ) → drawnOf before (lent .styles) has ≡ drawnOf before (lent' .styles) has')
 
--- ---- Request #104, of runs (drawing_laws/specs has the law of one box, and of any one call from any state)
+-- ---- Request #104, of runs (drawing_laws/specs has the law of one box, and of any one call from any state). ("Comparison with the Rust drops
+-- the word from every record" is no statement here: the differential runs beside the Rust compare all other words, and hold the layers to
+-- the input's (diff/runs); by `PlacementReadsNoLayer` what is compared doesn't depend on the layers chosen.)
 
 -- working and unclaimed records have the layers of the candidates that came, in turn: the opening's, then those that each reply that wasn't
 -- refused surfaced
@@ -227,6 +231,16 @@ LayersAreKept =
     (o : Opening) (candidates : List ℕ) (lent : Lent) (turns : List Turn) (has : Outcome)
     → Run o candidates lent turns has
     → KeepsLayers (claimsOf o) (allCame candidates (heededIn o candidates lent turns)) has
+
+-- so a finished run is drawn, by the layers that came: lent a slice of one word a box, a drawing call is accepted, and its order is that of the
+-- layers of the claimed candidates, surfaced ones included, whatever the numbers of the run
+abbrev pub FinishedIsDrawn : Type 0
+FinishedIsDrawn =
+    (o : Opening) (candidates : List ℕ) (lent : Lent) (turns : List Turn) (has : Outcome) (before : List ℕ)
+    → Run o candidates lent turns has
+    → has .step .state .progress ≡ Finished → length before ≡ has .step .state .counts .filled .working
+    → let boxes = claimed (claimsOf o) (allCame candidates (heededIn o candidates lent turns)) in
+    drawnOf before (lent .styles) has ≡ record { verdict = verdict.accepted; order = drawingOrder (layersOf boxes) }
 
 -- "Placement doesn't read the layer": two runs whose candidates, surfaced records and lists differ in layers only, all of them allowed, have the
 -- same answer, state and layouts, and lists that differ in layers only
@@ -273,6 +287,7 @@ pub record Demanded : Type 0 where
   pub mirrored-reach : MirroredReach
   pub mirrored-drawing : MirroredDrawing
   pub layers-are-kept : LayersAreKept
+  pub finished-is-drawn : FinishedIsDrawn
   pub placement-reads-no-layer : PlacementReadsNoLayer
   pub quarters-have-edges : QuartersHaveEdges
   pub quarters-are-answered : QuartersAreAnswered

@@ -4,11 +4,11 @@ use Rattle.oof_resolve.specs.Resolved.{horizontal, vertical, resolvedBox}
 use Rattle.oof_place.specs.Placing.{layoutOf, boxLayout}
 use Rattle.oof_box.specs.Box.{placed}
 use Rattle.oof_box.specs.Cut.{askedAfter, layoutAfter}
-use Rattle.drawing_laws.specs.Laws.{PlacementReadsNoLayer, CutReadsNoLayer}
+use Rattle.drawing_laws.specs.Laws.{BoxReadsNoLayer, CutReadsNoLayer}
 
-pub placement-reads-no-layer : PlacementReadsNoLayer
+pub box-reads-no-layer : BoxReadsNoLayer
 unfolding placed resolvedBox horizontal vertical boxLayout layoutOf
-placement-reads-no-layer container style c v = refl
+box-reads-no-layer container style c v = refl
 
 pub cut-reads-no-layer : CutReadsNoLayer
 unfolding askedAfter layoutAfter resolvedBox horizontal vertical boxLayout layoutOf

@@ -1,7 +1,7 @@
 -- Two calls whose records differ in layers only leave the same but for layers. Assumes nothing.
 use Prim.Native.Nat.{ℕ, _+_, _-_, _*_, _/_}
 use native.Mathlib.Omega.{arith}
-use mathlib.Core.Path.{_≡_, refl, sym, ap, _∙_, subst}
+use mathlib.Core.Path.{_≡_, refl, sym, ap, _∙_, subst, subst₂}
 use mathlib.Core.Bool.{Bool, true, false, cond}
 use mathlib.Core.List.{List, [], map}
 use lib.Dec.{ltb}
@@ -24,7 +24,6 @@ use Rattle.oof_box.specs.Cut.{noReplies, askedAfter, layoutAfter}
 use Rattle.oof_box.specs.declared.question.Asked.{Asked}
 use Rattle.oof_box.specs.declared.question.Replies.{Replies}
 use Rattle.oof_box.specs.declared.question.Reply.{Reply}
-use Rattle.oof_box.specs.declared.question.Reply.the-variants as kind
 use Rattle.oof_box.specs.declared.question.Taken.{Taken}
 use Rattle.oof_box.specs.declared.question.Taken.the-variants.{Wrong, Kept, Laid}
 use Rattle.run.specs.declared.Answer.the-variants.{Ask}
@@ -39,6 +38,7 @@ use Rattle.run.specs.Refusals.{Verdict, accepted, refused, _when_else_, lentBy,
 use Rattle.run.specs.Run.{boxAtHand, asking, finishing, proceeding, claimsOf, extentsOf, noneFilled, openingVerdict, closed, begun, openedBy, opened, takenBy, replyVerdict, measuredOn, laidOut, refusing, repliedBy, replied}
 use Rattle.mirror_run.specs.Runs.{Each}
 use Rattle.mirror_run.proofs.Lists.{each-length, each-kept}
+use Rattle.mirror_run.proofs.Unread.{taken-all}
 use Rattle.mirror_run.proofs.Verdicts.{same-slices, same-others, same-wrong, same-full}
 use Rattle.drawing_laws.specs.Laws.{SameButLayers, LayersAllowed, SameCandidates, SameSlices, SameOutcomes, OpeningReadsNoLayer, ReplyReadsNoLayer}
 use Rattle.drawing_laws.proofs.Box.{cut-reads-no-layer}
@@ -198,30 +198,17 @@ module _ (styles layouts w w' u u' : List ℕ) (sw : SameButLayers w w') (su : S
 
   -- ---- a reply
 
-  module _ (s : State) (reply : Reply) (surfaced surfaced' : List ℕ) (came : SameCandidates surfaced surfaced')
+  module _ (s : State) (reply : Reply) (surfaced surfaced' : List ℕ) (came : SameCandidates (lentBy reply surfaced) (lentBy reply surfaced'))
       (allowed : LayersAllowed (s .counts .filled .working) w) (allowed' : LayersAllowed (s .counts .filled .working) w') where
-    -- those that are lent
-    lent-same : SameCandidates (lentBy reply surfaced) (lentBy reply surfaced')
-    lent-same = go reply
-      where
-        nothing : SameCandidates [] []
-        nothing = record { same = record { long = refl; words = λ i k h. refl }; allowed = λ i h. absurd (omega arith); allowed' = λ i h. absurd (omega arith) }
-
-        go : (r : Reply) → SameCandidates (lentBy r surfaced) (lentBy r surfaced')
-        go (kind.Both size) = nothing
-        go (kind.Width width) = nothing
-        go (kind.Height height) = nothing
-        go (kind.LaidOut overflow) = came
-
     same-reply : replyVerdict s reply surfaced l ≡ replyVerdict s reply surfaced' l'
     unfolding replyVerdict
     same-reply =
         same-order BadExtent WrongReply BadStyle BadCandidate ListFull
-        (rw (same-slices l l' long, same-others l l' long (s .opened .extents), lent-same .same .long) refl)
+        (rw (same-slices l l' long, same-others l l' long (s .opened .extents), came .same .long) refl)
         (rw (same-wrong l l' long (s .counts)) refl)
         refl
-        (rw (same-rules styles w w' (s .counts .filled .working) sw allowed allowed', same-candidates (lentBy reply surfaced) (lentBy reply surfaced') lent-same) refl)
-        (same-full l l' long (s .opened .claims) (s .counts .filled) (lentBy reply surfaced) (lentBy reply surfaced') (kept-long (lentBy reply surfaced) (lentBy reply surfaced') lent-same (s .opened .claims)))
+        (rw (same-rules styles w w' (s .counts .filled .working) sw allowed allowed', same-candidates (lentBy reply surfaced) (lentBy reply surfaced') came) refl)
+        (same-full l l' long (s .opened .claims) (s .counts .filled) (lentBy reply surfaced) (lentBy reply surfaced') (kept-long (lentBy reply surfaced) (lentBy reply surfaced') came (s .opened .claims)))
 
     measured-same : (replies : Replies) → SameOutcomes (measuredOn s replies l) (measuredOn s replies l')
     unfolding measuredOn
@@ -231,16 +218,17 @@ module _ (styles layouts w w' u u' : List ℕ) (sw : SameButLayers w w') (su : S
     unfolding replied
     replied-same =
         subst (λ (v : Verdict). SameOutcomes (replied s reply surfaced l) (repliedBy v (takenBy s reply) s surfaced' l')) same-reply
-        (go (replyVerdict s reply surfaced l) (takenBy s reply))
+        (go (replyVerdict s reply surfaced l) (takenBy s reply) refl)
       where
         refusing-same : (r : Refusal) → SameOutcomes (refusing s l r) (refusing s l' r)
         refusing-same r = record { step = refl; layouts = refl; working = sw; unclaimed = su }
 
-        go : (v : Verdict) (t : Taken) → SameOutcomes (repliedBy v t s surfaced l) (repliedBy v t s surfaced' l')
-        go (refused r) t = refusing-same r
-        go accepted Wrong = refusing-same WrongReply
-        go accepted (Kept replies) = measured-same replies
-        go accepted (Laid overflow) = laid-same surfaced surfaced' came s overflow
+        go : (v : Verdict) (t : Taken) → takenBy s reply ≡ t → SameOutcomes (repliedBy v t s surfaced l) (repliedBy v t s surfaced' l')
+        go (refused r) t e = refusing-same r
+        go accepted Wrong e = refusing-same WrongReply
+        go accepted (Kept replies) e = measured-same replies
+        go accepted (Laid overflow) e =
+            laid-same surfaced surfaced' (subst₂ SameCandidates (taken-all s reply surfaced e) (taken-all s reply surfaced' e) came) s overflow
 
 -- ---- any
 

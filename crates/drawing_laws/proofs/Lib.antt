@@ -1,6 +1,7 @@
 pub mod Rows
 pub mod Box
 pub mod Kept
+pub mod Finished
 pub mod Words
 pub mod Calls
 pub mod Runs

@@ -21,7 +21,7 @@ use Rattle.run.specs.declared.Opening.{Opening}
 use Rattle.run.specs.declared.State.{State}
 use Rattle.run.specs.declared.Step.{Step}
 use Rattle.run.specs.Call.{Lent, Outcome}
-use Rattle.run.specs.Refusals.{listFull}
+use Rattle.run.specs.Refusals.{lentBy, listFull}
 use Rattle.run.specs.Run.{asking, claimsOf, noneFilled, closed, begun, opened, measuredOn, laidOut, replied}
 use Rattle.run.specs.Theorems.{Heard, Loan, other, Turn, next, nextWith, turned, Lends, AllLend, called}
 use Rattle.run.proofs.Refusals.{turn-refused}
@@ -113,22 +113,23 @@ opened-allowed o candidates lent came = go (opening-way o candidates lent)
         (subst (λ (f : Filled). LayersAllowed (f .working) (after .working)) (sym (proceeding-keeps (lent .styles) _ _ _ _ .filled))
         (allowed-after (after .filled .working) (after .working) 0 (lent .working) (claimsOf o) candidates (opening-layers o candidates lent v .0) (λ i h. absurd (not-suc-le-zero h)) came))
 
-module _ (s : State) (surfaced : List ℕ) (lent : Lent) (held : LayersAllowed (s .counts .filled .working) (lent .working)) (came : LayersAllowed (length surfaced / candidateWidth) surfaced) where
-  laid-allowed : (overflow : Rect) → listFull (s .opened .claims) lent (s .counts .filled) surfaced ≡ false → FilledAllowed (laidOut s overflow surfaced lent)
+module _ (s : State) (surfaced : List ℕ) (lent : Lent) (held : LayersAllowed (s .counts .filled .working) (lent .working)) where
+  laid-allowed : LayersAllowed (length surfaced / candidateWidth) surfaced → (overflow : Rect) → listFull (s .opened .claims) lent (s .counts .filled) surfaced ≡ false → FilledAllowed (laidOut s overflow surfaced lent)
   unfolding laidOut
-  laid-allowed overflow full =
+  laid-allowed came overflow full =
       subst (λ (f : Filled). LayersAllowed (f .working) (laidOut s overflow surfaced lent .working)) (sym (proceeding-keeps (lent .styles) _ _ _ _ .filled))
       (allowed-after _ _ (s .counts .filled .working) (lent .working) (s .opened .claims) surfaced (swept-layers (s .opened .claims) _ surfaced lent (s .counts .filled) full .0) held came)
 
-  replied-allowed : (reply : Reply) → FilledAllowed (replied s reply surfaced lent)
+  replied-allowed : (reply : Reply) → LayersAllowed (length (lentBy reply surfaced) / candidateWidth) (lentBy reply surfaced) → FilledAllowed (replied s reply surfaced lent)
   unfolding measuredOn asking
-  replied-allowed reply = go (reply-way s reply surfaced lent)
+  replied-allowed reply came = go (reply-way s reply surfaced lent)
     where
       go : ReplyWay s reply surfaced lent → FilledAllowed (replied s reply surfaced lent)
       go (ReplyWay.turnedDown r e) = subst FilledAllowed (sym e) held
       go (measures replies v t e) = subst FilledAllowed (sym e) held
       go (laysOut overflow v t e) =
-          subst FilledAllowed (sym e) (laid-allowed overflow (rw (taken-all s reply surfaced t) at (reply-room s reply surfaced lent v)))
+          let all = taken-all s reply surfaced t in
+          subst FilledAllowed (sym e) (laid-allowed (rw all at came) overflow (rw all at (reply-room s reply surfaced lent v)))
 
 -- ---- turn by turn
 
@@ -140,7 +141,7 @@ record Same (x x' : Outcome) : Type 0 where
 abbrev lentOf : List ℕ → Outcome → Lent
 lentOf styles x = record { styles = styles; layouts = x .layouts; working = x .working; unclaimed = x .unclaimed }
 
-module _ (styles : List ℕ) (x x' : Outcome) (same : Same x x') (h h' : Heard) (reply : h .reply ≡ h' .reply) (surfaced : SameCandidates (h .surfaced) (h' .surfaced)) where
+module _ (styles : List ℕ) (x x' : Outcome) (same : Same x x') (h h' : Heard) (reply : h .reply ≡ h' .reply) (surfaced : SameCandidates (lentBy (h .reply) (h .surfaced)) (lentBy (h' .reply) (h' .surfaced))) where
   state : x .step .state ≡ x' .step .state
   state = ap (λ (s : Step). s .state) (same .outcomes .step)
 
@@ -150,7 +151,8 @@ module _ (styles : List ℕ) (x x' : Outcome) (same : Same x x') (h h' : Heard) 
       → SameOutcomes (replied (x .step .state) (h .reply) (h .surfaced) lent) (replied (x' .step .state) (h' .reply) (h' .surfaced) lent')
   given lent lent' slices a a' =
       subst₂ (λ (s : State) (r : Reply). SameOutcomes (replied (x .step .state) (h .reply) (h .surfaced) lent) (replied s r (h' .surfaced) lent')) state reply
-      (reply-reads-no-layer (x .step .state) (h .reply) (h .surfaced) (h' .surfaced) lent lent' surfaced slices a a')
+      (reply-reads-no-layer (x .step .state) (h .reply) (h .surfaced) (h' .surfaced) lent lent'
+      (subst (λ (r : Reply). SameCandidates (lentBy (h .reply) (h .surfaced)) (lentBy r (h' .surfaced))) (sym reply) surfaced) slices a a')
 
   one-turn : (l l' : Loan) → SameLoan l l' → Lends l (nextWith styles x h l .step .answer) → Same (nextWith styles x h l) (nextWith styles x' h' l')
   unfolding next
@@ -161,8 +163,8 @@ module _ (styles : List ℕ) (x x' : Outcome) (same : Same x x') (h h' : Heard) 
             (record { styles = refl; layouts = same .outcomes .layouts; working = same .outcomes .working; unclaimed = same .outcomes .unclaimed })
             (same .allowed)
             (subst (λ (s : State). LayersAllowed (s .counts .filled .working) (x' .working)) (sym state) (same .allowed'));
-        allowed = replied-allowed (x .step .state) (h .surfaced) (lentOf styles x) (same .allowed) (surfaced .allowed) (h .reply);
-        allowed' = replied-allowed (x' .step .state) (h' .surfaced) (lentOf styles x') (same .allowed') (surfaced .allowed') (h' .reply);
+        allowed = replied-allowed (x .step .state) (h .surfaced) (lentOf styles x) (same .allowed) (h .reply) (surfaced .allowed);
+        allowed' = replied-allowed (x' .step .state) (h' .surfaced) (lentOf styles x') (same .allowed') (h' .reply) (surfaced .allowed');
       }
   one-turn l l' (bothOther {slices = slices} {slices' = slices'} lists candidates) lends =
       let n = x .step .state .counts .filled .working in

@@ -1,5 +1,6 @@
--- Request #104: layers over runs. A run keeps the layers of its candidates, placement doesn't read them, and the mirror image of a run is
--- drawn in the same order. As statements: `proofs/` proves each, under its name in small letters. Assumes nothing.
+-- Request #104: layers over runs. A run keeps the layers of its candidates, and finished it is drawn by them; placement doesn't read them;
+-- under what `Mirror` asks (mirror_run), the mirror image of a run is drawn in the same order. As statements: `proofs/` proves each, under its
+-- name in small letters. Assumes nothing.
 use Prim.Native.Nat.{ℕ, _+_, _*_, _/_, _<_}
 use mathlib.Core.Bool.{false}
 use mathlib.Core.List.{List, [], _∷_, _++_, foldl}
@@ -17,15 +18,16 @@ use Rattle.oof_box.specs.Cut.{askedAfter, layoutAfter}
 use Rattle.oof_box.specs.declared.question.Replies.{Replies}
 use Rattle.oof_box.specs.declared.question.Reply.{Reply}
 use Rattle.run.specs.declared.Opening.{Opening}
+use Rattle.run.specs.declared.Progress.the-variants.{Finished}
 use Rattle.run.specs.declared.State.{State}
 use Rattle.run.specs.Call.{Lent, Outcome, lent}
-use Rattle.run.specs.Refusals.{lentBy}
+use Rattle.run.specs.Refusals.{accepted, lentBy}
 use Rattle.run.specs.Run.{claimsOf, extentsOf, opened, replied}
 use Rattle.run.specs.Theorems.{isRefused, Heard, Loan, own, other, Turn, AllLend, called, heededIn, claimedSoFar}
 use Rattle.mirror_run.specs.Image.{imageOpening, imageStyles, imageCandidates}
 use Rattle.mirror_run.specs.Quarter.{QuarterArea, QuarterTable, QuarterCandidates}
-use Rattle.mirror_run.specs.Runs.{Message, runNext, imageNext, AllFair, unclaimedSoFar}
-use Rattle.drawing.specs.Drawing.{Drawn, drawn}
+use Rattle.mirror_run.specs.Runs.{Message, runNext, imageNext, surfacedIn, AllFair, unclaimedSoFar}
+use Rattle.drawing.specs.Drawing.{drawingOrder, Drawn, drawn}
 
 -- ---- layers are kept
 
@@ -53,6 +55,25 @@ LayersOfARun =
     -- what a refused reply surfaces isn't taken in
     → KeepsLayers (claimsOf o) (allCame candidates (heededIn o candidates lent turns)) (called o candidates lent turns)
 
+-- ---- a finished run is drawn, by the layers that came
+
+-- what a drawing call leaves, by the state and the words that the last call of a run left; `before` are the words of its slice as it came
+abbrev pub drawnOf : List ℕ → List ℕ → Outcome → Drawn
+drawnOf before styles has = drawn (has .step .state) (lent styles (has .layouts) (has .working) (has .unclaimed)) before
+
+-- lent a slice of one word a box, a drawing call is accepted, and its order is that of the layers of the claimed candidates, surfaced ones
+-- included, whatever the numbers of the run
+abbrev pub FinishedIsDrawn : Type 0
+FinishedIsDrawn =
+    (o : Opening) (candidates : List ℕ) (lent : Lent) (turns : List Turn) (before : List ℕ)
+    → isRefused (opened o candidates lent .step .answer) ≡ false
+    -- nobody else writes the run's words: a call that lends other slices is refused
+    → AllLend (lent .styles) (opened o candidates lent) turns
+    → let has = called o candidates lent turns in
+    let boxes = claimed (claimsOf o) (allCame candidates (heededIn o candidates lent turns)) in
+    has .step .state .progress ≡ Finished → length before ≡ has .step .state .counts .filled .working
+    → drawnOf before (lent .styles) has ≡ record { verdict = accepted; order = drawingOrder (layersOf boxes) }
+
 -- ---- "Placement doesn't read the layer": a box
 
 -- the candidate, on layer v
@@ -60,8 +81,8 @@ abbrev pub onLayer : ℕ → OofCandidate → OofCandidate
 onLayer v c = record { node = c .node; order = c .order; position = c .position; place = c .place; layer = v }
 
 -- its whole dialogue is the same on every layer: questions, layout, contribution
-abbrev pub PlacementReadsNoLayer : Type 0
-PlacementReadsNoLayer =
+abbrev pub BoxReadsNoLayer : Type 0
+BoxReadsNoLayer =
     (container : ContainingBlock) (style : Style) (c : OofCandidate) (v : ℕ) → placed container style (onLayer v c) ≡ placed container style c
 
 -- and so is what a call works out of it, whatever replies the state has kept: the next question, and the layout
@@ -113,7 +134,8 @@ OpeningReadsNoLayer =
 abbrev pub ReplyReadsNoLayer : Type 0
 ReplyReadsNoLayer =
     (s : State) (reply : Reply) (surfaced surfaced' : List ℕ) (lent lent' : Lent)
-    → SameCandidates surfaced surfaced' → SameSlices lent lent'
+    -- the surfaced words of a measure reply are neither checked nor read
+    → SameCandidates (lentBy reply surfaced) (lentBy reply surfaced') → SameSlices lent lent'
     → LayersAllowed (s .counts .filled .working) (lent .working) → LayersAllowed (s .counts .filled .working) (lent' .working)
     → SameOutcomes (replied s reply surfaced lent) (replied s reply surfaced' lent')
 
@@ -124,7 +146,7 @@ pub data SameLoan : Loan → Loan → Type 0 where
 
 pub record SameTurn (t t' : Turn) : Type 0 where
   pub reply : t .heard .reply ≡ t' .heard .reply
-  pub surfaced : SameCandidates (t .heard .surfaced) (t' .heard .surfaced)
+  pub surfaced : SameCandidates (surfacedIn t) (surfacedIn t')
   pub loan : SameLoan (t .loan) (t' .loan)
 
 -- turn by turn
@@ -141,13 +163,9 @@ RunReadsNoLayer =
     → AllLend (lent .styles) (opened o candidates lent) turns
     → SameOutcomes (called o candidates lent turns) (called o candidates' lent' turns')
 
--- ---- "the mirrored screens keep equal layers": a run and its image, after the same replies, under what mirror_run's `Mirror` asks
+-- ---- a run and its image, after the same replies, under what mirror_run's `Mirror` asks
 
--- what a drawing call leaves, by the state and the words that the last call of a run left; `before` are the words of its slice as it came
-abbrev pub drawnOf : List ℕ → List ℕ → Outcome → Drawn
-drawnOf before styles has = drawn (has .step .state) (lent styles (has .layouts) (has .working) (has .unclaimed)) before
-
--- the same order, or refused with the same number, after every call: before the finish both are refused
+-- the same order, or refused with the same number, after every call
 abbrev pub MirroredDrawing : Type 0
 MirroredDrawing =
     (o : Opening) (candidates : List ℕ) (lent lent' : Lent) (messages : List Message) (before : List ℕ)

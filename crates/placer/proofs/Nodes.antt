@@ -22,7 +22,7 @@ use Rattle.sweep.specs.Laws.{AllFit}
 use Rattle.sweep.proofs.Laws.{appended-back}
 use Rattle.sweep.proofs.Listed.{IsBelow, AllBelow}
 
-both-below : (n : ℕ) (xs ys : List OofCandidate) → AllBelow n xs → AllBelow n ys → AllBelow n (xs ++ ys)
+pub both-below : (n : ℕ) (xs ys : List OofCandidate) → AllBelow n xs → AllBelow n ys → AllBelow n (xs ++ ys)
 both-below n [] ys a b = b
 both-below n (x ∷ xs) ys a b = (a .0, both-below n xs ys (a .1) b)
 

@@ -1,10 +1,11 @@
--- A finished run of whole quarter pixels passes every test of `reach`, and goes by its opening's container. Assumes nothing.
+-- A finished run passes the tests before a part's own; one of whole quarter pixels passes every test of `reach`. A run goes by its opening's
+-- container. Assumes nothing.
 use Prim.Native.Nat.{ℕ, _+_, _*_, _/_, _≤_, _<_}
 use native.Mathlib.Omega.{arith}
 use mathlib.Core.Bool.{Bool, true, false, not, _||_}
 use mathlib.Core.List.{List, [], _∷_, map, foldl}
 use mathlib.Core.Path.{_≡_, refl, sym, ap, _∙_, subst}
-use lib.Dec.{leb, lit≤, eqb}
+use lib.Dec.{lit≤, eqb}
 use lib.ListN.{length, getD}
 use borrow.Author.Tests.{eqb-true, not-false, le-ltb, lt-leb}
 use Rattle.util.proofs.Floats.{no}
@@ -39,7 +40,7 @@ use Rattle.run.specs.Refusals as test
 use Rattle.run.specs.Refusals.{badSlices, otherLengths, badCandidate, ragged, lentBy}
 use Rattle.run.specs.Run.{claimsOf, containerOf, extentsOf, asking, finishing, proceeding, begun, opened, openingVerdict, replyVerdict, measuredOn, laidOut, replied}
 use Rattle.run.specs.Straight.{Box}
-use Rattle.run.specs.Theorems.{laidInto, laidCount, laidSoFar, Loan, own, other, Turn, next, nextWith, turned, called}
+use Rattle.run.specs.Theorems.{isRefused, laidInto, laidCount, laidSoFar, Loan, own, other, Turn, next, nextWith, turned, AllLend, called}
 use Rattle.run.proofs.Conditions.{lengths-decided}
 use Rattle.run.proofs.Decides.{Decides}
 use Rattle.run.proofs.Refusals.{refusedIn}
@@ -175,9 +176,9 @@ laid-length ws [] = refl
 laid-length ws (b ∷ bs) =
     laid-length (written ws (layoutWidth * b .candidate .node) (layoutWords (b .layout))) bs ∙ written-length ws (layoutWidth * b .candidate .node) (layoutWords (b .layout))
 
--- ---- a run under what `RunHasEdges` asks
+-- ---- a finished run
 
-module _ (o : Opening) (candidates : List ℕ) (lent : Lent) (turns : List Turn) (place : ℕ) where
+module _ (o : Opening) (candidates : List ℕ) (lent : Lent) (turns : List Turn) where
   abbrev has : Outcome
   has = called o candidates lent turns
 
@@ -185,18 +186,56 @@ module _ (o : Opening) (candidates : List ℕ) (lent : Lent) (turns : List Turn)
   abbrev slices : Lent
   slices = call.lent (lent .styles) (has .layouts) (has .working) (has .unclaimed)
 
+  lengths-same : extentsOf slices ≡ extentsOf lent → has .step .state .opened .extents ≡ extentsOf lent → otherLengths (has .step .state .opened .extents) slices ≡ false
+  lengths-same long h = go (otherLengths (has .step .state .opened .extents) slices) (lengths-decided (has .step .state .opened .extents) slices)
+    where
+      go : (b : Bool) → Decides b (¬ (extentsOf slices ≡ has .step .state .opened .extents)) → b ≡ false
+      go true d = absurd (d .holds refl (long ∙ sym h))
+      go false d = refl
+
+  slices-fine : openingVerdict o candidates lent ≡ test.accepted → badSlices lent ≡ false
+  unfolding openingVerdict
+  slices-fine v = neither (badSlices lent) (ragged candidateWidth candidates) (passed _ _ _ (passed _ _ _ v .1) .0) .0
+
+  -- the tests that come before a part's own, `own-test` being what the part itself calls a bad extent
+  pub tests-passed : isRefused (opened o candidates lent .step .answer) ≡ false → AllLend (lent .styles) (opened o candidates lent) turns
+      → has .step .state .progress ≡ Finished
+      → badCandidate (lent .styles) (has .working) (has .step .state .counts .filled .working) ≡ false
+      → (own-test : Bool) → own-test ≡ false
+      → finishedVerdict (has .step .state) slices own-test ≡ test.accepted
+  unfolding finishedVerdict test._when_else_
+  tests-passed accepts lends f good own-test none = go (opening-way o candidates lent)
+    where
+      long : extentsOf slices ≡ extentsOf lent
+      long =
+          let stands = straight-run o candidates lent turns accepts lends in
+          rw (stands .layouts, stands .working, stands .unclaimed, laid-length (lent .layouts), appended-length (lent .working) 0, appended-length (lent .unclaimed) 0) refl
+
+      go : OpeningWay o candidates lent → finishedVerdict (has .step .state) slices own-test ≡ test.accepted
+      go (turnedDown q e) = no (ap refusedIn e) accepts
+      go (begins v e) =
+          let p = opening-passed o candidates lent v in
+          let h = turns-hold (extentsOf lent) (lent .styles) (opened o candidates lent) turns (subst (λ (x : Outcome). Holds (extentsOf lent) (x .step .state)) (sym e) (begun-holds o candidates lent p)) in
+          let w : length (has .working) ≡ length (lent .working) = ap (λ (e : Extents). e .working) long in
+          let u : length (has .unclaimed) ≡ length (lent .unclaimed) = ap (λ (e : Extents). e .unclaimed) long in
+          let hw = h .working in
+          let hu = h .unclaimed in
+          rw (
+            same-slices slices lent long ∙ slices-fine v,
+            lengths-same long (h .extents),
+            none,
+            f,
+            le-ltb (length (has .working) / candidateWidth) (has .step .state .counts .filled .working) (omega arith),
+            le-ltb (length (has .unclaimed) / candidateWidth) (has .step .state .counts .filled .unclaimed) (omega arith),
+            good,
+          )
+          refl
+
+  -- its records, under what `RunHasEdges` asks
   abbrev claims : List OofCandidate
   claims = keep (claimsOf o) true (candidatesIn candidates)
 
-  module _ (p : OpeningPassed o candidates lent) (fine : badSlices lent ≡ false) (h : Holds (extentsOf lent) (has .step .state)) (long : extentsOf slices ≡ extentsOf lent) (r : RunIn o candidates lent has)
-      (f : has .step .state .progress ≡ Finished) (there : place < has .step .state .counts .filled .working) where
-    lengths-same : otherLengths (has .step .state .opened .extents) slices ≡ false
-    lengths-same = go (otherLengths (has .step .state .opened .extents) slices) (lengths-decided (has .step .state .opened .extents) slices)
-      where
-        go : (b : Bool) → Decides b (¬ (extentsOf slices ≡ has .step .state .opened .extents)) → b ≡ false
-        go true d = absurd (d .holds refl (long ∙ sym (h .extents)))
-        go false d = refl
-
+  module _ (p : OpeningPassed o candidates lent) (r : RunIn o candidates lent has) where
     nodes-there : (i : ℕ) → i < length claims → IsBelow (items (lent .styles)) (getD claims i nobody)
     unfolding candidatesIn
     nodes-there i l =
@@ -208,47 +247,22 @@ module _ (o : Opening) (candidates : List ℕ) (lent : Lent) (turns : List Turn)
     unfolding badCandidate
     records-good = rw (r .working, r .filled) (ap not (front-good (lent .working) claims (p .room .0) (items (lent .styles)) nodes-there))
 
-    tests-passed : finishedVerdict (has .step .state) slices (leb (has .step .state .counts .filled .working) place) ≡ test.accepted
-    unfolding finishedVerdict test._when_else_
-    tests-passed =
-        let w : length (has .working) ≡ length (lent .working) = ap (λ (e : Extents). e .working) long in
-        let u : length (has .unclaimed) ≡ length (lent .unclaimed) = ap (λ (e : Extents). e .unclaimed) long in
-        let hw = h .working in
-        let hu = h .unclaimed in
-        rw (
-          same-slices slices lent long ∙ fine,
-          lengths-same,
-          lt-leb (has .step .state .counts .filled .working) place there,
-          f,
-          le-ltb (length (has .working) / candidateWidth) (has .step .state .counts .filled .working) (omega arith),
-          le-ltb (length (has .unclaimed) / candidateWidth) (has .step .state .counts .filled .unclaimed) (omega arith),
-          records-good,
-        )
-        refl
-
 pub quarters-are-answered : QuartersAreAnswered
-unfolding reached openingVerdict
+unfolding reached
 quarters-are-answered o candidates lent turns place area table quarter accepts lends heard f there = go (opening-way o candidates lent)
   where
     r : RunIn o candidates lent (called o candidates lent turns)
     r = run-in o candidates lent turns area table quarter accepts lends heard
 
-    long : extentsOf (call.lent (lent .styles) (called o candidates lent turns .layouts) (called o candidates lent turns .working) (called o candidates lent turns .unclaimed)) ≡ extentsOf lent
-    long =
-        let stands = straight-run o candidates lent turns accepts lends in
-        rw (stands .layouts, stands .working, stands .unclaimed, laid-length (lent .layouts), appended-length (lent .working) 0, appended-length (lent .unclaimed) 0) refl
-
     go : OpeningWay o candidates lent → IsAnswer (toldOf place (lent .styles) (called o candidates lent turns))
     go (turnedDown q e) = no (ap refusedIn e) accepts
     go (begins v e) =
-        let p = opening-passed o candidates lent v in
-        let fine = neither (badSlices lent) (ragged candidateWidth candidates) (passed _ _ _ (passed _ _ _ v .1) .0) .0 in
-        let h = turns-hold (extentsOf lent) (lent .styles) (opened o candidates lent) turns (subst (λ (x : Outcome). Holds (extentsOf lent) (x .step .state)) (sym e) (begun-holds o candidates lent p)) in
+        let good = records-good o candidates lent turns (opening-passed o candidates lent v) r in
         let g = turns-go o (lent .styles) (opened o candidates lent) turns (subst (λ (x : Outcome). Goes o (x .step .state)) (sym e) (begun-goes o candidates lent)) in
         let all = g .all f in
         let begun : place < called o candidates lent turns .step .state .counts .begun = omega arith in
         let laid : place < laidSoFar (called o candidates lent turns) = subst (λ (at : Progress). place < laidCount at (called o candidates lent turns .step .state .counts .begun)) (sym f) begun in
-        rw (tests-passed o candidates lent turns place p fine h long r f there, g .container)
+        rw (tests-passed o candidates lent turns accepts lends f good _ (lt-leb (called o candidates lent turns .step .state .counts .filled .working) place there), g .container)
         (box-answered (containerOf o) area (called o candidates lent turns .step .state .overflow) (r .overflow) (layoutOfBox (called o candidates lent turns) place) (r .layouts place laid))
 
 pub container-stays : ContainerStays

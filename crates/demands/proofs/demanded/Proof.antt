@@ -1,5 +1,5 @@
 -- Generated skeleton (tools/proof/write-skeletons), answers by hand.
-use Rattle.demands.proofs.Demands.{three-questions-each, openings-go-by-the-check, replies-go-by-the-check, equals-straight-run, laid-out-as-asked, mirror-image, mirrored-reach, mirrored-drawing, layers-are-kept, placement-reads-no-layer, quarters-have-edges, quarters-are-answered}
+use Rattle.demands.proofs.Demands.{three-questions-each, openings-go-by-the-check, replies-go-by-the-check, equals-straight-run, laid-out-as-asked, mirror-image, mirrored-reach, mirrored-drawing, layers-are-kept, finished-is-drawn, placement-reads-no-layer, quarters-have-edges, quarters-are-answered}
 use Rattle.run.proofs.EachQuestion.{stage-tells-kind}
 use Rattle.boxlist_print.proofs.Listed.{run-is-listed, only-nine-in-rows}
 use Rattle.demands.proofs.demanded.Statement.{statement}
@@ -18,6 +18,7 @@ returns c =
       mirrored-reach = mirrored-reach;
       mirrored-drawing = mirrored-drawing;
       layers-are-kept = layers-are-kept;
+      finished-is-drawn = finished-is-drawn;
       placement-reads-no-layer = placement-reads-no-layer;
       quarters-have-edges = quarters-have-edges;
       quarters-are-answered = quarters-are-answered;
