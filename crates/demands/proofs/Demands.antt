@@ -344,29 +344,14 @@ at-the-end o candidates lent lent' {messages} {has} {has'} area table quarter st
     (mirror o candidates lent lent' messages [] area table quarter styles same
     (subst (AllFair (lent .styles) (opened o candidates lent)) (sym (append-nil messages)) (both-fair o candidates lent lent' both))))
 
--- what is told at the end of a list
-told-at-the-end : (o : Opening) (candidates : List ℕ) (lent lent' : Lent) {messages : List Message} {has has' : Outcome}
-    → QuarterArea (o .area) → QuarterTable (lent .styles) → QuarterCandidates candidates
-    → lent' .styles ≡ imageStyles (lent .styles) → extentsOf lent ≡ extentsOf lent'
+-- what is worked out of both at the end of a list, where it is the same of the definition's runs
+worked-out : {A : Type 0} (o : Opening) (candidates : List ℕ) (lent lent' : Lent) (f f' : Outcome → A) {messages : List Message} {has has' : Outcome}
     → BothRuns o candidates lent lent' messages has has'
-    → (place : ℕ) → toldOf place (lent .styles) has ≡ toldOf place (lent' .styles) has'
+    → f (foldl (runNext (lent .styles)) (opened o candidates lent) messages)
+    ≡ f' (foldl (imageNext (lent' .styles)) (opened (imageOpening o) (imageCandidates (o .area) candidates) lent') messages)
+    → f has ≡ f' has'
 unfolding image
-told-at-the-end o candidates lent lent' {messages} area table quarter styles same both place =
-    ap (toldOf place (lent .styles)) (run-of o candidates lent lent' both)
-    ∙ mirrored-verdict o candidates lent lent' messages place area table quarter styles same (both-fair o candidates lent lent' both)
-    ∙ sym (ap (toldOf place (lent' .styles)) (image-of o candidates lent lent' both))
-
--- what is drawn at the end of a list
-drawn-at-the-end : (o : Opening) (candidates : List ℕ) (lent lent' : Lent) {messages : List Message} {has has' : Outcome}
-    → QuarterArea (o .area) → QuarterTable (lent .styles) → QuarterCandidates candidates
-    → lent' .styles ≡ imageStyles (lent .styles) → extentsOf lent ≡ extentsOf lent'
-    → BothRuns o candidates lent lent' messages has has'
-    → (before : List ℕ) → drawnOf before (lent .styles) has ≡ drawnOf before (lent' .styles) has'
-unfolding image
-drawn-at-the-end o candidates lent lent' {messages} area table quarter styles same both before =
-    ap (drawnOf before (lent .styles)) (run-of o candidates lent lent' both)
-    ∙ images-drawn o candidates lent lent' messages before area table quarter styles same (both-fair o candidates lent lent' both)
-    ∙ sym (ap (drawnOf before (lent' .styles)) (image-of o candidates lent lent' both))
+worked-out o candidates lent lent' f f' both e = ap f (run-of o candidates lent lent' both) ∙ e ∙ sym (ap f' (image-of o candidates lent lent' both))
 
 -- what holds at the end of every list holds after each of its replies
 module _ {o : Opening} {candidates : List ℕ} {lent lent' : Lent} (P : Outcome → Outcome → Type 0)
@@ -382,11 +367,15 @@ mirror-image o candidates lent lent' messages has has' area table quarter styles
 pub mirrored-reach : MirroredReach
 mirrored-reach o candidates lent lent' messages has has' area table quarter styles same both =
     after-each (λ (has has' : Outcome). (place : ℕ) → toldOf place (lent .styles) has ≡ toldOf place (lent' .styles) has')
-    (λ _ _ _ b. told-at-the-end o candidates lent lent' area table quarter styles same b)
+    (λ ms _ _ b place.
+    worked-out o candidates lent lent' (toldOf place (lent .styles)) (toldOf place (lent' .styles)) b
+    (mirrored-verdict o candidates lent lent' ms place area table quarter styles same (both-fair o candidates lent lent' b)))
     both
 
 pub mirrored-drawing : MirroredDrawing
 mirrored-drawing o candidates lent lent' messages has has' area table quarter styles same both =
     after-each (λ (has has' : Outcome). (before : List ℕ) → drawnOf before (lent .styles) has ≡ drawnOf before (lent' .styles) has')
-    (λ _ _ _ b. drawn-at-the-end o candidates lent lent' area table quarter styles same b)
+    (λ ms _ _ b before.
+    worked-out o candidates lent lent' (drawnOf before (lent .styles)) (drawnOf before (lent' .styles)) b
+    (images-drawn o candidates lent lent' ms before area table quarter styles same (both-fair o candidates lent lent' b)))
     both

@@ -39,7 +39,7 @@ use Rattle.run.specs.Run.{boxAtHand, asking, finishing, proceeding, claimsOf, e
 use Rattle.mirror_run.specs.Runs.{Each}
 use Rattle.mirror_run.proofs.Lists.{each-length, each-kept}
 use Rattle.mirror_run.proofs.Unread.{taken-all}
-use Rattle.mirror_run.proofs.Verdicts.{same-slices, same-others, same-wrong, same-full}
+use Rattle.mirror_run.proofs.Verdicts.{same-slices, same-others, same-wrong, same-full, same-order}
 use Rattle.drawing_laws.specs.Laws.{SameButLayers, LayersAllowed, SameCandidates, SameSlices, SameOutcomes, OpeningReadsNoLayer, ReplyReadsNoLayer}
 use Rattle.drawing_laws.proofs.Box.{cut-reads-no-layer}
 use Rattle.drawing_laws.proofs.Words.{Alike, same-position, each-moved, record-alike, slice-alike, same-rules, appended-same}
@@ -92,12 +92,6 @@ module _ (by : ContainingBlockClaims) where
         working = appended-same (kept-alike true e) w w' (f .working) sw;
         unclaimed = appended-same (kept-alike false e) u u' (f .unclaimed) su;
       }
-
--- five tests in turn
-same-order : (q r s t u : Refusal) {a a' b b' c c' d d' e e' : Bool} → a ≡ a' → b ≡ b' → c ≡ c' → d ≡ d' → e ≡ e'
-    → (q when a else r when b else s when c else t when d else u when e else accepted)
-    ≡ (q when a' else r when b' else s when c' else t when d' else u when e' else accepted)
-same-order q r s t u f g h i j = rw (f, g, h, i, j) refl
 
 -- ---- two calls with the same styles and layouts
 

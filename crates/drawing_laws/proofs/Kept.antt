@@ -33,6 +33,7 @@ use Rattle.run.specs.Refusals.{accepted, listFull, lentBy}
 use Rattle.run.specs.Run.{asking, finishing, proceeding, claimsOf, noneFilled, openingVerdict, begun, opened, takenBy, replyVerdict, measuredOn, laidOut, replied}
 use Rattle.run.specs.Theorems.{isRefused, Heard, Loan, own, other, Turn, next, nextWith, turned, Lends, AllLend, heeded, claimedSoFar}
 use Rattle.run.proofs.Refusals.{refusedIn, saying, turn-refused}
+use Rattle.run.proofs.Worlds.{unmoved}
 use Rattle.run.proofs.Ways.{NextWay, asks, ends, next-way, OpeningWay, begins, opening-way, ReplyWay, measures, laysOut, reply-way, passed, neither, never-kept}
 use Rattle.mirror_run.specs.Runs.{unclaimedSoFar}
 use Rattle.mirror_run.proofs.Unread.{taken-all}
@@ -48,11 +49,6 @@ keep-append by list (x ∷ xs) ys =
     ∙ ap (λ (l : List OofCandidate). keep by list (x ∷ []) ++ l) (keep-append by list xs ys)
     ∙ sym (append-assoc (keep by list (x ∷ [])) (keep by list xs) (keep by list ys))
     ∙ ap (λ (l : List OofCandidate). l ++ keep by list ys) (sym (keep-first by list x xs))
-
-unmoved : (cs : List OofCandidate) → map (moved Unmoved) cs ≡ cs
-unfolding moved
-unmoved [] = refl
-unmoved (c ∷ cs) = ap (λ (l : List OofCandidate). c ∷ l) (unmoved cs)
 
 -- ---- one sweep that has room
 

@@ -28,6 +28,7 @@ use Rattle.run.proofs.Refusals.{turn-refused}
 use Rattle.run.proofs.Ways.{OpeningWay, begins, opening-way, ReplyWay, measures, laysOut, reply-way}
 use Rattle.mirror_run.proofs.Lists.{nobody, first-length, first-at}
 use Rattle.mirror_run.proofs.Unread.{taken-all}
+use Rattle.drawing.proofs.There.{layers-in, layer-by-word}
 use Rattle.drawing_laws.specs.Laws.{LayersAllowed, SameCandidates, SameSlices, SameOutcomes, SameLoan, bothOwn, bothOther, SameTurns, none, one, RunReadsNoLayer}
 use Rattle.drawing_laws.proofs.Kept.{swept-layers, reply-room, proceeding-keeps, opening-layers}
 use Rattle.drawing_laws.proofs.Calls.{opening-reads-no-layer, reply-reads-no-layer}
@@ -37,16 +38,6 @@ use Rattle.drawing_laws.proofs.Calls.{opening-reads-no-layer, reply-rea
 abbrev AllAllowed : List ℕ → Type 0
 AllAllowed [] = Unit {0}
 AllAllowed (v ∷ vs) = (v < layerCount) × AllAllowed vs
-
-layer-at : (n : ℕ) (ws : List ℕ) (i : ℕ) → i < n → getD (layersOf (firstCandidates n ws)) i 0 ≡ getD ws (candidateWidth * i + layerWord) 0
-unfolding candidateOf
-layer-at n ws i h =
-    List·getD-map (λ (c : OofCandidate). c .layer) (firstCandidates n ws) i nobody
-    ∙ ap (λ (c : OofCandidate). c .layer) (first-at n ws i h)
-    ∙ word-of-record candidateWidth ws i layerWord (lit< tt)
-
-layers-long : (n : ℕ) (ws : List ℕ) → length (layersOf (firstCandidates n ws)) ≡ n
-layers-long n ws = length-map (firstCandidates n ws) (λ (c : OofCandidate). c .layer) ∙ first-length n ws
 
 all-at : (ls : List ℕ) → AllAllowed ls → (i : ℕ) → i < length ls → getD ls i 0 < layerCount
 all-at [] a i h = absurd (not-suc-le-zero h)
@@ -72,10 +63,10 @@ all-kept by list (c ∷ cs) a = go (side by list (c .position)) (keep by list cs
 
 in-turn : (n : ℕ) (ws : List ℕ) → LayersAllowed n ws → AllAllowed (layersOf (firstCandidates n ws))
 in-turn n ws a =
-    all-by (layersOf (firstCandidates n ws)) (λ i h. let l : i < n = rw (layers-long n ws) at h in rw (layer-at n ws i l) (a i l))
+    all-by (layersOf (firstCandidates n ws)) (λ i h. let l : i < n = rw (layers-in n ws) at h in rw (layer-by-word n ws i l) (a i l))
 
 by-words : (n : ℕ) (ws : List ℕ) → AllAllowed (layersOf (firstCandidates n ws)) → LayersAllowed n ws
-by-words n ws a i h = rw (layer-at n ws i h) at (all-at (layersOf (firstCandidates n ws)) a i (rw (layers-long n ws) h))
+by-words n ws a i h = rw (layer-by-word n ws i h) at (all-at (layersOf (firstCandidates n ws)) a i (rw (layers-in n ws) h))
 
 -- of a whole list, so many as are looked at: past its end stand zeros
 whole-list : (ws : List ℕ) → LayersAllowed (length ws / candidateWidth) ws → (n : ℕ) → LayersAllowed n ws

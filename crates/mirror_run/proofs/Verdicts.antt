@@ -73,7 +73,7 @@ unfolding badArea
 same-area o = cc (direction-code (o .direction))
 
 -- five tests in turn
-same-order : (q r s t u : Refusal) {a a' b b' c c' d d' e e' : Bool} → a ≡ a' → b ≡ b' → c ≡ c' → d ≡ d' → e ≡ e'
+pub same-order : (q r s t u : Refusal) {a a' b b' c c' d d' e e' : Bool} → a ≡ a' → b ≡ b' → c ≡ c' → d ≡ d' → e ≡ e'
     → (q when a else r when b else s when c else t when d else u when e else accepted)
     ≡ (q when a' else r when b' else s when c' else t when d' else u when e' else accepted)
 same-order q r s t u f g h i j = rw (f, g, h, i, j) refl

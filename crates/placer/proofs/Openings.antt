@@ -23,7 +23,8 @@ use Rattle.placer_check.specs.Verdict.{thenRoom}
 use Rattle.placer_check.specs.declared.Verdict.the-variants.{Accepted}
 use Rattle.placer.specs.Entry.{AtHand, OpeningCleared}
 use Rattle.placer.proofs.Nodes.{none-below}
-use Rattle.placer.proofs.Sweeps.{unmoved, was-full, had-room, next-at-hand}
+use Rattle.run.proofs.Worlds.{unmoved}
+use Rattle.placer.proofs.Sweeps.{was-full, had-room, next-at-hand}
 use Rattle.placer.proofs.Calls.{opening-nodes}
 
 module _ (o : Opening) (candidates : List ℕ) (l : Lent) where

@@ -30,11 +30,6 @@ use Rattle.placer.specs.Entry.{AtHand}
 use Rattle.sweep.proofs.Listed.{AllBelow}
 use Rattle.placer.proofs.Nodes.{moved-below, keep-below, appended-below, item-words}
 
-pub unmoved : (cs : List OofCandidate) → map (moved Unmoved) cs ≡ cs
-unfolding moved
-unmoved [] = refl
-unmoved (c ∷ cs) = ap (λ (l : List OofCandidate). c ∷ l) (unmoved cs)
-
 -- what a sweep answered
 refusalOf : Swept → Refusal
 refusalOf (Refused r) = r

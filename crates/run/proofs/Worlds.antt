@@ -106,7 +106,7 @@ pub record Sound (working : List ℕ) (w : World) : Type 0 where
   pub room : length (claimedIn w) ≤ length working / candidateWidth
   pub most : length working / candidateWidth ≤ 4096
 
-unmoved : (cs : List OofCandidate) → map (moved Unmoved) cs ≡ cs
+pub unmoved : (cs : List OofCandidate) → map (moved Unmoved) cs ≡ cs
 unfolding moved
 unmoved [] = refl
 unmoved (c ∷ cs) = ap (λ (l : List OofCandidate). c ∷ l) (unmoved cs)

@@ -3,7 +3,7 @@ use Prim.Native.Nat.{ℕ, _+_, _*_, _/_, _≤_}
 use native.Mathlib.Omega.{arith}
 use native.Mathlib.Nat.{mul-div-le, mul-le-mul-left}
 use mathlib.Core.Bool.{Bool, true, false, cond}
-use mathlib.Core.List.{List, [], _∷_, _++_, map}
+use mathlib.Core.List.{List, [], _∷_, _++_, map, map-append}
 use mathlib.Core.Path.{_≡_, refl, sym, ap, _∙_}
 use lib.ListN.{length}
 use borrow.Author.Tests.{leb-true}
@@ -26,10 +26,6 @@ moved-layer : (s : Shift) (c : OofCandidate) → moved s c .layer ≡ c .layer
 unfolding moved translated
 moved-layer Unmoved c = refl
 moved-layer (By location) c = refl
-
-layers-append : (xs ys : List OofCandidate) → layersOf (xs ++ ys) ≡ layersOf xs ++ layersOf ys
-layers-append [] ys = refl
-layers-append (x ∷ xs) ys = ap (λ (l : List ℕ). x .layer ∷ l) (layers-append xs ys)
 
 module _ (by : ContainingBlockClaims) (list : Bool) (s : Shift) where
   kept-layers : (cs : List OofCandidate) → layersOf (keep by list (map (moved s) cs)) ≡ layersOf (keep by list cs)
@@ -58,7 +54,7 @@ module _ (by : ContainingBlockClaims) (list : Bool) (s : Shift) where
       let there = mul-div-le (length ws) candidateWidth in
       ap (λ (m : ℕ). layersOf (firstCandidates (held + m) (appended ws held kept))) (sym n)
       ∙ ap layersOf (appended-back ws held kept (keep-fits by list (map (moved s) cs) fits) (omega (arith, fit, there)))
-      ∙ layers-append (firstCandidates held ws) kept
+      ∙ map-append (λ (c : OofCandidate). c .layer) (firstCandidates held ws) kept
       ∙ ap (λ (l : List ℕ). layersOf (firstCandidates held ws) ++ l) (kept-layers cs)
 
 pub layers-kept : LayersKept

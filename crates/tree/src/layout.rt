@@ -148,7 +148,7 @@ pub struct StaticPosition {
 }
 
 // An out-of-flow box that waits for its containing block. `place` is the Rust's static_position. The Rust has no layer: boxes of
-// higher layers are drawn over those of lower ones (request #104), and placing reads none.
+// higher layers are drawn over those of lower ones (request #104), and placement reads none.
 pub struct OofCandidate {
     pub node: u32,
     pub order: u32,
