@@ -1,9 +1,8 @@
 -- A run's filled working records break no rule, its surfaced ones included; so a finished run is drawn. Assumes nothing.
 use Prim.Native.Nat.{ℕ, _+_, _*_, _/_, _≤_}
-use native.Mathlib.Omega.{arith}
 use native.Mathlib.Nat.{zero-add}
 use mathlib.Core.Path.{_≡_, refl, sym, ap, _∙_, subst}
-use mathlib.Core.Bool.{Bool, true, false, not}
+use mathlib.Core.Bool.{true, false, not}
 use mathlib.Core.List.{List, [], _∷_, _++_, map, foldl}
 use lib.Dec.{eqb}
 use lib.ListN.{length, length-append}
@@ -12,7 +11,8 @@ use Rattle.util.proofs.Floats.{no}
 use Rattle.geometry.specs.declared.Rect.{Rect}
 use Rattle.style_record.specs.Record.{items}
 use Rattle.tree.specs.declared.layout.OofCandidate.{OofCandidate}
-use Rattle.tree_record.specs.Candidate.{candidateWidth}
+use Rattle.records.specs.Records.{goodRecords}
+use Rattle.tree_record.specs.Candidate.{candidateWidth, candidateKinds}
 use Rattle.sweep.specs.Sweep.{candidatesIn, moved, claimed, appended}
 use Rattle.sweep.specs.declared.Filled.{Filled}
 use Rattle.sweep.specs.declared.Shift.{Shift}
@@ -37,21 +37,18 @@ use Rattle.drawing_laws.proofs.Kept.{proceeding-keeps, layers-of-a-run}
 
 -- ---- a slice of candidates that was tested
 
-all-below : (styles list : List ℕ) → badCandidates styles list ≡ false → AllBelow (items styles) (candidatesIn list)
-unfolding badCandidate candidatesIn
-all-below styles list e = good-below (items styles) list (length list / candidateWidth) (not-false _ e)
-
-opening-below : (o : Opening) (candidates : List ℕ) (lent : Lent) → openingVerdict o candidates lent ≡ accepted → AllBelow (items (lent .styles)) (candidatesIn candidates)
-unfolding openingVerdict
-opening-below o candidates lent e = all-below (lent .styles) candidates (passed _ _ _ (passed _ _ _ (passed _ _ _ (passed _ _ _ e .1) .1) .1) .0)
+all-below : (n : ℕ) (list : List ℕ) → goodRecords (candidateKinds n) list (length list / candidateWidth) ≡ true → AllBelow n (candidatesIn list)
+unfolding candidatesIn
+all-below n list e = good-below n list (length list / candidateWidth) e
 
 reply-below : (s : State) (reply : Reply) (surfaced : List ℕ) (lent : Lent) → replyVerdict s reply surfaced lent ≡ accepted
     → AllBelow (items (lent .styles)) (candidatesIn (lentBy reply surfaced))
-unfolding replyVerdict
+unfolding replyVerdict badCandidate
 reply-below s reply surfaced lent e =
-    all-below (lent .styles) (lentBy reply surfaced)
+    all-below (items (lent .styles)) (lentBy reply surfaced)
+    (not-false _
     (neither (badCandidate (lent .styles) (lent .working) (s .counts .filled .working)) (badCandidates (lent .styles) (lentBy reply surfaced))
-    (passed _ _ _ (passed _ _ _ (passed _ _ _ (passed _ _ _ e .1) .1) .1) .0) .1)
+    (passed _ _ _ (passed _ _ _ (passed _ _ _ (passed _ _ _ e .1) .1) .1) .0) .1))
 
 -- ---- the filled working records of a run: candidates whose words break no rule, written from the front of the list as it was lent
 
@@ -74,7 +71,11 @@ module _ (styles w : List ℕ) where
     abbrev s : State
     s = x .step .state
 
-    -- with what a box surfaced behind them, whatever else is left
+    -- as they are, whatever else is left
+    kept-good : (y : Outcome) → y .working ≡ x .working → y .step .state .counts .filled .working ≡ s .counts .filled .working → Good y
+    kept-good y working filled = record { cs = g .cs; working = working ∙ g .working; filled = filled ∙ g .filled; room = g .room; below = g .below }
+
+    -- with what a box surfaced behind them
     swept-good : (shift : Shift) (surfaced : List ℕ) → AllBelow (items styles) (candidatesIn surfaced)
         → candidateWidth * (s .counts .filled .working + length (claimed (s .opened .claims) (candidatesIn surfaced))) ≤ length (x .working)
         → (y : Outcome)
@@ -112,8 +113,8 @@ module _ (styles w : List ℕ) where
     replied-good h = go (reply-way s (h .reply) (h .surfaced) lent)
       where
         go : ReplyWay s (h .reply) (h .surfaced) lent → Good (replied s (h .reply) (h .surfaced) lent)
-        go (ReplyWay.turnedDown r e) = subst Good (sym e) (record { cs = g .cs; working = g .working; filled = g .filled; room = g .room; below = g .below })
-        go (measures replies v t e) = subst Good (sym e) (record { cs = g .cs; working = g .working; filled = g .filled; room = g .room; below = g .below })
+        go (ReplyWay.turnedDown r e) = subst Good (sym e) (kept-good _ refl refl)
+        go (measures replies v t e) = subst Good (sym e) (kept-good _ refl refl)
         go (laysOut overflow v t e) =
             let all = taken-all s (h .reply) (h .surfaced) t in
             subst Good (sym e)
@@ -126,7 +127,7 @@ module _ (styles w : List ℕ) where
         go own l = replied-good (t .heard)
         go (other slices) l =
             subst Good (sym (turn-refused styles x (record { heard = t .heard; loan = other slices }) l))
-            (record { cs = g .cs; working = g .working; filled = g .filled; room = g .room; below = g .below })
+            (kept-good _ refl refl)
 
   turns-good : (x : Outcome) (ts : List Turn) → AllLend styles x ts → Good x → Good (foldl (turned styles) x ts)
   turns-good x [] lends g = g
@@ -139,13 +140,14 @@ module _ (o : Opening) (candidates : List ℕ) (lent : Lent) where
   unfolding begun
   begun-good v =
       let cs = claimed (claimsOf o) (candidatesIn candidates) in
-      let room = opening-passed o candidates lent v .room .0 in
+      let p = opening-passed o candidates lent v in
+      let room = p .room .0 in
       record {
         cs = cs;
         working = refl;
         filled = ap (λ (f : Filled). f .working) (proceeding-keeps (lent .styles) _ _ _ _ .filled) ∙ zero-add (length cs);
         room = rw (zero-add (length cs)) at room;
-        below = keep-below (items (lent .styles)) (claimsOf o) true (candidatesIn candidates) (opening-below o candidates lent v);
+        below = keep-below (items (lent .styles)) (claimsOf o) true (candidatesIn candidates) (all-below (items (lent .styles)) candidates (p .candidate));
       }
 
   opened-good : isRefused (opened o candidates lent .step .answer) ≡ false → Good (lent .styles) (lent .working) (opened o candidates lent)
