@@ -3,9 +3,15 @@
 //! The model is request #102 as it is worded: it moves the view over the panel, offset by offset, and looks whether box and view share a
 //! patch. It shares no code with the entry, which has a closed form. Before the entry, wrong ones are tried: each must be found out.
 
+#[path = "../finished.rs"]
+mod finished;
 #[path = "../random.rs"]
 mod random;
 
+use finished::{other_lengths, other_lengths_recorded, too_many, Finished, Kind};
+use finished::{
+    ANSWERED, BEGUN, CANDIDATE, CODES, FILLED, LAYER, LAYOUTS, LENGTHS, PROGRESS, STYLES, UNCLAIMED, WIDTHS, WORKING,
+};
 use random::Random;
 
 mod c {
@@ -28,28 +34,11 @@ mod c {
 
 // ---- a call
 
-/// The slices of a run, and their records' words.
-const STYLES: usize = 0;
-const LAYOUTS: usize = 1;
-const WORKING: usize = 2;
-const UNCLAIMED: usize = 3;
-const CANDIDATE: usize = 14;
-const WIDTHS: [usize; 4] = [57, 23, CANDIDATE, CANDIDATE];
-
-/// Words of the state.
-const PROGRESS: usize = 0;
-const FILLED: usize = 7;
-const BEGUN: usize = 9;
-const ANSWERED: usize = 10;
+/// Words of the state, beside those that every part tests.
 const RECTANGLE: usize = 11;
 const AREA: usize = 15;
 const DIRECTION: usize = 19;
 const OVERFLOW: usize = 21;
-const LENGTHS: usize = 23;
-
-/// Words of a candidate: its codes and their greatest, the layer among them. Word 0 is the node.
-const LAYER: usize = 13;
-const CODES: [(usize, u32); 8] = [(2, 4), (5, 2), (6, 2), (7, 2), (10, 2), (11, 2), (12, 2), (LAYER, 255)];
 
 /// Layers that are none: the first one, one whose low byte is 1, 2 ^ 31, a NaN, the highest word.
 const BAD_LAYERS: [u32; 5] = [256, 257, 1 << 31, 0x7FC0_0001, u32::MAX];
@@ -101,10 +90,6 @@ impl Call {
             4..8 => Some(self.state[RECTANGLE + k - 4]),
             _ => layout.and_then(|words| words.get(PLACES[k - 8]).copied()),
         })
-    }
-
-    fn record_lengths(&mut self) {
-        (0..4).for_each(|k| self.state[LENGTHS + k] = self.slices[k].len() as u32);
     }
 }
 
@@ -1034,17 +1019,19 @@ fn two(direction: u32, area: [i64; 4], far: [i64; 2], codes: [u32; 2], boxes: [P
 
 // ---- changes of a call
 
-type Change = (&'static str, fn(&mut Call, &mut Random));
+type Change = finished::Change<Call>;
 
-/// Changes for which a call is refused with one number, or with none (0), and how many of them, at the end, add some 50,000 words.
-struct Kind {
-    refused: u32,
-    changes: Vec<Change>,
-    big: usize,
+impl Finished for Call {
+    fn slices(&mut self) -> &mut [Vec<u32>; 4] {
+        &mut self.slices
+    }
+    fn state(&mut self) -> &mut [u32; 27] {
+        &mut self.state
+    }
 }
 
 /// In the order in which they are tested.
-fn kinds() -> [Kind; 5] {
+fn kinds() -> [Kind<Call>; 5] {
     [
         Kind { refused: 2, changes: extents(), big: 2 },
         Kind { refused: 6, changes: counts(), big: 0 },
@@ -1054,51 +1041,8 @@ fn kinds() -> [Kind; 5] {
     ]
 }
 
-fn resize(call: &mut Call, slice: usize, records: usize) {
-    call.slices[slice].resize(records * WIDTHS[slice], 0x7FC0_0001);
-    call.record_lengths();
-}
-
 fn extents() -> Vec<Change> {
-    // an empty one gets longer
-    fn shorter(call: &mut Call, k: usize, words: usize) {
-        match call.slices[k].len() {
-            0 => longer(call, k, words),
-            len => call.slices[k].truncate(len.saturating_sub(words)),
-        }
-    }
-    fn longer(call: &mut Call, k: usize, words: usize) {
-        let len = call.slices[k].len() + words;
-        call.slices[k].resize(len, 7);
-    }
-    vec![
-        ("a word less", |c, r| shorter(c, r.below(4), 1)),
-        ("a word more", |c, r| longer(c, r.below(4), 1)),
-        ("a word less, recorded so", |c, r| {
-            shorter(c, r.below(4), 1);
-            c.record_lengths();
-        }),
-        ("a word more, recorded so", |c, r| {
-            longer(c, r.below(4), 1);
-            c.record_lengths();
-        }),
-        ("a record less", |c, r| {
-            let k = r.below(4);
-            shorter(c, k, WIDTHS[k])
-        }),
-        ("a record more", |c, r| {
-            let k = r.below(4);
-            longer(c, k, WIDTHS[k])
-        }),
-        ("another count of layouts, recorded so", |c, r| {
-            let (k, n) = (r.below(2), c.records(STYLES));
-            resize(c, k, if n == 0 || r.below(2) == 0 { n + 1 } else { n - 1 });
-        }),
-        ("another length recorded", |c, r| c.state[LENGTHS + r.below(4)] ^= 1 << r.below(32)),
-        ("a length recorded one beside", |c, r| {
-            let k = LENGTHS + r.below(4);
-            c.state[k] = c.state[k].wrapping_add(r.pick(&[1, u32::MAX]));
-        }),
+    let own: Vec<Change> = vec![
         ("no such place", |c, r| c.place = c.filled() + r.below(3) * r.below(3)),
         ("no such place in 32 bits", |c, r| c.place += 1 << (32 + r.below(31))),
         ("the last place of all", |c, _| c.place = usize::MAX),
@@ -1106,12 +1050,8 @@ fn extents() -> Vec<Change> {
             c.state[FILLED] = 0;
             c.state[PROGRESS] = r.word() % 7;
         }),
-        ("1,025 items", |c, _| {
-            resize(c, STYLES, 1025);
-            resize(c, LAYOUTS, 1025);
-        }),
-        ("4,097 records", |c, r| resize(c, 2 + r.below(2), 4097)),
-    ]
+    ];
+    [other_lengths(), other_lengths_recorded(), own, too_many()].concat()
 }
 
 fn counts() -> Vec<Change> {
@@ -1127,7 +1067,7 @@ fn counts() -> Vec<Change> {
             c.state[FILLED + 1] = c.records(UNCLAIMED) as u32 + 1 + r.word() % 2
         }),
         ("the most unclaimed", |c, _| c.state[FILLED + 1] = u32::MAX),
-        ("no records", |c, _| resize(c, WORKING, 0)),
+        ("no records", |c, _| c.resize(WORKING, 0)),
     ]
 }
 
@@ -1152,8 +1092,8 @@ fn candidates() -> Vec<Change> {
         }),
         ("a layer above 255", |c, r| filled(c, r)[LAYER] = r.pick(&BAD_LAYERS)),
         ("no items", |c, _| {
-            resize(c, STYLES, 0);
-            resize(c, LAYOUTS, 0);
+            c.resize(STYLES, 0);
+            c.resize(LAYOUTS, 0);
         }),
         ("a bad record at the place asked", |c, r| {
             let (k, most) = r.pick(&CODES);
@@ -1233,20 +1173,20 @@ fn harmless() -> Vec<Change> {
         }),
         ("a record more, recorded so", |c, r| {
             let k = 2 + r.below(2);
-            resize(c, k, c.records(k) + 1)
+            c.resize(k, c.records(k) + 1)
         }),
-        ("a full list", |c, _| resize(c, WORKING, c.filled())),
+        ("a full list", |c, _| c.resize(WORKING, c.filled())),
         ("1,024 items, of which the last is asked", |c, _| {
             let (at, node) = (CANDIDATE * c.place, c.node(c.place).unwrap_or(0));
-            resize(c, STYLES, 1024);
-            resize(c, LAYOUTS, 1024);
+            c.resize(STYLES, 1024);
+            c.resize(LAYOUTS, 1024);
             c.slices[LAYOUTS].copy_within(23 * node..23 * node + 23, 23 * 1023);
             c.slices[WORKING][at] = 1023;
         }),
-        ("4,096 records", |c, r| resize(c, 2 + r.below(2), 4096)),
+        ("4,096 records", |c, r| c.resize(2 + r.below(2), 4096)),
         ("4,096 filled ones", |c, r| {
             let record = c.slices[WORKING][CANDIDATE * c.place..][..CANDIDATE].to_vec();
-            resize(c, WORKING, 4096);
+            c.resize(WORKING, 4096);
             c.slices[WORKING].chunks_exact_mut(CANDIDATE).for_each(|other| other.copy_from_slice(&record));
             c.state[FILLED] = 4096;
             c.place = r.below(4096);
@@ -1257,14 +1197,6 @@ fn harmless() -> Vec<Change> {
 // ---- random calls
 
 impl Random {
-    fn below(&mut self, n: u32) -> usize {
-        (self.word() % n) as usize
-    }
-
-    fn pick<T: Copy>(&mut self, list: &[T]) -> T {
-        list[self.below(list.len() as u32)]
-    }
-
     /// From -most to most.
     fn small(&mut self, most: i64) -> i64 {
         i64::from(self.word()) % (2 * most + 1) - most
@@ -1343,7 +1275,7 @@ impl Random {
 
     /// Changes of a call, one of each of some kinds. What is tested first is changed last, so that no other change undoes it: it says with
     /// what the call is refused.
-    fn change(&mut self, call: &mut Call, kinds: &[Kind; 5], chosen: usize) -> u32 {
+    fn change(&mut self, call: &mut Call, kinds: &[Kind<Call>; 5], chosen: usize) -> u32 {
         let mut refused = 0;
         for (_, kind) in kinds.iter().enumerate().rev().filter(|(k, _)| chosen >> k & 1 == 1) {
             let big = if self.below(256) == 0 { kind.big } else { 0 };

@@ -788,14 +788,6 @@ impl Trial<'_> {
 // ---- random tables
 
 impl Random {
-    fn below(&mut self, n: u32) -> usize {
-        (self.word() % n) as usize
-    }
-
-    fn pick<T: Copy>(&mut self, list: &[T]) -> T {
-        list[self.below(list.len() as u32)]
-    }
-
     /// A record of good words. Floats, and safeties that are ignored, are any.
     fn record(&mut self) -> Vec<u32> {
         let mut record: Vec<u32> = vec![];

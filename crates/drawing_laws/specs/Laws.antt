@@ -139,7 +139,8 @@ ReplyReadsNoLayer =
     → LayersAllowed (s .counts .filled .working) (lent .working) → LayersAllowed (s .counts .filled .working) (lent' .working)
     → SameOutcomes (replied s reply surfaced lent) (replied s reply surfaced' lent')
 
--- both are lent their own slices, or both others
+-- both are lent their own slices, or both others. Of these every whole working record has an allowed layer: a call looks at the filled ones
+-- alone, and how many they are stands in the state
 pub data SameLoan : Loan → Loan → Type 0 where
   bothOwn : SameLoan own own
   bothOther : {slices slices' : Lent} → SameSlices slices slices' → SameCandidates (slices .working) (slices' .working) → SameLoan (other slices) (other slices')
