@@ -7,7 +7,7 @@ use mathlib.Core.Path.{_≡_, refl, _∙_, subst}
 use mathlib.Core.Bool.{Bool, true, false, cond, not, _&&_}
 use lib.Dec.{eqb, ltb}
 use borrow.Author.Tests.{lt-ltb, le-ltb}
-use Rattle.style_record.specs.Record.{Kind, tag, number, upTo, ratio, keyword, safety, contain, kindOf, codeKinds, afterLengths, styleWords}
+use Rattle.style_record.specs.Record.{Kind, tag, number, upTo, ratio, keyword, safety, contain, kindOf, codeKinds, afterLengths, styleWords, ratioPresentWord, boxSizingWord, flagsWord, directionWord, justifyWord, alignWord, overflowXWord, overflowYWord, containWord}
 use Rattle.style_record.specs.Check.{safetyBreaks, breaksAs, breaksRule}
 use Rattle.style_record.specs.Codes.{lastCode, isIgnored}
 use Rattle.style_record.specs.Laws.{CodesByTheLast}
@@ -47,17 +47,17 @@ module _ (P : ℕ → Type 0) (k : ℕ) where
 
 unfoldable pub lastOf : ℕ → ℕ
 lastOf k =
-    cond (eqb k afterLengths) 1
-    (cond (eqb k (afterLengths + 2)) 1
-    (cond (eqb k (afterLengths + 3)) 3
-    (cond (eqb k (afterLengths + 4)) 1
-    (cond (eqb k (afterLengths + 5)) 10
-    (cond (eqb k (afterLengths + 6)) 2
-    (cond (eqb k (afterLengths + 7)) 10
-    (cond (eqb k (afterLengths + 8)) 2
-    (cond (eqb k (afterLengths + 9)) 3
-    (cond (eqb k (afterLengths + 10)) 3
-    (cond (eqb k (afterLengths + 12)) 255 4294967295))))))))))
+    cond (eqb k ratioPresentWord) 1
+    (cond (eqb k boxSizingWord) 1
+    (cond (eqb k flagsWord) 3
+    (cond (eqb k directionWord) 1
+    (cond (eqb k justifyWord) 10
+    (cond (eqb k (justifyWord + 1)) 2
+    (cond (eqb k alignWord) 10
+    (cond (eqb k (alignWord + 1)) 2
+    (cond (eqb k overflowXWord) 3
+    (cond (eqb k overflowYWord) 3
+    (cond (eqb k containWord) 255 4294967295))))))))))
 
 pub last-of : (k : ℕ) → afterLengths ≤ k → k < styleWords → lastOf k ≡ lastCode (kindOf k)
 unfolding lastOf lastCode kindOf codeKinds
@@ -66,7 +66,7 @@ last-of k = each (λ j. lastOf j ≡ lastCode (kindOf j)) k refl refl refl refl 
 -- ---- the safety of an absent keyword
 
 unfoldable pub ignoredOf : (ℕ → ℕ) → ℕ → Bool
-ignoredOf r k = cond (eqb k (afterLengths + 6)) (eqb (r (afterLengths + 5)) 10) (cond (eqb k (afterLengths + 8)) (eqb (r (afterLengths + 7)) 10) false)
+ignoredOf r k = cond (eqb k (justifyWord + 1)) (eqb (r justifyWord) 10) (cond (eqb k (alignWord + 1)) (eqb (r alignWord) 10) false)
 
 pub ignored-of : (r : ℕ → ℕ) (k : ℕ) → afterLengths ≤ k → k < styleWords → ignoredOf r k ≡ isIgnored (kindOf k) (r (k - 1))
 unfolding ignoredOf isIgnored kindOf codeKinds

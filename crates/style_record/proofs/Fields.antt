@@ -25,7 +25,7 @@ use Rattle.style.specs.declared.compact_length.LengthSize.{LengthSize}
 use Rattle.style.specs.declared.Style.{Style}
 use Rattle.style.specs.declared.resolve.Field.{Field}
 use Rattle.style.specs.declared.resolve.Field.the-variants as field
-use Rattle.style_record.specs.Record.{lengthField, lengthKinds, codeKinds, kindOf, items, styleWords}
+use Rattle.style_record.specs.Record.{lengthField, lengthKinds, codeKinds, kindOf, items, lengths, styleWords, tagWord}
 use Rattle.style_record.specs.Check.{safetyBreaks, breaksAs, breaksRule, breaks, firstFrom, firstBroken, orRest, checkedFrom, checked}
 use Rattle.style_record.specs.Encode.{presentCode, lengthWordsOf, rectWordsOf, sizeWordsOf, alignWordsOf, encoded}
 use Rattle.style_record.specs.Laws.{TagsOfRect, TagsOfSize, TagsOfStyle, WrittenIsGood}
@@ -49,18 +49,21 @@ module _ (f : Field) where
   size : (s : LengthSize) → not (takes f (s .width .tag)) ≡ false → not (takes f (s .height .tag)) ≡ false → TagsOfSize f s
   size s a b = record { width = taken _ a; height = taken _ b }
 
+inside : (l : ℕ) → l < lengths → tagWord l < styleWords
+inside l h = omega arith
+
 tags-of : (y : Style) → checked (encoded y) ≡ table.Good → TagsOfStyle y
 unfolding items breaks breaksRule breaksAs kindOf lengthField lengthKinds encoded rectWordsOf sizeWordsOf lengthWordsOf alignWordsOf
 tags-of y e =
-    let word : (k : ℕ) → k < styleWords → breaks (encoded y) 0 k ≡ false = good-is-none (encoded y) .0 e 0 (omega arith) in
+    let tag : (l : ℕ) → l < lengths → breaks (encoded y) 0 (tagWord l) ≡ false = λ l h. good-is-none (encoded y) .0 e 0 (omega arith) (tagWord l) (inside l h) in
     record {
-      inset = rect field.InsetOrMargin (y .inset) (word 0 (omega arith)) (word 2 (omega arith)) (word 4 (omega arith)) (word 6 (omega arith));
-      margin = rect field.InsetOrMargin (y .margin) (word 8 (omega arith)) (word 10 (omega arith)) (word 12 (omega arith)) (word 14 (omega arith));
-      padding = rect field.PaddingOrBorder (y .padding) (word 16 (omega arith)) (word 18 (omega arith)) (word 20 (omega arith)) (word 22 (omega arith));
-      border = rect field.PaddingOrBorder (y .border) (word 24 (omega arith)) (word 26 (omega arith)) (word 28 (omega arith)) (word 30 (omega arith));
-      size = size field.Size (y .size) (word 32 (omega arith)) (word 34 (omega arith));
-      min = size field.MinOrMax (y .min) (word 36 (omega arith)) (word 38 (omega arith));
-      max = size field.MinOrMax (y .max) (word 40 (omega arith)) (word 42 (omega arith));
+      inset = rect field.InsetOrMargin (y .inset) (tag 0 (omega arith)) (tag 1 (omega arith)) (tag 2 (omega arith)) (tag 3 (omega arith));
+      margin = rect field.InsetOrMargin (y .margin) (tag 4 (omega arith)) (tag 5 (omega arith)) (tag 6 (omega arith)) (tag 7 (omega arith));
+      padding = rect field.PaddingOrBorder (y .padding) (tag 8 (omega arith)) (tag 9 (omega arith)) (tag 10 (omega arith)) (tag 11 (omega arith));
+      border = rect field.PaddingOrBorder (y .border) (tag 12 (omega arith)) (tag 13 (omega arith)) (tag 14 (omega arith)) (tag 15 (omega arith));
+      size = size field.Size (y .size) (tag 16 (omega arith)) (tag 17 (omega arith));
+      min = size field.MinOrMax (y .min) (tag 18 (omega arith)) (tag 19 (omega arith));
+      max = size field.MinOrMax (y .max) (tag 20 (omega arith)) (tag 21 (omega arith));
     }
 
 -- ---- every value has a code that is allowed

@@ -10,7 +10,7 @@ use Rattle.style.specs.Resolve.{takes}
 use Rattle.style.proofs.Laws.{takes-its-tags}
 use Rattle.style.specs.declared.resolve.Field.{Field}
 use Rattle.style.specs.declared.resolve.Field.the-variants as field
-use Rattle.style_record.specs.Record.{tag, number, kindOf, lengthKinds, lengthField, lengthWords, afterLengths, styleWords, item}
+use Rattle.style_record.specs.Record.{tag, number, kindOf, lengthKinds, lengthField, lengthWords, afterLengths, styleWords, tagWord, item}
 use Rattle.style_record.specs.Check.{breaksAs, breaksRule, NoWord, Word, firstFrom, orRest, firstBroken, checkedFrom}
 use Rattle.style_record.specs.declared.check.TableCheck.the-variants as table
 
@@ -90,22 +90,22 @@ pub record Stretch (f : Field) (from to : ℕ) : Type 0 where
   pub ends : to % lengthWords ≡ 0
   pub inside : to ≤ afterLengths
 
-pub insets-and-margins : Stretch field.InsetOrMargin 0 (8 * lengthWords)
+pub insets-and-margins : Stretch field.InsetOrMargin (tagWord 0) (tagWord 8)
 unfolding lengthField
 insets-and-margins = record { taken = held; ends = refl; inside = omega arith }
   where
-    held : TakenAs field.InsetOrMargin 0 (8 * lengthWords)
+    held : TakenAs field.InsetOrMargin (tagWord 0) (tagWord 8)
     held k p q w = rw (lt-ltb (k / lengthWords) 8 (omega arith)) refl
 
-pub padding-and-borders : Stretch field.PaddingOrBorder (8 * lengthWords) (16 * lengthWords)
+pub padding-and-borders : Stretch field.PaddingOrBorder (tagWord 8) (tagWord 16)
 unfolding lengthField
 padding-and-borders = record { taken = held; ends = refl; inside = omega arith }
   where
-    held : TakenAs field.PaddingOrBorder (8 * lengthWords) (16 * lengthWords)
+    held : TakenAs field.PaddingOrBorder (tagWord 8) (tagWord 16)
     held k p q w = rw (le-ltb (k / lengthWords) 8 (omega arith), lt-ltb (k / lengthWords) 16 (omega arith)) refl
 
 -- min and max take what the size does
-pub sizes : Stretch field.Size (16 * lengthWords) afterLengths
+pub sizes : Stretch field.Size (tagWord 16) afterLengths
 unfolding lengthField
 sizes = record { taken = held; ends = refl; inside = omega arith }
   where
@@ -113,7 +113,7 @@ sizes = record { taken = held; ends = refl; inside = omega arith }
     alike true w = refl
     alike false w = takes-its-tags field.MinOrMax w ∙ sym (takes-its-tags field.Size w)
 
-    held : TakenAs field.Size (16 * lengthWords) afterLengths
+    held : TakenAs field.Size (tagWord 16) afterLengths
     held k p q w = rw (le-ltb (k / lengthWords) 8 (omega arith), le-ltb (k / lengthWords) 16 (omega arith)) (alike (ltb (k / lengthWords) 18) w)
 
 -- ---- an item's words, from one on

@@ -1,5 +1,5 @@
 -- Each word is decoded by its meaning: decoding and writing are inverse. Assumes nothing.
-use Prim.Native.Nat.{ℕ, zero, suc, _-_, _%_, _<_, _≤_}
+use Prim.Native.Nat.{ℕ, zero, suc, _+_, _-_, _%_, _<_, _≤_}
 use native.Mathlib.Omega.{arith}
 use mathlib.Core.Path.{_≡_, refl, _∙_, ap}
 use mathlib.Core.Bool.{Bool, true, false, cond}
@@ -20,7 +20,7 @@ use Rattle.style.specs.declared.alignment.AlignItems.{AlignItems}
 use Rattle.style.specs.declared.Style.{Style}
 use Rattle.style.specs.Codes.{safetyCode, keywordCode, bitsCode, safetyOf, keywordOf, alignmentOf, bit0, bit1, containOf}
 use Rattle.style.proofs.Laws.{sizing-codes, overflow-codes, direction-codes, safety-codes, keyword-codes, bits-codes}
-use Rattle.style_record.specs.Record.{upTo, styleWords, kindOf, codeKinds, lengthKinds, lengthField}
+use Rattle.style_record.specs.Record.{upTo, styleWords, ratioPresentWord, ratioWord, boxSizingWord, flagsWord, directionWord, justifyWord, alignWord, overflowXWord, overflowYWord, containWord, kindOf, codeKinds, lengthKinds, lengthField}
 use Rattle.style_record.specs.Check.{safetyBreaks, breaksAs, breaksRule}
 use Rattle.style_record.specs.Decode.{lengthAt, rectAt, sizeAt, alignAt, ratioAt, overflowAt, styleOf}
 use Rattle.style_record.specs.Encode.{lengthWordsOf, rectWordsOf, sizeWordsOf, presentCode, ratioBits, alignWordsOf, encoded, keptAs, keptFrom}
@@ -146,19 +146,19 @@ module _ (r : ℕ → ℕ) (good : (k : ℕ) → k < styleWords → breaksRule r
   pub decoded-back : encoded (styleOf r) ≡ keptFrom r styleWords 0
   unfolding styleOf lengthAt rectAt sizeAt alignAt ratioAt overflowAt containOf lengthWordsOf rectWordsOf sizeWordsOf alignWordsOf encoded keptFrom keptAs kindOf codeKinds lengthKinds lengthField breaksAs
   decoded-back =
-      let present = ratio-word (r 44) (r 45) (code-word 1 44 (omega arith) refl) in
+      let present = ratio-word (r ratioPresentWord) (r ratioWord) (code-word 1 ratioPresentWord (omega arith) refl) in
       rw (
         present .0,
         present .1,
-        sizing-codes .1 (r 46) (code-word 1 46 (omega arith) refl),
-        flags-word (r 47) (code-word 3 47 (omega arith) refl),
-        direction-codes .1 (r 48) (code-word 1 48 (omega arith) refl),
-        keyword-word (r 49) (r 50) (rule 49 (omega arith)) (rule 50 (omega arith)),
-        safety-word (r 49) (r 50) (rule 49 (omega arith)) (rule 50 (omega arith)),
-        keyword-word (r 51) (r 52) (rule 51 (omega arith)) (rule 52 (omega arith)),
-        safety-word (r 51) (r 52) (rule 51 (omega arith)) (rule 52 (omega arith)),
-        overflow-codes .1 (r 53) (code-word 3 53 (omega arith) refl),
-        overflow-codes .1 (r 54) (code-word 3 54 (omega arith) refl),
-        bits-codes .1 (r 56),
+        sizing-codes .1 (r boxSizingWord) (code-word 1 boxSizingWord (omega arith) refl),
+        flags-word (r flagsWord) (code-word 3 flagsWord (omega arith) refl),
+        direction-codes .1 (r directionWord) (code-word 1 directionWord (omega arith) refl),
+        keyword-word (r justifyWord) (r (justifyWord + 1)) (rule justifyWord (omega arith)) (rule (justifyWord + 1) (omega arith)),
+        safety-word (r justifyWord) (r (justifyWord + 1)) (rule justifyWord (omega arith)) (rule (justifyWord + 1) (omega arith)),
+        keyword-word (r alignWord) (r (alignWord + 1)) (rule alignWord (omega arith)) (rule (alignWord + 1) (omega arith)),
+        safety-word (r alignWord) (r (alignWord + 1)) (rule alignWord (omega arith)) (rule (alignWord + 1) (omega arith)),
+        overflow-codes .1 (r overflowXWord) (code-word 3 overflowXWord (omega arith) refl),
+        overflow-codes .1 (r overflowYWord) (code-word 3 overflowYWord (omega arith) refl),
+        bits-codes .1 (r containWord),
       )
       refl

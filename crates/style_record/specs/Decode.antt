@@ -14,7 +14,7 @@ use Rattle.style.specs.declared.alignment.AlignItems.{AlignItems}
 use Rattle.style.specs.declared.OverflowPoint.{OverflowPoint}
 use Rattle.style.specs.declared.Style.{Style}
 use Rattle.style.specs.Codes.{sizingOf, overflowOf, directionOf, alignmentOf, bit0, bit1, containOf}
-use Rattle.style_record.specs.Record.{lengthWords, afterLengths, item}
+use Rattle.style_record.specs.Record.{lengthWords, tagWord, ratioPresentWord, ratioWord, boxSizingWord, flagsWord, directionWord, justifyWord, alignWord, overflowXWord, overflowYWord, scrollbarWord, containWord, item}
 
 -- ---- from word k of a record on
 
@@ -41,33 +41,33 @@ alignAt r k = alignmentOf (r k) (r (k + 1))
 
 -- the ratio's word is read where it is present
 unfoldable pub ratioAt : (ℕ → ℕ) → MaybeF32
-ratioAt r = cond (eqb (r afterLengths) 0) None (Some (ofBits binary32 (r (afterLengths + 1))))
+ratioAt r = cond (eqb (r ratioPresentWord) 0) None (Some (ofBits binary32 (r ratioWord)))
 
 unfoldable pub overflowAt : (ℕ → ℕ) → OverflowPoint
-overflowAt r = record { x = overflowOf (r (afterLengths + 9)); y = overflowOf (r (afterLengths + 10)) }
+overflowAt r = record { x = overflowOf (r overflowXWord); y = overflowOf (r overflowYWord) }
 
 -- ---- a whole record
 
 unfoldable pub styleOf : (ℕ → ℕ) → Style
 styleOf r =
     record {
-      inset = rectAt r 0;
-      margin = rectAt r (4 * lengthWords);
-      padding = rectAt r (8 * lengthWords);
-      border = rectAt r (12 * lengthWords);
-      size = sizeAt r (16 * lengthWords);
-      min = sizeAt r (18 * lengthWords);
-      max = sizeAt r (20 * lengthWords);
+      inset = rectAt r (tagWord 0);
+      margin = rectAt r (tagWord 4);
+      padding = rectAt r (tagWord 8);
+      border = rectAt r (tagWord 12);
+      size = sizeAt r (tagWord 16);
+      min = sizeAt r (tagWord 18);
+      max = sizeAt r (tagWord 20);
       ratio = ratioAt r;
-      sizing = sizingOf (r (afterLengths + 2));
-      replaced = bit0 (r (afterLengths + 3));
-      table = bit1 (r (afterLengths + 3));
-      direction = directionOf (r (afterLengths + 4));
-      justify = alignAt r (afterLengths + 5);
-      align = alignAt r (afterLengths + 7);
+      sizing = sizingOf (r boxSizingWord);
+      replaced = bit0 (r flagsWord);
+      table = bit1 (r flagsWord);
+      direction = directionOf (r directionWord);
+      justify = alignAt r justifyWord;
+      align = alignAt r alignWord;
       overflow = overflowAt r;
-      scrollbar = ofBits binary32 (r (afterLengths + 11));
-      contain = containOf (r (afterLengths + 12));
+      scrollbar = ofBits binary32 (r scrollbarWord);
+      contain = containOf (r containWord);
     }
 
 -- the style of an item of a table

@@ -28,6 +28,46 @@ afterLengths = lengthWords * lengths
 abbrev pub styleWords : ℕ
 styleWords = afterLengths + codeWords
 
+-- ---- where its words stand
+
+-- the first word of a length, counted from 0: its tag
+abbrev pub tagWord : ℕ → ℕ
+tagWord l = lengthWords * l
+
+abbrev pub ratioPresentWord : ℕ
+ratioPresentWord = afterLengths
+
+abbrev pub ratioWord : ℕ
+ratioWord = afterLengths + 1
+
+abbrev pub boxSizingWord : ℕ
+boxSizingWord = afterLengths + 2
+
+abbrev pub flagsWord : ℕ
+flagsWord = afterLengths + 3
+
+abbrev pub directionWord : ℕ
+directionWord = afterLengths + 4
+
+-- a keyword; its safety stands behind it
+abbrev pub justifyWord : ℕ
+justifyWord = afterLengths + 5
+
+abbrev pub alignWord : ℕ
+alignWord = afterLengths + 7
+
+abbrev pub overflowXWord : ℕ
+overflowXWord = afterLengths + 9
+
+abbrev pub overflowYWord : ℕ
+overflowYWord = afterLengths + 10
+
+abbrev pub scrollbarWord : ℕ
+scrollbarWord = afterLengths + 11
+
+abbrev pub containWord : ℕ
+containWord = afterLengths + 12
+
 -- ---- what a word is
 
 pub data Kind : Type 0 where

@@ -1,7 +1,7 @@
 -- Generated skeleton (tools/proof/write-skeletons), answers by hand.
 use Rattle.style_record.proofs.Walk.{From, all-words, words-end, word-on, word-stop, Tags, next-tags, tag-on, tag-stop, insets-and-margins, padding-and-borders, sizes, was-true, was-false, item-bad, item-good, items-done}
 use Rattle.style_record.specs.Check.{checked, checkedFrom}
-use Rattle.style_record.specs.Record.{lengthWords, afterLengths, styleWords, items}
+use Rattle.style_record.specs.Record.{afterLengths, styleWords, tagWord, items}
 use native.Mathlib.Nat.{sub-zero}
 use native.Mathlib.Omega.{arith}
 use mathlib.Core.Logic.{⊎-elim}
@@ -18,13 +18,13 @@ use Rattle.style_record.proofs.check.code_breaks.Reads as code-breaks-r
 
 -- the three walks over tags, and the one over codes
 abbrev Insets : tie.InvT-loop
-Insets styles n i k₀ at k = Tags 0 (8 * lengthWords) styles i k
+Insets styles n i k₀ at k = Tags (tagWord 0) (tagWord 8) styles i k
 
 abbrev Paddings : tie.InvT-loop2
-Paddings styles n i k₀ at k = Tags (8 * lengthWords) (16 * lengthWords) styles i k
+Paddings styles n i k₀ at k = Tags (tagWord 8) (tagWord 16) styles i k
 
 abbrev Sizes : tie.InvT-loop3
-Sizes styles n i k₀ at k = Tags (16 * lengthWords) afterLengths styles i k
+Sizes styles n i k₀ at k = Tags (tagWord 16) afterLengths styles i k
 
 abbrev Codes : tie.InvT-loop4
 Codes styles n i k₀ at k = (afterLengths ≤ k) × (k ≤ styleWords) × From styles i k

@@ -3,6 +3,8 @@ use Rattle.style_record.proofs.Room.{first-words}
 use Rattle.style.specs.Codes.{sizingOf, directionOf, containOf, bit0, bit1}
 use mathlib.Core.Path.{_∙_, ap}
 use native.Mathlib.Omega.{arith}
+use Prim.Native.Nat.{_+_}
+use Rattle.style_record.specs.Record.{styleWords, flagsWord, directionWord, justifyWord, alignWord, scrollbarWord}
 use Rattle.style_record.specs.Decode.{styleAt, styleOf}
 use borrow.Author.Needs.{needs}
 use Rattle.style_record.proofs.decode.style_at.Statement.{statement}
@@ -56,37 +58,37 @@ from-code-requires : tie.Need-from-code-requires
 from-code-requires c κs = search needs
 
 word-at-requires-2 : tie.Need-word-at-requires-2
-word-at-requires-2 c κs = first-words _ _ 48 (omega arith) (c .before .before .before .before .before .before .before .before .before .before .before .pre)
+word-at-requires-2 c κs = first-words _ _ (flagsWord + 1) (omega arith) (c .before .before .before .before .before .before .before .before .before .before .before .pre)
 
 bit0-requires : tie.Need-bit0-requires
 bit0-requires c κs = search needs
 
 word-at-requires-3 : tie.Need-word-at-requires-3
-word-at-requires-3 c κs = first-words _ _ 48 (omega arith) (c .before .before .before .before .before .before .before .before .before .before .before .before .before .pre)
+word-at-requires-3 c κs = first-words _ _ (flagsWord + 1) (omega arith) (c .before .before .before .before .before .before .before .before .before .before .before .before .before .pre)
 
 bit1-requires : tie.Need-bit1-requires
 bit1-requires c κs = search needs
 
 word-at-requires-4 : tie.Need-word-at-requires-4
-word-at-requires-4 c κs = first-words _ _ 49 (omega arith) (c .before .before .before .before .before .before .before .before .before .before .before .before .before .before .before .pre)
+word-at-requires-4 c κs = first-words _ _ (directionWord + 1) (omega arith) (c .before .before .before .before .before .before .before .before .before .before .before .before .before .before .before .pre)
 
 from-code-requires-2 : tie.Need-from-code-requires-2
 from-code-requires-2 c κs = search needs
 
 align-at-requires : tie.Need-align-at-requires
-align-at-requires c κs = first-words _ _ 51 (omega arith) (c .before .before .before .before .before .before .before .before .before .before .before .before .before .before .before .before .before .pre)
+align-at-requires c κs = first-words _ _ (justifyWord + 2) (omega arith) (c .before .before .before .before .before .before .before .before .before .before .before .before .before .before .before .before .before .pre)
 
 align-at-requires-2 : tie.Need-align-at-requires-2
-align-at-requires-2 c κs = first-words _ _ 53 (omega arith) (c .before .before .before .before .before .before .before .before .before .before .before .before .before .before .before .before .before .before .pre)
+align-at-requires-2 c κs = first-words _ _ (alignWord + 2) (omega arith) (c .before .before .before .before .before .before .before .before .before .before .before .before .before .before .before .before .before .before .pre)
 
 overflow-at-requires : tie.Need-overflow-at-requires
 overflow-at-requires c κs = c .before .before .before .before .before .before .before .before .before .before .before .before .before .before .before .before .before .before .before .pre
 
 float-at-requires : tie.Need-float-at-requires
-float-at-requires c κs = first-words _ _ 56 (omega arith) (c .before .before .before .before .before .before .before .before .before .before .before .before .before .before .before .before .before .before .before .before .pre)
+float-at-requires c κs = first-words _ _ (scrollbarWord + 1) (omega arith) (c .before .before .before .before .before .before .before .before .before .before .before .before .before .before .before .before .before .before .before .before .pre)
 
 word-at-requires-5 : tie.Need-word-at-requires-5
-word-at-requires-5 c κs = first-words _ _ 57 (omega arith) (c .before .before .before .before .before .before .before .before .before .before .before .before .before .before .before .before .before .before .before .before .before .pre)
+word-at-requires-5 c κs = first-words _ _ styleWords (omega arith) (c .before .before .before .before .before .before .before .before .before .before .before .before .before .before .before .before .before .before .before .before .before .pre)
 
 from-code-requires-3 : tie.Need-from-code-requires-3
 from-code-requires-3 c κs = search needs
