@@ -1,6 +1,6 @@
 #!/usr/bin/env python3
-"""Holds every number of hosts/c/oof.h, the state's words and the widths of hosts/rust/src, and what both hosts call the words of a
-style to the definitions in crates/*/specs.
+"""Holds every number of hosts/c/oof.h, the state's and a style's words, the tags and the widths of hosts/rust/src, and what both hosts call
+the words of a style to the definitions in crates/*/specs.
 
     hosts/words.py [HEADER]
 
@@ -85,13 +85,23 @@ def style():
     return {"STYLE_" + name: at for name, at in out.items()}
 
 
+def length():
+    """The words of a length, from its first one."""
+    record = body(DECODE, "lengthAt")[0][1]
+    parts = re.findall(r"\b(\w+) = (?:ofBits binary32 )?\(?r (k|\(k \+ \d\))", record)
+    out = {"LENGTH_" + field.upper(): eval(at, {}, {"k": 0}) for field, at in parts}
+    assert sorted(out.values()) == list(range(known["lengthWords"])), record
+    return out
+
+
 def style_names():
-    """What the words of a style are called, in their order: a length has a tag and a value, and what has a safety is a keyword."""
-    words, out = style(), {}
+    """What the words of a style are called, in their order: a length has a tag and two values, and what has a safety is a keyword."""
+    words, parts, out = style(), {at: part for part, at in length().items()}, {}
+    called = {"LENGTH_TAG": "tag", "LENGTH_VALUE": "value", "LENGTH_SECOND": "second value"}
     for constant, at in words.items():
         name = constant.removeprefix("STYLE_").replace("_", " ").lower()
         if at < known["afterLengths"]:
-            out |= {at: name + ", tag", at + 1: name + ", value"}
+            out |= {at + k: f"{name}, {called[part]}" for k, part in parts.items()}
         else:
             out[at] = name + " keyword" if constant + "_SAFETY" in words else name
     assert sorted(out) == list(range(known["styleWords"])), out
@@ -197,6 +207,7 @@ def bad_word():
 def tags():
     """By what each comes to in a size."""
     names = {"Length value": "PX", "autoIn f": "AUTO", "Length (basis ⊗ value)": "PERCENT", "Absent": "CONTENT",
+             "Length ((basis ⊗ value) ⊕ second)": "SUM",
              "Keyword keyword.MinContent": "MIN_CONTENT", "Keyword keyword.MaxContent": "MAX_CONTENT",
              "Keyword keyword.FitContent": "FIT_CONTENT", "Keyword keyword.Stretch": "STRETCH",
              "Keyword (keyword.FitContentLimit value)": "FIT_CONTENT_PX",
@@ -207,8 +218,9 @@ def tags():
 
 
 def wanted():
-    out = style() | candidate() | layout() | state() | answer() | pixels() | reach() | bad_word() | tags()
-    out |= {"STYLE_WORDS": known["styleWords"], "CANDIDATE_WORDS": number(CANDIDATE, "candidateWidth"), "LAYOUT_WORDS": number(LAYOUT, "layoutWidth")}
+    out = style() | length() | candidate() | layout() | state() | answer() | pixels() | reach() | bad_word() | tags()
+    out |= {"STYLE_WORDS": known["styleWords"], "LENGTH_WORDS": known["lengthWords"]}
+    out |= {"CANDIDATE_WORDS": number(CANDIDATE, "candidateWidth"), "LAYOUT_WORDS": number(LAYOUT, "layoutWidth")}
     out |= {"STATE_WORDS": count("stateWords"), "ANSWER_WORDS": count("finishWords")}
     assert count("measureWords") == count("layOutWords") == count("finishWords")
     refusals = text("run/specs/Refusals.antt")
@@ -231,20 +243,40 @@ def wanted():
     return {"OOF_" + name: n for name, n in out.items()}
 
 
+def rust_names():
+    """What the header calls the Rust host's numbers: the widths, and the modules of the state's words, a style's words and the tags."""
+    state = {"PROGRESS": "PROGRESS", "KEYWORD_REPLY": "KEYWORD", "FILL_REPLY": "FILL", "FILLED_WORKING": "WORKING", "FILLED_UNCLAIMED": "UNCLAIMED",
+             "BEGUN": "BEGUN", "ANSWERED": "ANSWERED", "OVERFLOW": "OVERFLOW", "AREA": "AREA", "CODES": "DIRECTION", "LENGTHS": "LENGTHS"}
+    out = {"state::" + n: "STATE_" + to for n, to in state.items()}
+    out |= {n.replace("STYLE_", "style::", 1): n for n in style()}
+    out |= {n.replace("TAG_", "tag::", 1): n for n in tags() if n != "TAG_PX"} | {"tag::LENGTH": "TAG_PX"}
+    return out | {"STYLE": "STYLE_WORDS", "LENGTH": "LENGTH_WORDS", "VALUE": "LENGTH_VALUE", "SECOND": "LENGTH_SECOND", "CANDIDATE": "CANDIDATE_WORDS",
+                  "LAYER": "CANDIDATE_LAYER", "LAYOUT": "LAYOUT_WORDS", "STATE": "STATE_WORDS", "ANSWER": "ANSWER_WORDS", "EDGES": "PIXEL_EDGES",
+                  "VERDICT": "REACH_WORDS", "FOUND": "FOUND_WORDS"}
+
+
+def rust_numbers():
+    """The public numbers of the Rust host's words, those of a module with its name before them."""
+    out = {}
+    for file in ("ffi.rs", "words.rs"):
+        module = ""
+        for line in (root / "hosts/rust/src" / file).read_text().splitlines():
+            if found := re.match(r"pub mod (\w+) \{", line):
+                module = found[1] + "::"
+            elif line == "}":
+                module = ""
+            elif found := re.match(r"(?:    )?pub const (\w+): (?:usize|u32) = (\d+);", line):
+                out[module + found[1]] = int(found[2])
+    return out
+
+
 def main():
     found = {n: int(v) for n, v in re.findall(r"\b(OOF_[A-Z0-9_]+) = (\d+)", header.read_text())}
     want = wanted()
     wrong = [f"{n} is {found.get(n, 'missing')}, by the definitions {want.get(n, 'unknown')}" for n in sorted(found | want) if found.get(n) != want.get(n)]
-    names = {"PROGRESS": "PROGRESS", "KEYWORD_REPLY": "KEYWORD", "FILL_REPLY": "FILL", "FILLED_WORKING": "WORKING", "FILLED_UNCLAIMED": "UNCLAIMED",
-             "BEGUN": "BEGUN", "ANSWERED": "ANSWERED", "OVERFLOW": "OVERFLOW", "AREA": "AREA", "CODES": "DIRECTION", "LENGTHS": "LENGTHS"}
-    names = {"state::" + n: "STATE_" + to for n, to in names.items()}
-    names |= {"STYLE": "STYLE_WORDS", "CANDIDATE": "CANDIDATE_WORDS", "LAYER": "CANDIDATE_LAYER", "LAYOUT": "LAYOUT_WORDS", "STATE": "STATE_WORDS",
-              "ANSWER": "ANSWER_WORDS", "EDGES": "PIXEL_EDGES", "VERDICT": "REACH_WORDS", "FOUND": "FOUND_WORDS"}
-    rust = {}
-    for file in ("ffi.rs", "words.rs"):
-        numbers = re.findall(r"^(    )?pub const (\w+): usize = (\d+);", (root / "hosts/rust/src" / file).read_text(), re.M)
-        rust |= {("state::" if inner else "") + n: int(v) for inner, n, v in numbers}
-    wrong += [f"Rust: {n} is {rust.get(n, 'missing')}" for n in sorted(rust | names) if rust.get(n) != want.get("OOF_" + names.get(n, ""))]
+    told = rust_names()
+    rust = rust_numbers()
+    wrong += [f"Rust: {n} is {rust.get(n, 'missing')}" for n in sorted(rust | told) if rust.get(n) != want.get("OOF_" + told.get(n, ""))]
     called = style_names()
     for path, table in ((header, r"names\[OOF_STYLE_WORDS\] = \{(.*?)\};"), (root / "hosts/rust/src/bad_word.rs", r"NAMES: \[&str; STYLE\] = \[(.*?)\];")):
         said = re.findall(r'"([^"]*)"', re.search(table, path.read_text(), re.S)[1])

@@ -52,7 +52,8 @@ extern "C" {
 /* ---- widths of the records, in words, and limits */
 
 enum {
-    OOF_STYLE_WORDS = 57,
+    OOF_STYLE_WORDS = 79,
+    OOF_LENGTH_WORDS = 3, /* of one length in a style */
     OOF_CANDIDATE_WORDS = 14,
     OOF_LAYOUT_WORDS = 23,
     OOF_STATE_WORDS = 27,
@@ -147,7 +148,16 @@ enum {
     OOF_ALIGN_ABSENT = 10 /* normal with default safety; its safety word is ignored */
 };
 
-/* tags of lengths. Insets and margins take px, auto and percent; padding and border px and percent; the sizes all. */
+/* tags of lengths. Insets and margins take px, auto, percent and sum; padding and border px, percent and sum; the sizes all.
+ * Percentages and sums are taken of a basis: of the area's height for top and bottom insets, height, min height and max height,
+ * of its width for every other length.
+ * OOF_TAG_SUM is the sum of a percentage and a length: basis * value, rounded, plus the second value, rounded; the two float
+ * operations are never fused. A percentage is a factor: "half the area less 12 px" is value 0.5, second value -12.
+ *   - Any length may be a sum, padding and border, min and max too.
+ *   - It comes to a number, as px and percent do: it is no sizing keyword, a ratio completes from it, min and max count.
+ *   - With second value -0.0 it is what percent is, bit for bit. In an area of infinite width value 0 with second value 12 is a
+ *     NaN, as 0 % is, and not 12.
+ *   - Under other tags the second value has no say, under the two fit-content tags neither. No tag is fit-content of a sum. */
 enum {
     OOF_TAG_PX = 1,
     OOF_TAG_AUTO = 3,
@@ -158,76 +168,103 @@ enum {
     OOF_TAG_CONTENT = 35,
     OOF_TAG_FIT_CONTENT_PX = 43,
     OOF_TAG_FIT_CONTENT = 59,
-    OOF_TAG_STRETCH = 75
+    OOF_TAG_STRETCH = 75,
+    OOF_TAG_SUM = 129 /* basis * value + second value */
 };
 
-/* ---- a style, 57 words: 22 lengths of two words each (tag, value), then 13 words. The name is the tag's word number;
- * the value's is one more. Item i of a table begins at word OOF_STYLE_WORDS * i. */
+/* ---- a style, 79 words: 22 lengths of three words each (tag, value, second value), then 13 words. A length's name is the number
+ * of its tag's word; add OOF_LENGTH_VALUE or OOF_LENGTH_SECOND for the others. Item i of a table begins at word
+ * OOF_STYLE_WORDS * i. */
+
+enum {
+    OOF_LENGTH_TAG = 0,
+    OOF_LENGTH_VALUE = 1, /* float */
+    OOF_LENGTH_SECOND = 2 /* float: of a sum. Under any other tag it may hold any bits, and nothing written depends on them */
+};
 
 enum {
     OOF_STYLE_INSET_LEFT = 0,
-    OOF_STYLE_INSET_RIGHT = 2,
-    OOF_STYLE_INSET_TOP = 4,
-    OOF_STYLE_INSET_BOTTOM = 6,
-    OOF_STYLE_MARGIN_LEFT = 8,
-    OOF_STYLE_MARGIN_RIGHT = 10,
-    OOF_STYLE_MARGIN_TOP = 12,
-    OOF_STYLE_MARGIN_BOTTOM = 14,
-    OOF_STYLE_PADDING_LEFT = 16,
-    OOF_STYLE_PADDING_RIGHT = 18,
-    OOF_STYLE_PADDING_TOP = 20,
-    OOF_STYLE_PADDING_BOTTOM = 22,
-    OOF_STYLE_BORDER_LEFT = 24,
-    OOF_STYLE_BORDER_RIGHT = 26,
-    OOF_STYLE_BORDER_TOP = 28,
-    OOF_STYLE_BORDER_BOTTOM = 30,
-    OOF_STYLE_WIDTH = 32,
-    OOF_STYLE_HEIGHT = 34,
-    OOF_STYLE_MIN_WIDTH = 36,
-    OOF_STYLE_MIN_HEIGHT = 38,
-    OOF_STYLE_MAX_WIDTH = 40,
-    OOF_STYLE_MAX_HEIGHT = 42,
-    OOF_STYLE_RATIO_PRESENT = 44, /* 0 or 1 */
-    OOF_STYLE_RATIO = 45,         /* float: width by height */
-    OOF_STYLE_BOX_SIZING = 46,
-    OOF_STYLE_FLAGS = 47,
-    OOF_STYLE_DIRECTION = 48,
-    OOF_STYLE_JUSTIFY = 49,
-    OOF_STYLE_JUSTIFY_SAFETY = 50,
-    OOF_STYLE_ALIGN = 51,
-    OOF_STYLE_ALIGN_SAFETY = 52,
-    OOF_STYLE_OVERFLOW_X = 53,
-    OOF_STYLE_OVERFLOW_Y = 54,
-    OOF_STYLE_SCROLLBAR_WIDTH = 55, /* float */
-    OOF_STYLE_CONTAIN = 56
+    OOF_STYLE_INSET_RIGHT = 3,
+    OOF_STYLE_INSET_TOP = 6,
+    OOF_STYLE_INSET_BOTTOM = 9,
+    OOF_STYLE_MARGIN_LEFT = 12,
+    OOF_STYLE_MARGIN_RIGHT = 15,
+    OOF_STYLE_MARGIN_TOP = 18,
+    OOF_STYLE_MARGIN_BOTTOM = 21,
+    OOF_STYLE_PADDING_LEFT = 24,
+    OOF_STYLE_PADDING_RIGHT = 27,
+    OOF_STYLE_PADDING_TOP = 30,
+    OOF_STYLE_PADDING_BOTTOM = 33,
+    OOF_STYLE_BORDER_LEFT = 36,
+    OOF_STYLE_BORDER_RIGHT = 39,
+    OOF_STYLE_BORDER_TOP = 42,
+    OOF_STYLE_BORDER_BOTTOM = 45,
+    OOF_STYLE_WIDTH = 48,
+    OOF_STYLE_HEIGHT = 51,
+    OOF_STYLE_MIN_WIDTH = 54,
+    OOF_STYLE_MIN_HEIGHT = 57,
+    OOF_STYLE_MAX_WIDTH = 60,
+    OOF_STYLE_MAX_HEIGHT = 63,
+    OOF_STYLE_RATIO_PRESENT = 66, /* 0 or 1 */
+    OOF_STYLE_RATIO = 67,         /* float: width by height */
+    OOF_STYLE_BOX_SIZING = 68,
+    OOF_STYLE_FLAGS = 69,
+    OOF_STYLE_DIRECTION = 70,
+    OOF_STYLE_JUSTIFY = 71,
+    OOF_STYLE_JUSTIFY_SAFETY = 72,
+    OOF_STYLE_ALIGN = 73,
+    OOF_STYLE_ALIGN_SAFETY = 74,
+    OOF_STYLE_OVERFLOW_X = 75,
+    OOF_STYLE_OVERFLOW_Y = 76,
+    OOF_STYLE_SCROLLBAR_WIDTH = 77, /* float */
+    OOF_STYLE_CONTAIN = 78
 };
 
-/* What a style's word is called, as "margin left, tag" for word 8. */
+/* What a style's word is called, as "margin left, tag" for word OOF_STYLE_MARGIN_LEFT. */
 static inline const char *oof_style_word_name(uint32_t word)
 {
     static const char *const names[OOF_STYLE_WORDS] = {
-        "inset left, tag", "inset left, value", "inset right, tag", "inset right, value",
-        "inset top, tag", "inset top, value", "inset bottom, tag", "inset bottom, value",
-        "margin left, tag", "margin left, value", "margin right, tag", "margin right, value",
-        "margin top, tag", "margin top, value", "margin bottom, tag", "margin bottom, value",
-        "padding left, tag", "padding left, value", "padding right, tag", "padding right, value",
-        "padding top, tag", "padding top, value", "padding bottom, tag", "padding bottom, value",
-        "border left, tag", "border left, value", "border right, tag", "border right, value",
-        "border top, tag", "border top, value", "border bottom, tag", "border bottom, value",
-        "width, tag", "width, value", "height, tag", "height, value",
-        "min width, tag", "min width, value", "min height, tag", "min height, value",
-        "max width, tag", "max width, value", "max height, tag", "max height, value",
+        "inset left, tag", "inset left, value", "inset left, second value",
+        "inset right, tag", "inset right, value", "inset right, second value",
+        "inset top, tag", "inset top, value", "inset top, second value",
+        "inset bottom, tag", "inset bottom, value", "inset bottom, second value",
+        "margin left, tag", "margin left, value", "margin left, second value",
+        "margin right, tag", "margin right, value", "margin right, second value",
+        "margin top, tag", "margin top, value", "margin top, second value",
+        "margin bottom, tag", "margin bottom, value", "margin bottom, second value",
+        "padding left, tag", "padding left, value", "padding left, second value",
+        "padding right, tag", "padding right, value", "padding right, second value",
+        "padding top, tag", "padding top, value", "padding top, second value",
+        "padding bottom, tag", "padding bottom, value", "padding bottom, second value",
+        "border left, tag", "border left, value", "border left, second value",
+        "border right, tag", "border right, value", "border right, second value",
+        "border top, tag", "border top, value", "border top, second value",
+        "border bottom, tag", "border bottom, value", "border bottom, second value",
+        "width, tag", "width, value", "width, second value",
+        "height, tag", "height, value", "height, second value",
+        "min width, tag", "min width, value", "min width, second value",
+        "min height, tag", "min height, value", "min height, second value",
+        "max width, tag", "max width, value", "max width, second value",
+        "max height, tag", "max height, value", "max height, second value",
         "ratio present", "ratio", "box sizing", "flags", "direction",
         "justify keyword", "justify safety", "align keyword", "align safety",
         "overflow x", "overflow y", "scrollbar width", "contain"};
     return word < OOF_STYLE_WORDS ? names[word] : "no word of a style";
 }
 
-/* Writes a length of a style: `at` is the tag's word number. */
+/* Writes a length of a style: `at` is the number of its tag's word. The second value is 0. */
 static inline void oof_set_length(uint32_t *style, size_t at, uint32_t tag, float value)
 {
-    style[at] = tag;
-    style[at + 1] = oof_word(value);
+    style[at + OOF_LENGTH_TAG] = tag;
+    style[at + OOF_LENGTH_VALUE] = oof_word(value);
+    style[at + OOF_LENGTH_SECOND] = 0;
+}
+
+/* Writes a sum there: so large a part of the area, and so many pixels more. "Half the area less 12 px" is 0.5f, -12. */
+static inline void oof_set_sum(uint32_t *style, size_t at, float factor, float pixels)
+{
+    oof_set_length(style, at, OOF_TAG_SUM, factor);
+    style[at + OOF_LENGTH_SECOND] = oof_word(pixels);
 }
 
 /* ---- a candidate, 14 words. The records of both lists, and those that a box surfaces, have the same words.
@@ -516,8 +553,8 @@ uint32_t oof_drawing_order(const uint32_t *styles, size_t styles_len,
  * bottom one above the top one, or equal to it.
  * Refuses with 9 unless each of the six numbers is a whole eighth of a pixel, and at most 9,999,999 eighths (1,249,999.875
  * pixels) in size. A run whose area, lengths, scrollbar widths, static areas and replies are whole quarter pixels of at most
- * 4,096, without percentage and ratio and without surfaced boxes that are claimed, has no box that is refused, while nobody
- * else writes the lent words.
+ * 4,096, without percentage, sum and ratio and without surfaced boxes that are claimed, has no box that is refused, while
+ * nobody else writes the lent words.
  *   - A centered box whose free space is an odd count of eighths stands half an eighth off, and gets 9: in an area of 800 at
  *     0, with left and right inset 0, auto margins and width 100.125, x is 349.9375.
  *   - Pixel edges are not mirrored: a half goes to the right in a right-to-left area too. In an area of 16 eighths a box from
@@ -534,12 +571,12 @@ uint32_t oof_pixels(const uint32_t *layout, float x, float y, int32_t *edges);
  *               has the word's name
  * The result is 1 if there is such a word, and 0 if there is none. It is no refusal: 1 isn't OOF_BAD_AREA here, and any words
  * have an answer. Which words break a rule:
- *   - A tag that its field doesn't take. Whole words are compared: 257 is no OOF_TAG_PX.
+ *   - A tag that its field doesn't take. Whole words are compared: 257 is no OOF_TAG_PX, and 385 no OOF_TAG_SUM.
  *   - A code above the last of its list: above 1 for ratio present, box sizing and direction, 3 for the flags and either
  *     overflow, 10 for justify and align, 255 for contain.
  *   - A safety above 2, unless the keyword before it is OOF_ALIGN_ABSENT. With a keyword of 11 and a safety of 7 the keyword is
  *     the first, with 9 and 7 the safety, and with 10 and 7 neither is bad.
- *   - No float: values, ratio and scrollbar width may hold any bits, those of a NaN too.
+ *   - No float: values, second values, ratio and scrollbar width may hold any bits, those of a NaN too.
  * An opening or a reply is refused with OOF_BAD_STYLE exactly if this entry gives 1 for its table and none of the tests before
  * that one refuses it: 1 and 2 of an opening, 2 and 6 of a reply. */
 uint32_t oof_first_bad_word(const uint32_t *styles, size_t styles_len, uint32_t *found);

@@ -13,7 +13,7 @@ pub struct BadWord {
 }
 
 impl BadWord {
-    /// What the word is called, as `"margin left, tag"` for word 8
+    /// What the word is called, as `"margin left, tag"` for word [`words::style::MARGIN_LEFT`](crate::words::style::MARGIN_LEFT)
     pub fn name(self) -> &'static str {
         NAMES.get(self.word).copied().unwrap_or("no word of a style")
     }
@@ -39,18 +39,20 @@ impl fmt::Display for BadWord {
 /// The item comes modulo 2^32.
 ///
 /// A word breaks a rule if it is a tag that its field doesn't take; a code above the last of its list; or a safety above 2, unless the
-/// keyword before it is 10 (absent). Whole words are compared. A float never does, be it a NaN.
+/// keyword before it is 10 (absent). Whole words are compared. A float never does, be it a NaN or a second
+/// value that nothing reads.
 ///
 /// ```
+/// use oof::words::{style, STYLE};
 /// use oof::*;
 ///
 /// let mut table: Vec<u32> = [Style::default(), Style::default()].iter().flat_map(Style::to_words).collect();
 /// assert_eq!(first_bad_word(&table), None);
 ///
-/// table[words::STYLE + 8] = 0; // of item 1, and no tag yet
-/// table[words::STYLE + 49] = 11; // nor is this a keyword, but it comes later
+/// table[STYLE + style::MARGIN_LEFT] = 0; // of item 1, and no tag yet
+/// table[STYLE + style::JUSTIFY] = 11; // nor is this a keyword, but it comes later
 /// let bad = first_bad_word(&table).unwrap();
-/// assert_eq!(bad, BadWord { item: 1, word: 8 });
+/// assert_eq!(bad, BadWord { item: 1, word: style::MARGIN_LEFT });
 /// assert_eq!(bad.name(), "margin left, tag");
 /// assert_eq!(bad.to_string(), "item 1: margin left, tag");
 /// ```
@@ -65,17 +67,28 @@ pub fn first_bad_word(styles: &[u32]) -> Option<BadWord> {
 /// What the words of a style are called
 #[rustfmt::skip]
 const NAMES: [&str; STYLE] = [
-    "inset left, tag", "inset left, value", "inset right, tag", "inset right, value",
-    "inset top, tag", "inset top, value", "inset bottom, tag", "inset bottom, value",
-    "margin left, tag", "margin left, value", "margin right, tag", "margin right, value",
-    "margin top, tag", "margin top, value", "margin bottom, tag", "margin bottom, value",
-    "padding left, tag", "padding left, value", "padding right, tag", "padding right, value",
-    "padding top, tag", "padding top, value", "padding bottom, tag", "padding bottom, value",
-    "border left, tag", "border left, value", "border right, tag", "border right, value",
-    "border top, tag", "border top, value", "border bottom, tag", "border bottom, value",
-    "width, tag", "width, value", "height, tag", "height, value",
-    "min width, tag", "min width, value", "min height, tag", "min height, value",
-    "max width, tag", "max width, value", "max height, tag", "max height, value",
+    "inset left, tag", "inset left, value", "inset left, second value",
+    "inset right, tag", "inset right, value", "inset right, second value",
+    "inset top, tag", "inset top, value", "inset top, second value",
+    "inset bottom, tag", "inset bottom, value", "inset bottom, second value",
+    "margin left, tag", "margin left, value", "margin left, second value",
+    "margin right, tag", "margin right, value", "margin right, second value",
+    "margin top, tag", "margin top, value", "margin top, second value",
+    "margin bottom, tag", "margin bottom, value", "margin bottom, second value",
+    "padding left, tag", "padding left, value", "padding left, second value",
+    "padding right, tag", "padding right, value", "padding right, second value",
+    "padding top, tag", "padding top, value", "padding top, second value",
+    "padding bottom, tag", "padding bottom, value", "padding bottom, second value",
+    "border left, tag", "border left, value", "border left, second value",
+    "border right, tag", "border right, value", "border right, second value",
+    "border top, tag", "border top, value", "border top, second value",
+    "border bottom, tag", "border bottom, value", "border bottom, second value",
+    "width, tag", "width, value", "width, second value",
+    "height, tag", "height, value", "height, second value",
+    "min width, tag", "min width, value", "min width, second value",
+    "min height, tag", "min height, value", "min height, second value",
+    "max width, tag", "max width, value", "max width, second value",
+    "max height, tag", "max height, value", "max height, second value",
     "ratio present", "ratio", "box sizing", "flags", "direction",
     "justify keyword", "justify safety", "align keyword", "align safety",
     "overflow x", "overflow y", "scrollbar width", "contain",

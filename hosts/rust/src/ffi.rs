@@ -47,7 +47,7 @@ pub mod state {
 
 /// What every call of a run lends.
 pub struct Lent<'a> {
-    /// Whole styles, 57 words each
+    /// Whole styles, 79 words each
     pub styles: &'a [u32],
     /// As many layouts, 23 words each
     pub layouts: &'a mut [u32],

@@ -3,34 +3,41 @@ use crate::{Point, Rect, Size};
 
 /// An inset or a margin.
 #[derive(Copy, Clone, Debug, PartialEq)]
-#[non_exhaustive] // taffy has calc lengths too
+#[non_exhaustive] // taffy's calc lengths may be more than sums
 pub enum LengthPercentageAuto {
     /// Pixels
     Length(f32),
     /// A part of the area's width (of its height for a top or bottom inset), 1 being all of it
     Percent(f32),
+    /// Such a part, and so many pixels more: the product is rounded, then the sum. Half the area less 12 pixels is `Sum(0.5, -12.0)`
+    Sum(f32, f32),
     /// Left to the placement
     Auto,
 }
 
 /// A padding or a border.
 #[derive(Copy, Clone, Debug, PartialEq)]
-#[non_exhaustive] // taffy has calc lengths too
+#[non_exhaustive] // taffy's calc lengths may be more than sums
 pub enum LengthPercentage {
     /// Pixels
     Length(f32),
     /// A part of the area's width, 1 being all of it
     Percent(f32),
+    /// Such a part, and so many pixels more, as [`LengthPercentageAuto::Sum`]
+    Sum(f32, f32),
 }
 
-/// A size, a min or a max. In min and max anything but a length or a percentage is the same as `Auto`.
+/// A size, a min or a max. In min and max anything but a length, a percentage or a sum is the same as
+/// `Auto`.
 #[derive(Copy, Clone, Debug, PartialEq)]
-#[non_exhaustive] // taffy has calc lengths too
+#[non_exhaustive] // taffy's calc lengths may be more than sums
 pub enum Dimension {
     /// Pixels
     Length(f32),
     /// A part of the area, 1 being all of it
     Percent(f32),
+    /// Such a part, and so many pixels more, as [`LengthPercentageAuto::Sum`]
+    Sum(f32, f32),
     /// Left to the placement
     Auto,
     /// The narrowest size of the content

@@ -1,14 +1,76 @@
-//! Records as 32-bit words, floats by their bits: 57 words a style, 14 a candidate, 23 a layout, 10 an answer.
+//! Records as 32-bit words, floats by their bits: 79 words a style, 14 a candidate, 23 a layout, 10 an answer.
 use crate::*;
 
 /// Words of a style
-pub const STYLE: usize = 57;
+pub const STYLE: usize = 79;
+/// Words of a length: tag, value, second value
+pub const LENGTH: usize = 3;
+/// Which word of a length is its value
+pub const VALUE: usize = 1;
+/// Which word of a length is its second value, which a sum has: under any other tag it may hold any bits
+pub const SECOND: usize = 2;
 /// Words of a candidate
 pub const CANDIDATE: usize = 14;
 /// Which word of a candidate is its layer, 0 to 255
 pub const LAYER: usize = 13;
 /// Words of a layout
 pub const LAYOUT: usize = 23;
+
+/// Which word of a style is which; of a length, its tag, with [`VALUE`] and [`SECOND`] behind it
+#[allow(missing_docs)]
+pub mod style {
+    pub const INSET_LEFT: usize = 0;
+    pub const INSET_RIGHT: usize = 3;
+    pub const INSET_TOP: usize = 6;
+    pub const INSET_BOTTOM: usize = 9;
+    pub const MARGIN_LEFT: usize = 12;
+    pub const MARGIN_RIGHT: usize = 15;
+    pub const MARGIN_TOP: usize = 18;
+    pub const MARGIN_BOTTOM: usize = 21;
+    pub const PADDING_LEFT: usize = 24;
+    pub const PADDING_RIGHT: usize = 27;
+    pub const PADDING_TOP: usize = 30;
+    pub const PADDING_BOTTOM: usize = 33;
+    pub const BORDER_LEFT: usize = 36;
+    pub const BORDER_RIGHT: usize = 39;
+    pub const BORDER_TOP: usize = 42;
+    pub const BORDER_BOTTOM: usize = 45;
+    pub const WIDTH: usize = 48;
+    pub const HEIGHT: usize = 51;
+    pub const MIN_WIDTH: usize = 54;
+    pub const MIN_HEIGHT: usize = 57;
+    pub const MAX_WIDTH: usize = 60;
+    pub const MAX_HEIGHT: usize = 63;
+    pub const RATIO_PRESENT: usize = 66;
+    pub const RATIO: usize = 67;
+    pub const BOX_SIZING: usize = 68;
+    pub const FLAGS: usize = 69;
+    pub const DIRECTION: usize = 70;
+    pub const JUSTIFY: usize = 71;
+    pub const JUSTIFY_SAFETY: usize = 72;
+    pub const ALIGN: usize = 73;
+    pub const ALIGN_SAFETY: usize = 74;
+    pub const OVERFLOW_X: usize = 75;
+    pub const OVERFLOW_Y: usize = 76;
+    pub const SCROLLBAR_WIDTH: usize = 77;
+    pub const CONTAIN: usize = 78;
+}
+
+/// The tags of lengths
+#[allow(missing_docs)]
+pub mod tag {
+    pub const LENGTH: u32 = 1;
+    pub const AUTO: u32 = 3;
+    pub const PERCENT: u32 = 5;
+    pub const MIN_CONTENT: u32 = 11;
+    pub const FIT_CONTENT_PERCENT: u32 = 15;
+    pub const MAX_CONTENT: u32 = 27;
+    pub const CONTENT: u32 = 35;
+    pub const FIT_CONTENT_PX: u32 = 43;
+    pub const FIT_CONTENT: u32 = 59;
+    pub const STRETCH: u32 = 75;
+    pub const SUM: u32 = 129;
+}
 
 fn float(word: u32) -> f32 {
     f32::from_bits(word)
@@ -19,108 +81,118 @@ fn coded<T: Copy>(list: &[T], code: u32) -> Option<T> {
     list.get(code as usize).copied()
 }
 
-// ---- lengths: a tag and a value
+// ---- lengths
 
-const LENGTH: u32 = 1;
-const AUTO: u32 = 3;
-const PERCENT: u32 = 5;
-const MIN_CONTENT: u32 = 11;
-const FIT_CONTENT_PERCENT: u32 = 15;
-const MAX_CONTENT: u32 = 27;
-const CONTENT: u32 = 35;
-const FIT_CONTENT_PX: u32 = 43;
-const FIT_CONTENT: u32 = 59;
-const STRETCH: u32 = 75;
-
-/// A length in two words
+/// A length in three words
 pub trait Tagged: Copy {
-    /// Tag and value; the value of a tag that takes none is 0
-    fn to_words(self) -> [u32; 2];
+    /// Tag, value and second value; a value that the tag doesn't take is 0
+    fn to_words(self) -> [u32; LENGTH];
     /// The length of these words, if the field takes the tag
-    fn from_words(tag: u32, value: u32) -> Option<Self>;
+    fn from_words(words: [u32; LENGTH]) -> Option<Self>;
+}
+
+fn bare(tag: u32) -> [u32; LENGTH] {
+    [tag, 0, 0]
+}
+fn with(tag: u32, value: f32) -> [u32; LENGTH] {
+    [tag, value.to_bits(), 0]
+}
+fn sum(factor: f32, pixels: f32) -> [u32; LENGTH] {
+    [tag::SUM, factor.to_bits(), pixels.to_bits()]
 }
 
 impl Tagged for LengthPercentageAuto {
-    fn to_words(self) -> [u32; 2] {
+    fn to_words(self) -> [u32; LENGTH] {
         match self {
-            Self::Length(v) => [LENGTH, v.to_bits()],
-            Self::Percent(v) => [PERCENT, v.to_bits()],
-            Self::Auto => [AUTO, 0],
+            Self::Length(v) => with(tag::LENGTH, v),
+            Self::Percent(v) => with(tag::PERCENT, v),
+            Self::Sum(v, w) => sum(v, w),
+            Self::Auto => bare(tag::AUTO),
         }
     }
-    fn from_words(tag: u32, value: u32) -> Option<Self> {
+    fn from_words([tag, value, second]: [u32; LENGTH]) -> Option<Self> {
         Some(match tag {
-            LENGTH => Self::Length(float(value)),
-            PERCENT => Self::Percent(float(value)),
-            AUTO => Self::Auto,
+            tag::LENGTH => Self::Length(float(value)),
+            tag::PERCENT => Self::Percent(float(value)),
+            tag::SUM => Self::Sum(float(value), float(second)),
+            tag::AUTO => Self::Auto,
             _ => return None,
         })
     }
 }
 
 impl Tagged for LengthPercentage {
-    fn to_words(self) -> [u32; 2] {
+    fn to_words(self) -> [u32; LENGTH] {
         match self {
-            Self::Length(v) => [LENGTH, v.to_bits()],
-            Self::Percent(v) => [PERCENT, v.to_bits()],
+            Self::Length(v) => with(tag::LENGTH, v),
+            Self::Percent(v) => with(tag::PERCENT, v),
+            Self::Sum(v, w) => sum(v, w),
         }
     }
-    fn from_words(tag: u32, value: u32) -> Option<Self> {
+    fn from_words([tag, value, second]: [u32; LENGTH]) -> Option<Self> {
         Some(match tag {
-            LENGTH => Self::Length(float(value)),
-            PERCENT => Self::Percent(float(value)),
+            tag::LENGTH => Self::Length(float(value)),
+            tag::PERCENT => Self::Percent(float(value)),
+            tag::SUM => Self::Sum(float(value), float(second)),
             _ => return None,
         })
     }
 }
 
 impl Tagged for Dimension {
-    fn to_words(self) -> [u32; 2] {
+    fn to_words(self) -> [u32; LENGTH] {
         match self {
-            Self::Length(v) => [LENGTH, v.to_bits()],
-            Self::Percent(v) => [PERCENT, v.to_bits()],
-            Self::Auto => [AUTO, 0],
-            Self::MinContent => [MIN_CONTENT, 0],
-            Self::MaxContent => [MAX_CONTENT, 0],
-            Self::Content => [CONTENT, 0],
-            Self::FitContent => [FIT_CONTENT, 0],
-            Self::FitContentPx(v) => [FIT_CONTENT_PX, v.to_bits()],
-            Self::FitContentPercent(v) => [FIT_CONTENT_PERCENT, v.to_bits()],
-            Self::Stretch => [STRETCH, 0],
+            Self::Length(v) => with(tag::LENGTH, v),
+            Self::Percent(v) => with(tag::PERCENT, v),
+            Self::Sum(v, w) => sum(v, w),
+            Self::Auto => bare(tag::AUTO),
+            Self::MinContent => bare(tag::MIN_CONTENT),
+            Self::MaxContent => bare(tag::MAX_CONTENT),
+            Self::Content => bare(tag::CONTENT),
+            Self::FitContent => bare(tag::FIT_CONTENT),
+            Self::FitContentPx(v) => with(tag::FIT_CONTENT_PX, v),
+            Self::FitContentPercent(v) => with(tag::FIT_CONTENT_PERCENT, v),
+            Self::Stretch => bare(tag::STRETCH),
         }
     }
-    fn from_words(tag: u32, value: u32) -> Option<Self> {
+    fn from_words([tag, value, second]: [u32; LENGTH]) -> Option<Self> {
         Some(match tag {
-            LENGTH => Self::Length(float(value)),
-            PERCENT => Self::Percent(float(value)),
-            AUTO => Self::Auto,
-            MIN_CONTENT => Self::MinContent,
-            MAX_CONTENT => Self::MaxContent,
-            CONTENT => Self::Content,
-            FIT_CONTENT => Self::FitContent,
-            FIT_CONTENT_PX => Self::FitContentPx(float(value)),
-            FIT_CONTENT_PERCENT => Self::FitContentPercent(float(value)),
-            STRETCH => Self::Stretch,
+            tag::LENGTH => Self::Length(float(value)),
+            tag::PERCENT => Self::Percent(float(value)),
+            tag::SUM => Self::Sum(float(value), float(second)),
+            tag::AUTO => Self::Auto,
+            tag::MIN_CONTENT => Self::MinContent,
+            tag::MAX_CONTENT => Self::MaxContent,
+            tag::CONTENT => Self::Content,
+            tag::FIT_CONTENT => Self::FitContent,
+            tag::FIT_CONTENT_PX => Self::FitContentPx(float(value)),
+            tag::FIT_CONTENT_PERCENT => Self::FitContentPercent(float(value)),
+            tag::STRETCH => Self::Stretch,
             _ => return None,
         })
     }
 }
 
-fn put_sides<T: Tagged>(w: &mut [u32], r: Rect<T>) {
-    for (at, length) in [r.left, r.right, r.top, r.bottom].into_iter().enumerate() {
-        w[2 * at..2 * at + 2].copy_from_slice(&length.to_words());
+fn put_lengths<T: Tagged, const N: usize>(w: &mut [u32], lengths: [T; N]) {
+    for (words, length) in w.chunks_exact_mut(LENGTH).zip(lengths) {
+        words.copy_from_slice(&length.to_words());
     }
 }
+/// The length at this place of some, from 0
+fn length<T: Tagged>(w: &[u32], place: usize) -> Option<T> {
+    T::from_words(w[LENGTH * place..][..LENGTH].try_into().ok()?)
+}
+fn put_sides<T: Tagged>(w: &mut [u32], r: Rect<T>) {
+    put_lengths(w, [r.left, r.right, r.top, r.bottom]);
+}
 fn sides<T: Tagged>(w: &[u32]) -> Option<Rect<T>> {
-    let side = |at: usize| T::from_words(w[2 * at], w[2 * at + 1]);
-    Some(Rect { left: side(0)?, right: side(1)?, top: side(2)?, bottom: side(3)? })
+    Some(Rect { left: length(w, 0)?, right: length(w, 1)?, top: length(w, 2)?, bottom: length(w, 3)? })
 }
 fn put_size(w: &mut [u32], s: Size<Dimension>) {
-    w[..2].copy_from_slice(&s.width.to_words());
-    w[2..4].copy_from_slice(&s.height.to_words());
+    put_lengths(w, [s.width, s.height]);
 }
 fn size(w: &[u32]) -> Option<Size<Dimension>> {
-    Some(Size { width: Dimension::from_words(w[0], w[1])?, height: Dimension::from_words(w[2], w[3])? })
+    Some(Size { width: length(w, 0)?, height: length(w, 1)? })
 }
 
 // ---- styles
@@ -150,49 +222,53 @@ impl Style {
     /// The record of this style
     pub fn to_words(&self) -> [u32; STYLE] {
         let mut w = [0; STYLE];
-        put_sides(&mut w[0..], self.inset);
-        put_sides(&mut w[8..], self.margin);
-        put_sides(&mut w[16..], self.padding);
-        put_sides(&mut w[24..], self.border);
-        put_size(&mut w[32..], self.size);
-        put_size(&mut w[36..], self.min_size);
-        put_size(&mut w[40..], self.max_size);
+        put_sides(&mut w[style::INSET_LEFT..], self.inset);
+        put_sides(&mut w[style::MARGIN_LEFT..], self.margin);
+        put_sides(&mut w[style::PADDING_LEFT..], self.padding);
+        put_sides(&mut w[style::BORDER_LEFT..], self.border);
+        put_size(&mut w[style::WIDTH..], self.size);
+        put_size(&mut w[style::MIN_WIDTH..], self.min_size);
+        put_size(&mut w[style::MAX_WIDTH..], self.max_size);
         if let Some(ratio) = self.aspect_ratio {
-            (w[44], w[45]) = (1, ratio.to_bits());
+            (w[style::RATIO_PRESENT], w[style::RATIO]) = (1, ratio.to_bits());
         }
-        w[46] = self.box_sizing as u32;
-        w[47] = u32::from(self.is_replaced) | u32::from(self.is_table) << 1;
-        w[48] = self.direction as u32;
-        put_alignment(&mut w[49..], self.justify_self);
-        put_alignment(&mut w[51..], self.align_self);
-        (w[53], w[54]) = (self.overflow.x as u32, self.overflow.y as u32);
-        w[55] = self.scrollbar_width.to_bits();
-        w[56] = u32::from(self.contain.0);
+        w[style::BOX_SIZING] = self.box_sizing as u32;
+        w[style::FLAGS] = u32::from(self.is_replaced) | u32::from(self.is_table) << 1;
+        w[style::DIRECTION] = self.direction as u32;
+        put_alignment(&mut w[style::JUSTIFY..], self.justify_self);
+        put_alignment(&mut w[style::ALIGN..], self.align_self);
+        (w[style::OVERFLOW_X], w[style::OVERFLOW_Y]) = (self.overflow.x as u32, self.overflow.y as u32);
+        w[style::SCROLLBAR_WIDTH] = self.scrollbar_width.to_bits();
+        w[style::CONTAIN] = u32::from(self.contain.0);
         w
     }
     /// The style of these words; nothing where a code or tag is outside its list
     pub fn from_words(w: &[u32; STYLE]) -> Option<Style> {
-        if w[44] > 1 || w[47] > 3 {
+        let (present, flags) = (w[style::RATIO_PRESENT], w[style::FLAGS]);
+        if present > 1 || flags > 3 {
             return None;
         }
         Some(Style {
-            inset: sides(&w[0..])?,
-            margin: sides(&w[8..])?,
-            padding: sides(&w[16..])?,
-            border: sides(&w[24..])?,
-            size: size(&w[32..])?,
-            min_size: size(&w[36..])?,
-            max_size: size(&w[40..])?,
-            aspect_ratio: (w[44] == 1).then(|| float(w[45])),
-            box_sizing: coded(&SIZINGS, w[46])?,
-            is_replaced: w[47] & 1 != 0,
-            is_table: w[47] & 2 != 0,
-            direction: coded(&DIRECTIONS, w[48])?,
-            justify_self: alignment(&w[49..])?,
-            align_self: alignment(&w[51..])?,
-            overflow: Point { x: coded(&OVERFLOWS, w[53])?, y: coded(&OVERFLOWS, w[54])? },
-            scrollbar_width: float(w[55]),
-            contain: Contain(u8::try_from(w[56]).ok()?),
+            inset: sides(&w[style::INSET_LEFT..])?,
+            margin: sides(&w[style::MARGIN_LEFT..])?,
+            padding: sides(&w[style::PADDING_LEFT..])?,
+            border: sides(&w[style::BORDER_LEFT..])?,
+            size: size(&w[style::WIDTH..])?,
+            min_size: size(&w[style::MIN_WIDTH..])?,
+            max_size: size(&w[style::MAX_WIDTH..])?,
+            aspect_ratio: (present == 1).then(|| float(w[style::RATIO])),
+            box_sizing: coded(&SIZINGS, w[style::BOX_SIZING])?,
+            is_replaced: flags & 1 != 0,
+            is_table: flags & 2 != 0,
+            direction: coded(&DIRECTIONS, w[style::DIRECTION])?,
+            justify_self: alignment(&w[style::JUSTIFY..])?,
+            align_self: alignment(&w[style::ALIGN..])?,
+            overflow: Point {
+                x: coded(&OVERFLOWS, w[style::OVERFLOW_X])?,
+                y: coded(&OVERFLOWS, w[style::OVERFLOW_Y])?,
+            },
+            scrollbar_width: float(w[style::SCROLLBAR_WIDTH]),
+            contain: Contain(u8::try_from(w[style::CONTAIN]).ok()?),
         })
     }
 }
