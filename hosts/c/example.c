@@ -1,8 +1,9 @@
 /* An English panel and its Arabic mirror image, placed by callbacks and printed side by side. A label stands 20 pixels from
  * the start edge and 12 from the top of an 800 by 480 panel, which scrolls and stands at 100, 40 of its window; its size is
- * what the font says. Then the incident's panel (README.md at the root of the repository): the same label, and before it the note,
- * on the layer above. Of the label and of the note: their pixels in the panel, and whether scrolling can bring them into view; and
- * in which order the incident's panel is drawn. */
+ * what the font says. Then the same label where a designer asks for "half the area less 12 px" from the start edge. Then the
+ * incident's panel (README.md at the root of the repository): the first label, and before it the note, on the layer above. Of the
+ * labels and of the note: their pixels in the panel, and whether scrolling can bring them into view; and in which order the
+ * incident's panel is drawn. */
 #include <stdio.h>
 #include <stdlib.h>
 #include "oof.h"
@@ -57,11 +58,11 @@ static void stand_at(uint32_t *candidate, float x, uint32_t edge)
 static uint32_t *add_box(panel *p, uint32_t node, uint32_t layer)
 {
     uint32_t *style = p->styles + node * OOF_STYLE_WORDS, *candidate = p->candidates + p->boxes++ * OOF_CANDIDATE_WORDS;
-    for (size_t at = OOF_STYLE_INSET_LEFT; at <= OOF_STYLE_INSET_BOTTOM; at += 2)
+    for (size_t at = OOF_STYLE_INSET_LEFT; at <= OOF_STYLE_INSET_BOTTOM; at += OOF_LENGTH_WORDS)
         oof_set_length(style, at, OOF_TAG_AUTO, 0);
-    for (size_t at = OOF_STYLE_MARGIN_LEFT; at <= OOF_STYLE_BORDER_BOTTOM; at += 2)
+    for (size_t at = OOF_STYLE_MARGIN_LEFT; at <= OOF_STYLE_BORDER_BOTTOM; at += OOF_LENGTH_WORDS)
         oof_set_length(style, at, OOF_TAG_PX, 0);
-    for (size_t at = OOF_STYLE_WIDTH; at <= OOF_STYLE_MAX_HEIGHT; at += 2)
+    for (size_t at = OOF_STYLE_WIDTH; at <= OOF_STYLE_MAX_HEIGHT; at += OOF_LENGTH_WORDS)
         oof_set_length(style, at, OOF_TAG_AUTO, 0);
     style[OOF_STYLE_DIRECTION] = p->direction;
     style[OOF_STYLE_JUSTIFY] = style[OOF_STYLE_ALIGN] = OOF_ALIGN_ABSENT;
@@ -76,13 +77,19 @@ static uint32_t *add_box(panel *p, uint32_t node, uint32_t layer)
     return style;
 }
 
+/* the inset from the edge at which a panel's text starts */
+static size_t start_inset(const panel *p)
+{
+    return p->direction == OOF_DIRECTION_LTR ? OOF_STYLE_INSET_LEFT : OOF_STYLE_INSET_RIGHT;
+}
+
 /* the label; in an Arabic panel its mirror image: direction flipped, left and right exchanged */
 static void add_label(panel *p)
 {
     uint32_t *style = add_box(p, LABEL, 0);
     int ltr = p->direction == OOF_DIRECTION_LTR;
     oof_set_length(style, OOF_STYLE_INSET_TOP, OOF_TAG_PX, 12);
-    oof_set_length(style, ltr ? OOF_STYLE_INSET_LEFT : OOF_STYLE_INSET_RIGHT, OOF_TAG_PX, 20);
+    oof_set_length(style, start_inset(p), OOF_TAG_PX, 20);
     oof_set_length(style, ltr ? OOF_STYLE_PADDING_LEFT : OOF_STYLE_PADDING_RIGHT, OOF_TAG_PX, 8);
     oof_set_length(style, ltr ? OOF_STYLE_PADDING_RIGHT : OOF_STYLE_PADDING_LEFT, OOF_TAG_PX, 16);
 }
@@ -109,6 +116,14 @@ static panel panel_with(uint32_t direction, int with_note)
     if (with_note)
         add_note(&p);
     add_label(&p);
+    return p;
+}
+
+/* the label "half the area less 12 px" from the start edge: a sum of a percentage and a length */
+static panel panel_by_half(uint32_t direction)
+{
+    panel p = panel_with(direction, 0);
+    oof_set_sum(p.styles + LABEL * OOF_STYLE_WORDS, start_inset(&p), 0.5f, -12);
     return p;
 }
 
@@ -301,10 +316,11 @@ static int refused_by_name(panel *p)
 int main(void)
 {
     panel e = panel_with(OOF_DIRECTION_LTR, 0), a = panel_with(OOF_DIRECTION_RTL, 0);
+    panel half_e = panel_by_half(OOF_DIRECTION_LTR), half_a = panel_by_half(OOF_DIRECTION_RTL);
     panel incident_e = panel_with(OOF_DIRECTION_LTR, 1), incident_a = panel_with(OOF_DIRECTION_RTL, 1);
-    panel *all[4] = {&e, &a, &incident_e, &incident_a};
+    panel *all[6] = {&e, &a, &half_e, &half_a, &incident_e, &incident_a};
     char text[2][COLUMN];
-    for (int k = 0; k < 4; k++) {
+    for (int k = 0; k < 6; k++) {
         uint32_t result = place(all[k]);
         if (result != OOF_ACCEPTED) {
             printf("refused: %s\n", oof_refusal_name(result));
@@ -313,6 +329,7 @@ int main(void)
     }
     print_both(&e, &a);
     print_pixels_and_reach("  pixels", "  verdict", &e, &a);
+    print_pixels_and_reach("half less 12", "  verdict", &half_e, &half_a);
     print_pixels_and_reach("note, pixels", "note, verdict", &incident_e, &incident_a);
     row("drawing order", drawn(&incident_e, text[0], COLUMN), drawn(&incident_a, text[1], COLUMN));
     float x = layout(&e, OOF_LAYOUT_X), image = layout(&a, OOF_LAYOUT_X), width = layout(&e, OOF_LAYOUT_WIDTH);

@@ -138,11 +138,11 @@ static void fill(size_t count, uint32_t width, uint32_t height)
     memset(styles, 0, sizeof styles);
     for (size_t i = 0; i < count; i++) {
         uint32_t *s = styles + i * OOF_STYLE_WORDS;
-        for (size_t at = OOF_STYLE_INSET_LEFT; at <= OOF_STYLE_MARGIN_BOTTOM; at += 2)
+        for (size_t at = OOF_STYLE_INSET_LEFT; at <= OOF_STYLE_MARGIN_BOTTOM; at += OOF_LENGTH_WORDS)
             oof_set_length(s, at, OOF_TAG_AUTO, 0);
-        for (size_t at = OOF_STYLE_PADDING_LEFT; at <= OOF_STYLE_BORDER_BOTTOM; at += 2)
+        for (size_t at = OOF_STYLE_PADDING_LEFT; at <= OOF_STYLE_BORDER_BOTTOM; at += OOF_LENGTH_WORDS)
             oof_set_length(s, at, OOF_TAG_PX, 1);
-        for (size_t at = OOF_STYLE_WIDTH; at <= OOF_STYLE_MAX_HEIGHT; at += 2)
+        for (size_t at = OOF_STYLE_WIDTH; at <= OOF_STYLE_MAX_HEIGHT; at += OOF_LENGTH_WORDS)
             oof_set_length(s, at, OOF_TAG_AUTO, 0);
         oof_set_length(s, OOF_STYLE_WIDTH, width, 0);
         oof_set_length(s, OOF_STYLE_HEIGHT, height, 0);

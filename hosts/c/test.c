@@ -1,5 +1,5 @@
 /* What the header says of offsets, of layers, of refused calls, of pixels, of boxes that no scrolling brings up, of the drawing
- * order and of words that break a rule, tried. Prints one line; exits with 1 at the first that isn't so. */
+ * order, of words that break a rule and of sums, tried. Prints one line; exits with 1 at the first that isn't so. */
 #include <stdio.h>
 #include <stdlib.h>
 #include "oof.h"
@@ -37,11 +37,11 @@ static int tried;
 static void plain_style(uint32_t *style)
 {
     memset(style, 0, OOF_STYLE_WORDS * sizeof *style);
-    for (size_t at = OOF_STYLE_INSET_LEFT; at <= OOF_STYLE_INSET_BOTTOM; at += 2)
+    for (size_t at = OOF_STYLE_INSET_LEFT; at <= OOF_STYLE_INSET_BOTTOM; at += OOF_LENGTH_WORDS)
         oof_set_length(style, at, OOF_TAG_AUTO, 0);
-    for (size_t at = OOF_STYLE_MARGIN_LEFT; at <= OOF_STYLE_BORDER_BOTTOM; at += 2)
+    for (size_t at = OOF_STYLE_MARGIN_LEFT; at <= OOF_STYLE_BORDER_BOTTOM; at += OOF_LENGTH_WORDS)
         oof_set_length(style, at, OOF_TAG_PX, 0);
-    for (size_t at = OOF_STYLE_WIDTH; at <= OOF_STYLE_MAX_HEIGHT; at += 2)
+    for (size_t at = OOF_STYLE_WIDTH; at <= OOF_STYLE_MAX_HEIGHT; at += OOF_LENGTH_WORDS)
         oof_set_length(style, at, OOF_TAG_AUTO, 0);
     style[OOF_STYLE_JUSTIFY] = style[OOF_STYLE_ALIGN] = OOF_ALIGN_ABSENT;
 }
@@ -774,7 +774,7 @@ static void boxes_of_runs(void)
             e = incident(direction); /* the note 900 from the start edge, 500 from the top */
             uint32_t *note = e.styles + OOF_STYLE_WORDS;
             int start = direction == OOF_DIRECTION_LTR ? OOF_STYLE_INSET_LEFT : OOF_STYLE_INSET_RIGHT;
-            for (size_t at = OOF_STYLE_INSET_LEFT; at <= OOF_STYLE_INSET_BOTTOM; at += 2)
+            for (size_t at = OOF_STYLE_INSET_LEFT; at <= OOF_STYLE_INSET_BOTTOM; at += OOF_LENGTH_WORDS)
                 oof_set_length(note, at, OOF_TAG_AUTO, 0);
             oof_set_length(note, start, OOF_TAG_PX, 900);
             oof_set_length(note, OOF_STYLE_INSET_TOP, OOF_TAG_PX, 500);
@@ -1333,27 +1333,28 @@ static void first_bad_words(void)
     good_items(TABLE);
     MUST(all_good(0) && all_good(TWO) && all_good(ALL));
     put(1, OOF_STYLE_INSET_LEFT, 2);
-    MUST(is_first(TWO, 1, 0));                                       /* not word 57 of the table */
+    MUST(is_first(TWO, 1, OOF_STYLE_INSET_LEFT));                  /* not word OOF_STYLE_WORDS of the table */
     MUST(all_good(ONE) && all_good(ONE + 1) && all_good(TWO - 1)); /* a part of a record */
     put(1, OOF_STYLE_INSET_LEFT, 257);
-    MUST(is_first(TWO, 1, 0)); /* not px */
+    MUST(is_first(TWO, 1, OOF_STYLE_INSET_LEFT)); /* not px */
     put(0, OOF_STYLE_CONTAIN, 256);
-    MUST(is_first(TWO, 0, 56));
+    MUST(is_first(TWO, 0, OOF_STYLE_CONTAIN));
     put(0, OOF_STYLE_CONTAIN, 255);
-    MUST(is_first(TWO, 1, 0));
+    MUST(is_first(TWO, 1, OOF_STYLE_INSET_LEFT));
 
     put(0, OOF_STYLE_JUSTIFY, 11), put(0, OOF_STYLE_JUSTIFY_SAFETY, 7);
-    MUST(is_first(ONE, 0, 49));
+    MUST(is_first(ONE, 0, OOF_STYLE_JUSTIFY));
     put(0, OOF_STYLE_JUSTIFY, OOF_ALIGN_ABSENT);
     MUST(all_good(ONE));
     put(0, OOF_STYLE_JUSTIFY, OOF_ALIGN_STRETCH), put(0, OOF_STYLE_JUSTIFY_SAFETY, 3);
-    MUST(is_first(ONE, 0, 50));
+    MUST(is_first(ONE, 0, OOF_STYLE_JUSTIFY_SAFETY));
     put(0, OOF_STYLE_RATIO_PRESENT, 2);
-    MUST(is_first(ONE, 0, 44));
+    MUST(is_first(ONE, 0, OOF_STYLE_RATIO_PRESENT));
 
     good_items(1);
     put(0, OOF_STYLE_RATIO_PRESENT, 1), put(0, OOF_STYLE_RATIO, 0x7FC00000);
-    put(0, OOF_STYLE_WIDTH + 1, 0xFFFFFFFF), put(0, OOF_STYLE_SCROLLBAR_WIDTH, 0x7F800001);
+    put(0, OOF_STYLE_WIDTH + OOF_LENGTH_VALUE, 0xFFFFFFFF), put(0, OOF_STYLE_SCROLLBAR_WIDTH, 0x7F800001);
+    put(0, OOF_STYLE_WIDTH + OOF_LENGTH_SECOND, 0xFFC00000);
     MUST(all_good(ONE)); /* NaNs */
 }
 
@@ -1363,7 +1364,7 @@ static void long_tables(void)
     good_items(TABLE);
     for (size_t item = TABLE - 1; item >= OOF_MOST_ITEMS - 1; item--) {
         put(item, OOF_STYLE_OVERFLOW_Y, 4);
-        MUST(is_first(ALL, item, 54) && all_good(item * OOF_STYLE_WORDS));
+        MUST(is_first(ALL, item, OOF_STYLE_OVERFLOW_Y) && all_good(item * OOF_STYLE_WORDS));
     }
 }
 
@@ -1371,7 +1372,7 @@ static int takes(size_t word, uint32_t tag)
 {
     const uint32_t of_sizes[7] = {OOF_TAG_MIN_CONTENT, OOF_TAG_FIT_CONTENT_PERCENT, OOF_TAG_MAX_CONTENT, OOF_TAG_CONTENT,
                                   OOF_TAG_FIT_CONTENT_PX, OOF_TAG_FIT_CONTENT, OOF_TAG_STRETCH};
-    int is_size = word >= OOF_STYLE_WIDTH, taken = tag == OOF_TAG_PX || tag == OOF_TAG_PERCENT;
+    int is_size = word >= OOF_STYLE_WIDTH, taken = tag == OOF_TAG_PX || tag == OOF_TAG_PERCENT || tag == OOF_TAG_SUM;
     taken |= tag == OOF_TAG_AUTO && (is_size || word < OOF_STYLE_PADDING_LEFT);
     for (int k = 0; k < 7; k++)
         taken |= is_size && tag == of_sizes[k];
@@ -1382,7 +1383,7 @@ static int takes(size_t word, uint32_t tag)
 static int breaks(const uint32_t *style, size_t word)
 {
     if (word < OOF_STYLE_RATIO_PRESENT)
-        return word % 2 == 0 && !takes(word, style[word]);
+        return word % OOF_LENGTH_WORDS == OOF_LENGTH_TAG && !takes(word, style[word]);
     switch (word) {
     case OOF_STYLE_RATIO_PRESENT:
     case OOF_STYLE_BOX_SIZING:
@@ -1446,7 +1447,7 @@ static void random_tables(void)
         const size_t items = below(5), words = items * OOF_STYLE_WORDS + (below(2) ? below(OOF_STYLE_WORDS) : 0);
         good_items(items + 1);
         for (uint32_t k = below(5); k > 0; k--)
-            put(below((uint32_t)items + 1), below(OOF_STYLE_WORDS), below(14));
+            put(below((uint32_t)items + 1), below(OOF_STYLE_WORDS), below(3) ? below(14) : OOF_TAG_SUM - 1 + below(3));
         wrong += !as_said(words);
         good += all_good(words);
     }
@@ -1470,11 +1471,226 @@ static void replies_over_bad_words(void)
 static void style_word_names(void)
 {
     MUST(!strcmp(oof_style_word_name(OOF_STYLE_MARGIN_LEFT), "margin left, tag"));
-    MUST(!strcmp(oof_style_word_name(OOF_STYLE_MAX_HEIGHT + 1), "max height, value"));
+    MUST(!strcmp(oof_style_word_name(OOF_STYLE_MAX_HEIGHT + OOF_LENGTH_VALUE), "max height, value"));
+    MUST(!strcmp(oof_style_word_name(OOF_STYLE_BORDER_TOP + OOF_LENGTH_SECOND), "border top, second value"));
     MUST(!strcmp(oof_style_word_name(OOF_STYLE_JUSTIFY), "justify keyword"));
     MUST(!strcmp(oof_style_word_name(OOF_STYLE_CONTAIN), "contain"));
     MUST(!strcmp(oof_style_word_name(OOF_STYLE_WORDS), "no word of a style"));
     MUST(!strcmp(oof_style_word_name(0xFFFFFFFF), "no word of a style"));
+}
+
+/* ---- sums: half the area less 12 px */
+
+#define EACH_LENGTH(at) (size_t at = OOF_STYLE_INSET_LEFT; at <= OOF_STYLE_MAX_HEIGHT; at += OOF_LENGTH_WORDS)
+
+static const uint32_t quiet_nan = 0x7FC00000;
+
+/* the run to its finish, every measured box being 120 by 18 */
+static uint32_t placed(words *w)
+{
+    uint32_t result = opened(w);
+    while (result == OOF_ACCEPTED && w->answer[OOF_ANSWER_KIND] != OOF_FINISH)
+        switch (w->answer[OOF_ANSWER_KIND]) {
+        case OOF_MEASURE_BOTH: result = oof_reply_both(120, 18, LENT(w)); break;
+        case OOF_MEASURE_WIDTH: result = oof_reply_width(120, LENT(w)); break;
+        case OOF_MEASURE_HEIGHT: result = oof_reply_height(18, LENT(w)); break;
+        default: result = laid_out(w, w->candidates, 0);
+        }
+    return result;
+}
+
+/* whether two tables are placed alike: every word that the runs wrote is the same */
+static int alike(const words *a, const words *b)
+{
+    words one = *a, other = *b;
+    if (placed(&one) != OOF_ACCEPTED || placed(&other) != OOF_ACCEPTED)
+        return 0;
+    memcpy(other.styles, one.styles, sizeof one.styles);
+    return same(&one, &other);
+}
+
+static void labels_by_sums(void)
+{
+    words w = box_at(100, 40, 100, 40);
+    w.width = 800, w.height = 480;
+    oof_set_sum(w.styles, OOF_STYLE_INSET_LEFT, 0.5f, -12);
+    oof_set_sum(w.styles, OOF_STYLE_INSET_TOP, 0.25f, 6);
+    MUST(placed(&w) == OOF_ACCEPTED);
+    MUST(oof_float(w.layouts[OOF_LAYOUT_X]) == 100 + 388 && oof_float(w.layouts[OOF_LAYOUT_Y]) == 40 + 126);
+    oof_set_length(w.styles, OOF_STYLE_INSET_LEFT, OOF_TAG_AUTO, 0);
+    oof_set_sum(w.styles, OOF_STYLE_INSET_RIGHT, 0.5f, -12);
+    MUST(placed(&w) == OOF_ACCEPTED && oof_float(w.layouts[OOF_LAYOUT_X]) == 100 + 800 - 388 - 120);
+}
+
+/* what the length at this word comes to in a box of its own, as the layout tells; by its basis, 200 across and 100 down */
+static float came_to(size_t at, float factor, float pixels)
+{
+    words w = box_at(0, 0, 0, 0);
+    const float size = at < OOF_STYLE_MAX_WIDTH ? 10 : 190; /* a min raises it, a max lowers it */
+    const size_t side = at / OOF_LENGTH_WORDS % 4;
+    oof_set_length(w.styles, OOF_STYLE_WIDTH, OOF_TAG_PX, size);
+    oof_set_length(w.styles, OOF_STYLE_HEIGHT, OOF_TAG_PX, size);
+    oof_set_sum(w.styles, at, factor, pixels);
+    MUST(placed(&w) == OOF_ACCEPTED);
+    const float x = oof_float(w.layouts[OOF_LAYOUT_X]), y = oof_float(w.layouts[OOF_LAYOUT_Y]);
+    const float inset[4] = {x, 200 - x - size, y, 100 - y - size};
+    if (at < OOF_STYLE_MARGIN_LEFT)
+        return inset[side];
+    if (at < OOF_STYLE_PADDING_LEFT)
+        return oof_float(w.layouts[OOF_LAYOUT_MARGIN + side]);
+    if (at < OOF_STYLE_WIDTH)
+        return oof_float(w.layouts[(at < OOF_STYLE_BORDER_LEFT ? OOF_LAYOUT_PADDING : OOF_LAYOUT_BORDER) + side]);
+    return oof_float(w.layouts[side % 2 ? OOF_LAYOUT_HEIGHT : OOF_LAYOUT_WIDTH]);
+}
+
+/* whether a length goes by the area's height: top and bottom insets, and the heights among the sizes */
+static int goes_by_height(size_t at)
+{
+    const size_t length = at / OOF_LENGTH_WORDS;
+    return at < OOF_STYLE_MARGIN_LEFT ? length >= 2 : at >= OOF_STYLE_WIDTH && length % 2 == 1;
+}
+
+/* every length takes a sum, each by its basis, and none of the tags beside it */
+static void sums_in_every_length(void)
+{
+    const uint32_t no_tags[5] = {4, 6, OOF_TAG_SUM - 1, OOF_TAG_SUM + 1, 256 + OOF_TAG_SUM};
+    for EACH_LENGTH(at) {
+        MUST(came_to(at, 0.25f, -3) == (goes_by_height(at) ? 22 : 47));
+        words w = box_at(100, 40, 100, 40);
+        uint32_t found[OOF_FOUND_WORDS];
+        for (int k = 0; k < 5; k++) {
+            oof_set_sum(w.styles, at, 0.5f, -12);
+            w.styles[at] = no_tags[k];
+            MUST(opened(&w) == OOF_BAD_STYLE && oof_first_bad_word(w.styles, OOF_STYLE_WORDS, found) == 1);
+            MUST(found[OOF_FOUND_ITEM] == 0 && found[OOF_FOUND_STYLE_WORD] == at);
+        }
+    }
+}
+
+/* the product is rounded before the second value is added; a missing basis isn't the second value alone */
+static void sums_by_two_roundings(void)
+{
+    words w = box_at(0, 0, 5, 5), other = w;
+    w.width = 10;
+    oof_set_sum(w.styles, OOF_STYLE_INSET_LEFT, 0.1f, -1);
+    MUST(placed(&w) == OOF_ACCEPTED && w.layouts[OOF_LAYOUT_X] == 0); /* fused it would be 1.5e-8 */
+
+    const float infinite = oof_float(0x7F800000);
+    other.width = infinite;
+    oof_set_sum(other.styles, OOF_STYLE_MARGIN_LEFT, 0, 12);
+    MUST(placed(&other) == OOF_ACCEPTED && other.layouts[OOF_LAYOUT_MARGIN] == quiet_nan);
+    oof_set_sum(other.styles, OOF_STYLE_MARGIN_LEFT, 0.5f, -12);
+    MUST(placed(&other) == OOF_ACCEPTED && oof_float(other.layouts[OOF_LAYOUT_MARGIN]) == infinite);
+}
+
+/* a sum comes to a number: what is measured, what a ratio completes, what content-box adds to, what min and max do */
+static void sums_are_no_keywords(void)
+{
+    words w = box_at(0, 0, 0, 0);
+    oof_set_sum(w.styles, OOF_STYLE_WIDTH, 0.5f, -12);
+    oof_set_length(w.styles, OOF_STYLE_HEIGHT, OOF_TAG_MIN_CONTENT, 0);
+    oof_set_sum(w.styles, OOF_STYLE_MAX_WIDTH, 0.25f, 30);
+    MUST(opened(&w) == OOF_ACCEPTED && w.answer[OOF_ANSWER_KIND] == OOF_MEASURE_HEIGHT);
+    MUST(w.answer[OOF_QUESTION_KNOWN_WIDTH] == OOF_KNOWN && oof_float(w.answer[OOF_QUESTION_KNOWN_WIDTH + 1]) == 80);
+    oof_set_sum(w.styles, OOF_STYLE_MIN_WIDTH, 0.5f, -1);
+    MUST(opened(&w) == OOF_ACCEPTED && oof_float(w.answer[OOF_QUESTION_KNOWN_WIDTH + 1]) == 99);
+
+    w = box_at(0, 0, 0, 0);
+    oof_set_sum(w.styles, OOF_STYLE_WIDTH, 0.5f, -12);
+    w.styles[OOF_STYLE_RATIO_PRESENT] = 1, w.styles[OOF_STYLE_RATIO] = oof_word(2);
+    MUST(opened(&w) == OOF_ACCEPTED && w.answer[OOF_ANSWER_KIND] == OOF_LAY_OUT);
+    MUST(placed(&w) == OOF_ACCEPTED && oof_float(w.layouts[OOF_LAYOUT_HEIGHT]) == 44);
+    w.styles[OOF_STYLE_RATIO_PRESENT] = 0;
+    w.styles[OOF_STYLE_BOX_SIZING] = OOF_BOX_SIZING_CONTENT;
+    oof_set_sum(w.styles, OOF_STYLE_PADDING_LEFT, 0.25f, 3);
+    MUST(placed(&w) == OOF_ACCEPTED && oof_float(w.layouts[OOF_LAYOUT_WIDTH]) == 88 + 53);
+}
+
+/* with second value -0.0 a sum is what percent is; under other tags any second value is none */
+static void second_values(void)
+{
+    const uint32_t tags[8] = {OOF_TAG_PX, OOF_TAG_PERCENT, OOF_TAG_AUTO, OOF_TAG_MIN_CONTENT, OOF_TAG_FIT_CONTENT_PERCENT,
+                              OOF_TAG_FIT_CONTENT_PX, OOF_TAG_CONTENT, OOF_TAG_STRETCH};
+    const uint32_t noise[4] = {0x41400000, 0x7FC00001, 0xFF800000, 1};
+    for EACH_LENGTH(at) {
+        words sum = box_at(100, 40, 100, 40), percent = sum;
+        oof_set_sum(sum.styles, at, 0.3f, -0.0f);
+        oof_set_length(percent.styles, at, OOF_TAG_PERCENT, 0.3f);
+        MUST(alike(&sum, &percent));
+        for (int k = 0; k < 8 * 4; k++)
+            if (takes(at, tags[k / 4])) {
+                words plain = box_at(100, 40, 100, 40), noisy;
+                oof_set_length(plain.styles, at, tags[k / 4], 0.3f);
+                noisy = plain;
+                noisy.styles[at + OOF_LENGTH_SECOND] = noise[k % 4];
+                MUST(alike(&plain, &noisy));
+            }
+    }
+}
+
+/* records of 57 words, as they were before sums, are no table */
+static void records_of_57(void)
+{
+    for (size_t items = 1; items < OOF_STYLE_WORDS; items++) {
+        words w = box_at(100, 40, 100, 40), before = w;
+        MUST(oof_open(w.width, w.height, w.x, w.y, w.direction, OOF_CLAIMS_ABSOLUTE, OOF_OVERFLOW_VISIBLE, OOF_OVERFLOW_VISIBLE,
+                      table, 57 * items, w.candidates, 0, w.layouts, OOF_LAYOUT_WORDS, w.working, ROOM * OOF_CANDIDATE_WORDS,
+                      w.unclaimed, ROOM * OOF_CANDIDATE_WORDS, w.state, w.answer) == OOF_BAD_EXTENT);
+        memcpy(before.state, w.state, sizeof w.state);
+        MUST(same(&before, &w));
+    }
+}
+
+/* any bits, floats of some pixels more often than others */
+static uint32_t some_float(void)
+{
+    const uint32_t odd[6] = {0, 0x80000000, 0x7F800000, 0xFF800000, 0x7FC00000, 0x7F7FFFFF};
+    switch (below(6)) {
+    case 0: return odd[below(6)];
+    case 1: return below(65536) << 16 | below(65536);
+    case 2: return oof_word((float)below(40) / 8);
+    default: return oof_word((float)((int)below(4000) - 2000) / 8);
+    }
+}
+
+/* a sum and the pixels that it comes to, worked out here, are placed alike in any style */
+static void random_sums(void)
+{
+    enum { RUNS = 100000 };
+    const uint32_t tags[4] = {OOF_TAG_PX, OOF_TAG_PERCENT, OOF_TAG_AUTO, OOF_TAG_MIN_CONTENT};
+    int wrong = 0, sums = 0;
+    for (int run = 0; run < RUNS; run++) {
+        words summed = box_at(8, -16, 24, 0), worked;
+        summed.width = oof_float(some_float()), summed.height = oof_float(some_float());
+        summed.direction = below(2);
+        summed.styles[OOF_STYLE_BOX_SIZING] = below(2), summed.styles[OOF_STYLE_FLAGS] = below(4);
+        summed.styles[OOF_STYLE_RATIO_PRESENT] = below(2), summed.styles[OOF_STYLE_RATIO] = some_float();
+        worked = summed;
+        for EACH_LENGTH(at) {
+            const float factor = oof_float(some_float()), pixels = oof_float(some_float());
+            const uint32_t tag = tags[below(4)];
+            if (below(2)) {
+                volatile float product = (goes_by_height(at) ? summed.height : summed.width) * factor;
+                oof_set_sum(summed.styles, at, factor, pixels), sums++;
+                oof_set_length(worked.styles, at, OOF_TAG_PX, product + pixels);
+            } else if (takes(at, tag)) {
+                oof_set_length(summed.styles, at, tag, factor), oof_set_length(worked.styles, at, tag, factor);
+            }
+        }
+        wrong += !alike(&summed, &worked);
+    }
+    MUST(wrong == 0 && sums > 10 * RUNS);
+}
+
+static void of_sums(void)
+{
+    labels_by_sums();
+    sums_in_every_length();
+    sums_by_two_roundings();
+    sums_are_no_keywords();
+    second_values();
+    records_of_57();
+    random_sums();
 }
 
 static void of_drawings(void)
@@ -1522,6 +1738,7 @@ int main(void)
     random_tables();
     replies_over_bad_words();
     style_word_names();
+    of_sums();
     printf("hosts/c: %d tests passed\n", tried);
     return EXIT_SUCCESS;
 }
