@@ -1,5 +1,6 @@
 //! An English panel and its Arabic mirror image, side by side. A label stands 20 pixels from the start edge and 12 from the top
-//! of an 800 by 480 panel, which stands at 100, 40 of its window; its size is what the font says.
+//! of an 800 by 480 panel, which stands at 100, 40 of its window; its size is what the font says. Then the same label half the panel
+//! less 12 pixels from the start edge.
 use oof::*;
 
 /// The font says 120 by 18. Writes down what it was asked.
@@ -42,9 +43,9 @@ fn candidate(direction: Direction) -> Candidate {
     Candidate { static_position: Point { x, y }, ..Candidate::default() }
 }
 
-/// A label at the start edge of a panel of that direction
-fn place(direction: Direction) -> (Font, Placed) {
-    let (start, top) = (LengthPercentageAuto::Length(20.0), LengthPercentageAuto::Length(12.0));
+/// A label so far from the start edge of a panel of that direction
+fn place(direction: Direction, start: LengthPercentageAuto) -> (Font, Placed) {
+    let top = LengthPercentageAuto::Length(12.0);
     let (before, after) = (LengthPercentage::Length(8.0), LengthPercentage::Length(16.0));
     let (inset, padding) = match direction {
         Direction::Ltr => (
@@ -64,7 +65,8 @@ fn place(direction: Direction) -> (Font, Placed) {
 }
 
 fn main() {
-    let [english, arabic] = [Direction::Ltr, Direction::Rtl].map(place);
+    let panels = |start| [Direction::Ltr, Direction::Rtl].map(|direction| place(direction, start));
+    let [english, arabic] = panels(LengthPercentageAuto::Length(20.0));
     let line = |name: &str, of: &dyn Fn(&(Font, Placed)) -> String| {
         println!("{name:<10}  {:<34}  {}", of(&english), of(&arabic))
     };
@@ -85,4 +87,6 @@ fn main() {
     let sum = there.location.x + here.location.x + there.size.width;
     println!("{} + {} + {} = {sum}", there.location.x, here.location.x, there.size.width);
     assert_eq!(sum, 2.0 * OFFSET.x + SIZE.width);
+    let [english, arabic] = panels(LengthPercentageAuto::Sum(0.5, -12.0)).map(|(_, placed)| label(&placed).location);
+    println!("half less 12: {}, {} and {}, {}", english.x, english.y, arabic.x, arabic.y);
 }

@@ -1,7 +1,7 @@
 //! The first word of a table of styles that breaks a code rule: cases by hand, and every word beside what the types take and an opening
 //! refuses.
 use oof::ffi::{self, Lent};
-use oof::words::{LAYOUT, STYLE};
+use oof::words::{style, tag, LAYOUT, SECOND, STYLE, VALUE};
 use oof::*;
 
 /// Good items, but for these words: item, word, code
@@ -18,24 +18,29 @@ fn first(words: &[u32]) -> Option<(usize, usize)> {
 
 #[test]
 fn by_hand() {
+    use style::*;
     for (items, changes, expected) in [
         (0, &[][..], None),
         (2, &[], None),
-        (2, &[(1, 0, 2)], Some((1, 0))), // not word 57
-        (2, &[(1, 0, 257)], Some((1, 0))),
-        (2, &[(0, 56, 256), (1, 0, 2)], Some((0, 56))),
-        (2, &[(0, 56, 255), (1, 56, 256)], Some((1, 56))),
-        (1, &[(0, 49, 11), (0, 50, 7)], Some((0, 49))),
-        (1, &[(0, 49, 10), (0, 50, 7)], None),
-        (1, &[(0, 49, 9), (0, 50, 3)], Some((0, 50))),
-        (1, &[(0, 44, 2)], Some((0, 44))),
-        (1, &[(0, 44, 1), (0, 45, f32::NAN.to_bits())], None),
-        (1, &[(0, 8, 0), (0, 6, 11)], Some((0, 6))),
-        (1, &[(0, 16, 3)], Some((0, 16))),
+        (2, &[(1, INSET_LEFT, 2)], Some((1, INSET_LEFT))), // not word STYLE
+        (2, &[(1, INSET_LEFT, 257)], Some((1, INSET_LEFT))),
+        (2, &[(0, CONTAIN, 256), (1, INSET_LEFT, 2)], Some((0, CONTAIN))),
+        (2, &[(0, CONTAIN, 255), (1, CONTAIN, 256)], Some((1, CONTAIN))),
+        (1, &[(0, JUSTIFY, 11), (0, JUSTIFY_SAFETY, 7)], Some((0, JUSTIFY))),
+        (1, &[(0, JUSTIFY, 10), (0, JUSTIFY_SAFETY, 7)], None),
+        (1, &[(0, JUSTIFY, 9), (0, JUSTIFY_SAFETY, 3)], Some((0, JUSTIFY_SAFETY))),
+        (1, &[(0, RATIO_PRESENT, 2)], Some((0, RATIO_PRESENT))),
+        (1, &[(0, RATIO_PRESENT, 1), (0, RATIO, f32::NAN.to_bits())], None),
+        (1, &[(0, MARGIN_LEFT, 0), (0, INSET_BOTTOM, tag::MIN_CONTENT)], Some((0, INSET_BOTTOM))),
+        (1, &[(0, PADDING_LEFT, tag::AUTO)], Some((0, PADDING_LEFT))),
+        (1, &[(0, PADDING_LEFT, tag::SUM)], None),
+        (1, &[(0, PADDING_LEFT, tag::SUM), (0, PADDING_LEFT + SECOND, u32::MAX)], None),
+        (1, &[(0, INSET_LEFT + SECOND, 2), (0, MAX_HEIGHT, 256 + tag::SUM)], Some((0, MAX_HEIGHT))),
+        (1, &[(0, WIDTH, 4), (0, HEIGHT, 6)], Some((0, WIDTH))),
         (1026, &[], None),
-        (1026, &[(1024, 3, 2)], None),
-        (1026, &[(1025, 0, 2)], Some((1025, 0))),
-        (1026, &[(1025, 0, 2), (1024, 54, 4)], Some((1024, 54))),
+        (1026, &[(1024, INSET_RIGHT + VALUE, 2)], None),
+        (1026, &[(1025, INSET_LEFT, 2)], Some((1025, INSET_LEFT))),
+        (1026, &[(1025, INSET_LEFT, 2), (1024, OVERFLOW_Y, 4)], Some((1024, OVERFLOW_Y))),
     ] {
         assert_eq!(first(&table(items, changes)), expected, "{items} items, {changes:?}");
     }
@@ -60,8 +65,8 @@ fn nothing_written() {
         assert_eq!(found, noise);
         assert_eq!(ffi::first_bad_word(&[], &mut found), 0);
         assert_eq!(found, noise);
-        assert_eq!(ffi::first_bad_word(&table(3, &[(2, 48, 2)]), &mut found), 1);
-        assert_eq!(found, [2, 48]);
+        assert_eq!(ffi::first_bad_word(&table(3, &[(2, style::DIRECTION, 2)]), &mut found), 1);
+        assert_eq!(found, [2, style::DIRECTION as u32]);
     }
 }
 
@@ -84,8 +89,8 @@ fn opened(styles: &[u32]) -> Option<Refusal> {
 fn every_word() {
     for keyword in [9, 10] {
         for word in 0..STYLE {
-            for code in (0..300).chain([65_537, 1 << 24 | 1, 0x7FC0_0000, 1 << 31, u32::MAX]) {
-                let words = table(3, &[(1, 49, keyword), (1, 51, keyword), (1, word, code)]);
+            for code in (0..600).chain([65_537, 1 << 24 | 1, 0x7FC0_0000, 1 << 31, u32::MAX]) {
+                let words = table(3, &[(1, style::JUSTIFY, keyword), (1, style::ALIGN, keyword), (1, word, code)]);
                 let style: [u32; STYLE] = words[STYLE..2 * STYLE].try_into().unwrap();
                 let bad = Style::from_words(&style).is_none();
                 assert_eq!(first(&words), bad.then_some((1, word)), "word {word}, code {code}");
@@ -102,12 +107,12 @@ fn every_word() {
 /// Typed styles have none
 #[test]
 fn typed() {
-    let (margin, padding) = (LengthPercentageAuto::Percent(f32::NAN), LengthPercentage::Percent(-1.0));
+    let (margin, padding) = (LengthPercentageAuto::Percent(f32::NAN), LengthPercentage::Sum(-1.0, f32::INFINITY));
     let sizes = {
         use Dimension::*;
         [Length(1.0), Percent(0.5), Auto, MinContent, MaxContent, Content, FitContent, FitContentPx(2.0)]
             .into_iter()
-            .chain([FitContentPercent(0.5), Stretch])
+            .chain([FitContentPercent(0.5), Stretch, Sum(0.5, -12.0)])
     };
     let styles = sizes.map(|d| Style {
         margin: Rect { left: margin, right: LengthPercentageAuto::Auto, top: margin, bottom: margin },
@@ -132,17 +137,18 @@ fn typed() {
 fn names() {
     let name = |word| BadWord { item: 3, word }.name();
     for (word, expected) in [
-        (0, "inset left, tag"),
-        (8, "margin left, tag"),
-        (43, "max height, value"),
-        (44, "ratio present"),
-        (49, "justify keyword"),
-        (52, "align safety"),
-        (56, "contain"),
-        (57, "no word of a style"),
+        (style::INSET_LEFT, "inset left, tag"),
+        (style::MARGIN_LEFT, "margin left, tag"),
+        (style::BORDER_TOP + SECOND, "border top, second value"),
+        (style::MAX_HEIGHT + VALUE, "max height, value"),
+        (style::RATIO_PRESENT, "ratio present"),
+        (style::JUSTIFY, "justify keyword"),
+        (style::ALIGN_SAFETY, "align safety"),
+        (style::CONTAIN, "contain"),
+        (STYLE, "no word of a style"),
         (usize::MAX, "no word of a style"),
     ] {
         assert_eq!(name(word), expected);
     }
-    assert_eq!(BadWord { item: 3, word: 24 }.to_string(), "item 3: border left, tag");
+    assert_eq!(BadWord { item: 3, word: style::BORDER_LEFT }.to_string(), "item 3: border left, tag");
 }

@@ -1,6 +1,6 @@
 //! Which box is drawn over which: boxes of runs, and every refusal by its name.
 use oof::ffi::{self, state, Finished, Lent, Reply};
-use oof::words::{CANDIDATE, LAYER, LAYOUT};
+use oof::words::{style, CANDIDATE, LAYER, LAYOUT};
 use oof::*;
 
 /// Surfaces these candidates from the first box that it lays out
@@ -198,7 +198,7 @@ impl Words {
 fn refused_by_name() {
     let mut w = Words::finished();
     assert_eq!(w.drawing_order(3), Ok(vec![1, 2, 0]));
-    w.styles[16] = 2; // no tag: styles aren't read
+    w.styles[style::PADDING_LEFT] = 2; // no tag: styles aren't read
     w.layouts.fill(f32::NAN.to_bits()); // nor are layouts
     w.unclaimed[LAYER] = 256; // nor is the unclaimed list
     w.working[3 * CANDIDATE + LAYER] = 256; // nor is what isn't filled

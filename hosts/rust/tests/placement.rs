@@ -1,6 +1,6 @@
 //! Runs by callbacks, and every refusal by its name.
 use oof::ffi::{self, Lent, Reply};
-use oof::words::{CANDIDATE, LAYER, LAYOUT};
+use oof::words::{style, tag, CANDIDATE, LAYER, LAYOUT};
 use oof::*;
 
 const FONT: Size<f32> = Size { width: 120.0, height: 18.0 };
@@ -262,7 +262,7 @@ fn closed(w: &Words) -> [u32; ffi::STATE] {
 }
 
 /// Ways to have an opening refused, and how
-const BAD_OPENINGS: [(Refusal, fn(&mut Words)); 15] = {
+const BAD_OPENINGS: [(Refusal, fn(&mut Words)); 17] = {
     use Refusal::*;
     [
         (BadArea, |w| w.codes[0] = 2),
@@ -270,12 +270,14 @@ const BAD_OPENINGS: [(Refusal, fn(&mut Words)); 15] = {
         (BadArea, |w| w.codes[2] = 4),
         (BadArea, |w| w.codes[3] = u32::MAX),
         (BadExtent, |w| w.styles.push(0)),
+        (BadExtent, |w| w.styles.truncate(57)), // as styles were before sums
         (BadExtent, |w| w.layouts.push(0)),
         (BadExtent, |w| w.candidates.truncate(CANDIDATE - 1)),
         (BadExtent, |w| w.working.resize(CANDIDATE * 4097, 0)),
         (BadExtent, |w| w.unclaimed.push(0)),
-        (BadStyle, |w| w.styles[16] = 3),
-        (BadStyle, |w| w.styles[0] = 257),
+        (BadStyle, |w| w.styles[style::PADDING_LEFT] = tag::AUTO),
+        (BadStyle, |w| w.styles[style::INSET_LEFT] = 256 + tag::LENGTH),
+        (BadStyle, |w| w.styles[style::WIDTH] = 256 + tag::SUM),
         (BadCandidate, |w| w.candidates[0] = 1),
         (BadCandidate, |w| w.candidates[LAYER] = 256),
         (BadCandidate, |w| (w.codes[1], w.candidates[LAYER]) = (0, u32::MAX)), // not claimed
@@ -300,7 +302,7 @@ fn refused_openings_write_their_state_only() {
 #[test]
 fn after_a_refused_opening_no_reply_is_taken() {
     let mut w = Words { state: [0; ffi::STATE], ..words() };
-    w.styles[16] = 3;
+    w.styles[style::PADDING_LEFT] = tag::AUTO;
     assert_eq!(refused(w.open()), Some(Refusal::BadStyle));
     assert_eq!(refused(w.reply(Reply::Both(120.0, 18.0), &[])), Some(Refusal::WrongReply));
 
@@ -347,7 +349,7 @@ fn refused_replies_write_nothing() {
     refuse(&mut w, WrongReply, Reply::Both(1.0, 1.0), &[], |w| w.state[ffi::state::BEGUN] = 2);
     refuse(&mut w, WrongReply, Reply::Both(1.0, 1.0), &[], |w| w.state[ffi::state::PROGRESS] = 6);
     refuse(&mut w, BadExtent, Reply::Both(1.0, 1.0), &[], |w| w.unclaimed.truncate(0));
-    refuse(&mut w, BadStyle, Reply::Both(1.0, 1.0), &[], |w| w.styles[56] = 256);
+    refuse(&mut w, BadStyle, Reply::Both(1.0, 1.0), &[], |w| w.styles[style::CONTAIN] = 256);
     refuse(&mut w, BadCandidate, Reply::Both(1.0, 1.0), &[], |w| w.working[2] = 5);
     assert_eq!(w.reply(Reply::Both(120.0, 18.0), &[7]), 0); // a slice lent with it isn't looked at
     refuse(&mut w, BadExtent, laid, &[0; CANDIDATE - 1], |_| ());

@@ -1,6 +1,6 @@
 //! Which boxes scrolling can bring into view: boxes of runs, and every refusal by its name.
 use oof::ffi::{self, state, Finished, Lent, Reply};
-use oof::words::{CANDIDATE, LAYER, LAYOUT};
+use oof::words::{style, CANDIDATE, LAYER, LAYOUT};
 use oof::*;
 
 /// Every box's size is given, so that there is nothing to measure
@@ -222,7 +222,7 @@ impl Words {
 fn refused_by_name() {
     let mut w = Words::finished();
     assert_eq!(w.reach(0), Ok([1, 801, 0]));
-    w.styles[16] = 2; // no tag: styles aren't read
+    w.styles[style::PADDING_LEFT] = 2; // no tag: styles aren't read
     w.unclaimed[2] = 5; // nor is the unclaimed list
     (w.state[state::BEGUN], w.state[state::ANSWERED]) = (7, 99);
     w.layouts[11] = f32::NAN.to_bits(); // a padding

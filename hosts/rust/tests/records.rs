@@ -1,5 +1,5 @@
 //! Every record's words, there and back.
-use oof::words::{Answer, Tagged, CANDIDATE, LAYER, LAYOUT, STYLE};
+use oof::words::{style, tag, Answer, Tagged, CANDIDATE, LAYER, LAYOUT, LENGTH, SECOND, STYLE};
 use oof::*;
 
 const VALUES: [f32; 5] = [0.0, -0.0, 1.5, -250.25, f32::INFINITY];
@@ -9,26 +9,30 @@ fn lengths() {
     use Dimension as D;
     for v in VALUES {
         for (length, words) in [
-            (D::Length(v), [1, v.to_bits()]),
-            (D::Percent(v), [5, v.to_bits()]),
-            (D::FitContentPx(v), [43, v.to_bits()]),
-            (D::FitContentPercent(v), [15, v.to_bits()]),
-            (D::Auto, [3, 0]),
-            (D::MinContent, [11, 0]),
-            (D::MaxContent, [27, 0]),
-            (D::Content, [35, 0]),
-            (D::FitContent, [59, 0]),
-            (D::Stretch, [75, 0]),
+            (D::Length(v), [1, v.to_bits(), 0]),
+            (D::Percent(v), [5, v.to_bits(), 0]),
+            (D::Sum(v, -12.0), [129, v.to_bits(), (-12.0f32).to_bits()]),
+            (D::FitContentPx(v), [43, v.to_bits(), 0]),
+            (D::FitContentPercent(v), [15, v.to_bits(), 0]),
+            (D::Auto, [3, 0, 0]),
+            (D::MinContent, [11, 0, 0]),
+            (D::MaxContent, [27, 0, 0]),
+            (D::Content, [35, 0, 0]),
+            (D::FitContent, [59, 0, 0]),
+            (D::Stretch, [75, 0, 0]),
         ] {
             assert_eq!(length.to_words(), words);
-            assert_eq!(D::from_words(words[0], words[1]), Some(length));
+            assert_eq!(D::from_words(words), Some(length));
+            let [tag, value, _] = words; // only a sum has a second value
+            assert_eq!(D::from_words([tag, value, 0x7FC0_0001]) == Some(length), tag != tag::SUM);
         }
     }
     // which field takes which tag
-    for tag in 0..300 {
-        assert_eq!(LengthPercentageAuto::from_words(tag, 0).is_some(), [1, 3, 5].contains(&tag));
-        assert_eq!(LengthPercentage::from_words(tag, 0).is_some(), [1, 5].contains(&tag));
-        assert_eq!(D::from_words(tag, 0).is_some(), [1, 3, 5, 11, 15, 27, 35, 43, 59, 75].contains(&tag));
+    for tag in 0..600 {
+        let words = [tag, 0, 0];
+        assert_eq!(LengthPercentageAuto::from_words(words).is_some(), [1, 3, 5, 129].contains(&tag));
+        assert_eq!(LengthPercentage::from_words(words).is_some(), [1, 5, 129].contains(&tag));
+        assert_eq!(D::from_words(words).is_some(), [1, 3, 5, 11, 15, 27, 35, 43, 59, 75, 129].contains(&tag));
     }
 }
 
@@ -67,7 +71,7 @@ fn styles() {
     let f = f32::to_bits;
     let mut words = vec![];
     for (at, tag) in [1, 5, 1, 1, 1, 1, 3, 1, 5, 5, 5, 5, 5, 5, 5, 1, 1, 75, 5, 11, 43, 15].into_iter().enumerate() {
-        words.extend([tag, if [3, 75, 11].contains(&tag) { 0 } else { f(at as f32 + 1.0) }]);
+        words.extend([tag, if [3, 75, 11].contains(&tag) { 0 } else { f(at as f32 + 1.0) }, 0]);
     }
     words.extend([1, f(1.75), 1, 2, 1, 7, 2, 9, 1, 2, 3, f(15.0), 0xAB]);
     let words: [u32; STYLE] = words.try_into().unwrap();
@@ -76,9 +80,19 @@ fn styles() {
     assert_eq!(Style::from_words(&Style::default().to_words()), Some(Style::default()));
 
     // each code up to the last of its list, and the first beyond it
-    for (at, last) in
-        [(44, 1), (46, 1), (47, 3), (48, 1), (49, 10), (50, 2), (51, 10), (52, 2), (53, 3), (54, 3), (56, 255)]
-    {
+    for (at, last) in [
+        (style::RATIO_PRESENT, 1),
+        (style::BOX_SIZING, 1),
+        (style::FLAGS, 3),
+        (style::DIRECTION, 1),
+        (style::JUSTIFY, 10),
+        (style::JUSTIFY_SAFETY, 2),
+        (style::ALIGN, 10),
+        (style::ALIGN_SAFETY, 2),
+        (style::OVERFLOW_X, 3),
+        (style::OVERFLOW_Y, 3),
+        (style::CONTAIN, 255),
+    ] {
         for code in 0..=last + 1 {
             let mut w = words;
             w[at] = code;
@@ -91,8 +105,46 @@ fn styles() {
     }
     // with keyword 10 the safety is ignored
     let mut w = words;
-    (w[49], w[50]) = (10, 9);
+    (w[style::JUSTIFY], w[style::JUSTIFY_SAFETY]) = (10, 9);
     assert_eq!(Style::from_words(&w).unwrap().justify_self, None);
+}
+
+/// A sum in each of the 22 lengths, every value its own
+#[test]
+fn sums() {
+    let values = |place: usize| (place as f32 + 0.5, -(place as f32));
+    let (edge, pad) = (
+        |place| LengthPercentageAuto::Sum(values(place).0, values(place).1),
+        |place| LengthPercentage::Sum(values(place).0, values(place).1),
+    );
+    let side = |place| Dimension::Sum(values(place).0, values(place).1);
+    let size = |place| Size { width: side(place), height: side(place + 1) };
+    let sums = Style {
+        inset: Rect { left: edge(0), right: edge(1), top: edge(2), bottom: edge(3) },
+        margin: Rect { left: edge(4), right: edge(5), top: edge(6), bottom: edge(7) },
+        padding: Rect { left: pad(8), right: pad(9), top: pad(10), bottom: pad(11) },
+        border: Rect { left: pad(12), right: pad(13), top: pad(14), bottom: pad(15) },
+        size: size(16),
+        min_size: size(18),
+        max_size: size(20),
+        ..Style::default()
+    };
+    let mut words = Style::default().to_words();
+    for (place, length) in words[..style::RATIO_PRESENT].chunks_exact_mut(LENGTH).enumerate() {
+        length.copy_from_slice(&[tag::SUM, values(place).0.to_bits(), values(place).1.to_bits()]);
+    }
+    assert_eq!(sums.to_words(), words);
+    assert_eq!(Style::from_words(&words), Some(sums));
+    for at in (0..style::RATIO_PRESENT).step_by(LENGTH) {
+        for tag in [4, 6, tag::SUM - 1, tag::SUM + 1, 256 + tag::SUM] {
+            let mut w = words;
+            w[at] = tag;
+            assert_eq!(Style::from_words(&w), None, "word {at}, tag {tag}");
+        }
+        let mut w = words;
+        (w[at], w[at + SECOND]) = (tag::PERCENT, u32::MAX);
+        assert_eq!(Style::from_words(&w).map(|style| style.to_words()[at + SECOND]), Some(0), "word {at}");
+    }
 }
 
 #[test]
