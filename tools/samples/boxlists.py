@@ -16,9 +16,10 @@ import reach_model
 
 root = os.path.join(os.path.dirname(os.path.abspath(__file__)), '..', '..')
 
-# ---- lengths: tag and value; numbers are pixels, as the file has them in eighths
+# ---- lengths: tag, value and second value; numbers are pixels or parts of the area, as the file has them in eighths
 
-LENGTH, AUTO, PERCENT, MIN_CONTENT, FIT_PERCENT, MAX_CONTENT, CONTENT, FIT_PX, FIT, STRETCH = 1, 3, 5, 11, 15, 27, 35, 43, 59, 75
+LENGTH, AUTO, PERCENT, MIN_CONTENT, FIT_PERCENT, MAX_CONTENT, CONTENT, FIT_PX, FIT, STRETCH, SUM = 1, 3, 5, 11, 15, 27, 35, 43, 59, 75, 129
+LENGTH_WORDS, LENGTHS = 3, 22
 
 
 def eighths(x):
@@ -27,15 +28,25 @@ def eighths(x):
     return int(n)
 
 
+def word(tag, x=0, second=0):
+    return [tag, eighths(x), eighths(second)]
+
+
 def px(x):
-    return [LENGTH, eighths(x)]
+    return word(LENGTH, x)
 
 
-def word(tag, x=0):
-    return [tag, eighths(x)]
+def count(n):
+    """a length of so many eighths"""
+    return [LENGTH, n, 0]
 
 
-auto, none = [AUTO, 0], [LENGTH, 0]
+def part(factor, pixels):
+    """a sum: so large a part of the area, and so many pixels more"""
+    return word(SUM, factor, pixels)
+
+
+auto, none = word(AUTO), px(0)
 LTR, RTL = 0, 1
 VISIBLE, CLIP, HIDDEN, SCROLL = 0, 1, 2, 3
 ABSENT, START, END, CENTER, STRETCHED = 10, 1, 2, 7, 9
@@ -47,7 +58,7 @@ def style(left=auto, right=auto, top=auto, bottom=auto, margin=(none,) * 4, padd
           min=(auto, auto), max=(auto, auto), ratio=None, content_box=0, flags=0, direction=LTR, justify=(ABSENT, 0), align=(ABSENT, 0),
           overflow=(VISIBLE, VISIBLE), scrollbar=0, contain=0):
     lengths = [left, right, top, bottom, *margin, *padding, *border, width, height, *min, *max]
-    assert len(lengths) == 22
+    assert len(lengths) == LENGTHS
     return sum(lengths, []) + [int(ratio is not None), eighths(ratio or 0), content_box, flags, direction, *justify, *align, *overflow, eighths(scrollbar), contain]
 
 
@@ -60,6 +71,8 @@ def candidate(node, order=0, position=ABSOLUTE, x=(0, 0), y=(0, 0), edges=(0, 0,
 
 
 LAYER = len(candidate(0)) - 1
+CONTAIN = len(style()) - 1
+DIRECTION = LENGTH_WORDS * LENGTHS + 4
 
 
 def opening(width, height, x=0, y=0, direction=LTR, claims=3, overflow=(VISIBLE, VISIBLE)):
@@ -68,11 +81,14 @@ def opening(width, height, x=0, y=0, direction=LTR, claims=3, overflow=(VISIBLE,
 
 def mirrored(o, items, candidates):
     """the mirror image by document 01: directions flipped, left and right exchanged, the static areas and their edges mirrored; the layers
-    stay"""
+    stay. There is none of a screen with sums"""
     def exchanged(item):
-        for k in (0, 8, 16, 24):
-            item = item[:k] + item[k + 2:k + 4] + item[k:k + 2] + item[k + 4:]
-        return put(item, 48, 1 - item[48])
+        assert SUM not in item[:LENGTH_WORDS * LENGTHS:LENGTH_WORDS]
+        left, right = LENGTH_WORDS, 2 * LENGTH_WORDS
+        for sides in (0, 4, 8, 12):
+            k = LENGTH_WORDS * sides
+            item = item[:k] + item[k + left:k + right] + item[k:k + left] + item[k + right:]
+        return put(item, DIRECTION, 1 - item[DIRECTION])
 
     def moved(c):
         across = 2 * o[2] + o[0]
@@ -136,6 +152,22 @@ layered = (
     ])
 
 
+# two columns with a gutter of 24 between them, as designers write them. A label and a rule stand half the area less 12 from an edge; a note
+# ends 8 before the panel, since its right inset is the whole width and 8 more
+column = part(0.5, -36)
+summed = (
+    opening(800, 480, x=16, y=40, overflow=(SCROLL, SCROLL)), [
+        item(style(left=px(24), top=px(24), width=column, height=px(96))),
+        item(style(left=part(0.5, 12), top=px(24), width=column, height=px(96))),
+        item(style(left=part(0.5, -12), top=part(0.5, -12), padding=(px(8), px(8), px(4), px(4))), (160, 24)),
+        item(style(right=part(0.5, -12), bottom=part(0.125, 4), width=px(180), height=part(0.25, -20))),
+        item(style(left=px(24), top=px(150), padding=(part(0.125, -84), part(0.125, -84), none, none), min=(part(0.25, 40), auto)), (120, 32)),
+        item(style(left=px(24), top=px(204), max=(part(0.5, -100), part(0.125, -12))), (420, 64)),
+        item(style(right=part(1, 8), top=px(300), width=px(320), height=px(96))),
+        item(style(left=part(0.875, -60), top=part(0.875, 100), width=part(0.25, 20), height=px(48))),
+    ], [candidate(k, order=k, x=(16, 16), y=(40, 40)) for k in range(8)])
+
+
 def sixteenth(*overflow):
     """box 0 is centered left of the panel, and its free space is an odd count of eighths: x is half an eighth off. Box 1 is whole"""
     return screen(
@@ -177,6 +209,7 @@ telling = {
     'scrolled-arabic': screen(*mirrored(*scrolled(HIDDEN, SCROLL))),
     'clipped': screen(*scrolled(CLIP, HIDDEN)),
     'sixteenth': sixteenth(SCROLL, SCROLL),
+    'sums': screen(*summed),
     'layers': screen(*layered),
     'layers-arabic': screen(*mirrored(*layered)),
 }
@@ -194,12 +227,19 @@ ABOUT = {
     'scrolled-arabic': 'its mirror image, right-to-left: the same verdicts, and the same offsets, counted leftwards',
     'clipped': 'the boxes of `scrolled` in a panel that clips across and is hidden down: node 6 is still brought up; what lies to the right is unseen, though the overflow holds it',
     'sixteenth': 'box 0 is centered left of the panel and lies on a sixteenth of a pixel: its row is refused with 9. Scrolling brings up box 1, which is whole. The other boxes have their verdicts',
+    'sums': 'sums of a percentage and a length ([picture](../docs/sums.svg)), in a panel of 800 by 480 at 16, 40 that scrolls. Nodes 0 and 1 are two columns, each "half the area less 36 px" wide, the second from "half the area and 12 px" on. Node 2, a label, stands "half the area less 12 px" from the left and from the top. Node 3 so from the right; its height is a sum of the area\'s height. Nodes 4 and 5 are as large as their content says, within a min or a max that is a sum; node 4\'s padding is one too. Node 6 ends 8 pixels before the panel, since its right inset is "the area and 8 px": unseen. Scrolling down brings up node 7',
     'layers': 'boxes that overlap, on four layers ([picture](../docs/layers.svg), [in which order they are drawn](../docs/SCREEN-FORMAT.md#in-which-order-boxes-are-drawn)): two reel labels (nodes 0 and 1) on layer 0, a note (2) on layer 2, an alarm (3) on layer 255, hoisted first and drawn last, and a mark (4) that is claimed twice, on layers 1 and 2. A further one is fixed, which this panel doesn\'t claim. Hoisted as nodes 3, 0, 2, 1, 4, 4, drawn as places 1, 3, 4, 2, 5, 0. The list doesn\'t tell the layers',
     'layers-arabic': 'its mirror image, right-to-left: the same layers, and so the same drawing order',
     'limits/list-largest': 'one box at the largest numbers that the list prints; the overflow\'s right is larger, and prints `*`',
-    'limits/items-128-candidates-256': 'the longest screen, 128,623 bytes, and the longest list: 256 rows, one on each layer',
+    'limits/items-128-candidates-256': 'the longest screen, 159,599 bytes, and the longest list: 256 rows, one on each layer',
     'limits/one-byte-too-long': 'such a screen and one byte more, all that the programs read: refusal 8',
     'limits/candidate-of-13-fields': 'a candidate line without its layer, as files had them before layers: refusal 8',
+    'limits/item-of-63-fields': 'an item line without second values, as files had them before sums: refusal 8',
+    'limits/sum-in-every-length': 'a sum in each of the 22 lengths',
+    'limits/sum-no-whole-eighth': 'an eighth of an area of 6,401 eighths, and 4 pixels: x prints `*`',
+    'limits/second-value-not-read': 'the largest second values under tags that have none: the list of `example`',
+    'limits/second-value-over': 'a second value that is no count of eighths, under a tag that has none: refusal 8 all the same. So is `second-value-blank`',
+    'limits/refusal-3-tag-385': 'a tag whose low byte is 129: refusal 3, as for 4 and 6, the Rust\'s own numbers of calc lengths',
     'limits/layer-255': 'the highest layer',
     'limits/layer-256': 'the least that is none: it reads well, and is refused with 4. So is `layer-300`, and `layer-256-unclaimed`, where this panel doesn\'t claim the candidate',
     'limits/layer-over': 'a layer of 4,294,967,296, which is no code: refusal 8',
@@ -210,8 +250,23 @@ ABOUT = {
 
 # ---- the limits
 
+# lengths that all come to few pixels: widths by 800, heights by 480
+every_length = (
+    opening(800, 480), [
+        item(style(
+            part(0.25, -150), part(0.5, -350), part(0.125, -20), part(0.5, -200),
+            margin=(part(0.125, -96), part(0.125, -95), part(0.125, -94), part(0.125, -93)),
+            padding=(part(0.125, -92), part(0.125, -91), part(0.125, -90), part(0.125, -89)),
+            border=(part(0.125, -99), part(0.125, -98), part(0.125, -97), part(0.125, -96.5)),
+            width=part(0.5, -12), height=part(0.5, -12), min=(part(0.25, 8), part(0.25, 8)), max=(part(0.5, -60), part(0.5, -40)))),
+        item(style(
+            part(-0.25, 150), auto, auto, part(-0.125, 60),
+            width=part(0.125, -500), height=part(0.125, -500), min=(part(0.5, -300), part(0.5, -200)), max=(part(0, 50), part(0, 30)), content_box=1))],
+    [candidate(0), candidate(1)])
+
 example_style = style(px(100), px(100), px(20), auto, margin=(auto, auto, none, none), width=px(200), height=px(100), justify=(0, 0), align=(0, 0))
 example = screen(opening(800, 480), [example_style + [0] * 6], [candidate(0)])
+WIDTH, SECOND = LENGTH_WORDS * 16, LENGTH_WORDS - 1
 HEADER = opening(800, 480) + [1, 1]
 CANDIDATE = candidate(0)
 
@@ -228,7 +283,7 @@ def many(n, m, nodes=lambda k, n: k % n if n else 0):
 
 def tiny(boxes, o):
     """boxes of a few eighths: x, y, width, height from the area's corner"""
-    return (o, [item(style([LENGTH, x], auto, [LENGTH, y], auto, width=[LENGTH, w], height=[LENGTH, h])) for x, y, w, h in boxes],
+    return (o, [item(style(count(x), auto, count(y), auto, width=count(w), height=count(h))) for x, y, w, h in boxes],
             [candidate(k, layer=k % 3) for k in reversed(range(len(boxes)))])
 
 
@@ -259,9 +314,9 @@ limits = {
     'float-smallest': one(put(HEADER, 0, -9999999)),
     'float-over': one(put(HEADER, 0, 10000000)),
     'float-under': one(put(HEADER, 0, -10000000)),
-    'list-largest': screen(opening(800, 480), [item(style(left=[LENGTH, 9999999], top=[LENGTH, -9999999]), (8, 8))], [candidate(0)]),
-    'list-over': screen(opening(800, 480, x=8), [item(style(left=[LENGTH, 9999999], top=[LENGTH, -9999999]), (8, 8))], [candidate(0)]),
-    'no-whole-eighth': screen(opening(800, 480), [item(style(left=[PERCENT, 1], top=px(3), margin=([PERCENT, 1], none, none, none), width=px(100), height=px(1)))], [candidate(0)])
+    'list-largest': screen(opening(800, 480), [item(style(left=count(9999999), top=count(-9999999)), (8, 8))], [candidate(0)]),
+    'list-over': screen(opening(800, 480, x=8), [item(style(left=count(9999999), top=count(-9999999)), (8, 8))], [candidate(0)]),
+    'no-whole-eighth': screen(opening(800, 480), [item(style(left=word(PERCENT, 0.125), top=px(3), margin=(word(PERCENT, 0.125), none, none, none), width=px(100), height=px(1)))], [candidate(0)])
     .replace(b'       6400       3840', b'       6401       3840'),
     'code-largest': one(candidate=put(CANDIDATE, 1, 4294967295)),
     'code-over': one(candidate=put(CANDIDATE, 1, 4294967296)),
@@ -281,7 +336,17 @@ limits = {
     'refusal-1-claims': one(put(HEADER, 5, 4)),
     'refusal-1-before-3': one(put(HEADER, 6, 4), style=put(example_style, 0, 2)),
     'refusal-3-tag': one(style=put(example_style, 0, 257)),
-    'refusal-3-before-4': one(style=put(example_style, 56, 256), candidate=put(CANDIDATE, 0, 1)),
+    'refusal-3-tag-4': one(style=put(example_style, WIDTH, 4)),
+    'refusal-3-tag-6': one(style=put(example_style, WIDTH, 6)),
+    'refusal-3-tag-385': one(style=put(example_style, WIDTH, 256 + SUM)),
+    'item-of-63-fields': one(style=[n for k, n in enumerate(example_style) if k >= LENGTH_WORDS * LENGTHS or k % LENGTH_WORDS != SECOND]),
+    'second-value-largest': screen(opening(800, 480), [item(style(left=word(SUM, 0.5)[:SECOND] + [9999999], top=word(SUM, 0.5)[:SECOND] + [-9999999]), (8, 8))], [candidate(0)]),
+    'second-value-over': one(style=put(example_style, SECOND, 10000000)),
+    'second-value-blank': one(style=put(example_style, SECOND, b'')),
+    'second-value-not-read': one(style=[(-1) ** k * 9999999 if k < LENGTH_WORDS * LENGTHS and k % LENGTH_WORDS == SECOND else n for k, n in enumerate(example_style)]),
+    'sum-in-every-length': screen(*every_length),
+    'sum-no-whole-eighth': screen([6401] + opening(800, 480)[1:], [item(style(left=part(0.125, 4), top=px(3), width=part(1, -10), height=px(1)))], [candidate(0)]),
+    'refusal-3-before-4': one(style=put(example_style, CONTAIN, 256), candidate=put(CANDIDATE, 0, 1)),
     'refusal-4-node': one(candidate=put(CANDIDATE, 0, 1)),
     'refusal-3-before-layer': one(style=put(example_style, 0, 2), candidate=put(CANDIDATE, LAYER, 256)),
     'refusal-4-no-item': screen(opening(800, 480), [], [candidate(0)]),
