@@ -2,13 +2,15 @@
 #![allow(dead_code)] // not every part needs all of it
 use crate::random::Random;
 
-/// The slices of a run, and their records' words.
+/// The slices of a run, and the words of their records.
 pub const STYLES: usize = 0;
 pub const LAYOUTS: usize = 1;
 pub const WORKING: usize = 2;
 pub const UNCLAIMED: usize = 3;
+pub const STYLE: usize = 79;
+pub const LAYOUT: usize = 23;
 pub const CANDIDATE: usize = 14;
-pub const WIDTHS: [usize; 4] = [57, 23, CANDIDATE, CANDIDATE];
+pub const WIDTHS: [usize; 4] = [STYLE, LAYOUT, CANDIDATE, CANDIDATE];
 
 /// Words of the state.
 pub const PROGRESS: usize = 0;
@@ -52,7 +54,7 @@ pub trait Finished {
 
 pub type Change<C> = (&'static str, fn(&mut C, &mut Random));
 
-/// Changes for which a call is refused with one number, or with none (0), and how many of them, at the end, add some 50,000 words.
+/// Changes for which a call is refused with one number, or with none (0), and how many of them, at the end, add 50,000 words or more.
 pub struct Kind<C> {
     pub refused: u32,
     pub changes: Vec<Change<C>>,
@@ -96,7 +98,7 @@ pub fn other_lengths_recorded<C: Finished>() -> Vec<Change<C>> {
     ]
 }
 
-/// These add some 50,000 words
+/// These add 50,000 words or more
 pub fn too_many<C: Finished>() -> Vec<Change<C>> {
     vec![
         ("1,025 items", |c, _| {

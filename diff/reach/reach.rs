@@ -10,7 +10,8 @@ mod random;
 
 use finished::{other_lengths, other_lengths_recorded, too_many, Finished, Kind};
 use finished::{
-    ANSWERED, BEGUN, CANDIDATE, CODES, FILLED, LAYER, LAYOUTS, LENGTHS, PROGRESS, STYLES, UNCLAIMED, WIDTHS, WORKING,
+    ANSWERED, BEGUN, CANDIDATE, CODES, FILLED, LAYER, LAYOUT, LAYOUTS, LENGTHS, PROGRESS, STYLE, STYLES, UNCLAIMED,
+    WIDTHS, WORKING,
 };
 use random::Random;
 
@@ -228,8 +229,8 @@ const REFUSALS: [u32; 4] = [2, 6, 4, 9];
 fn bad_extent(call: &Call) -> bool {
     let [styles, layouts, working, unclaimed] = [0, 1, 2, 3].map(|k| call.slices[k].len());
     let list = |words: usize| words % CANDIDATE != 0 || words > CANDIDATE * 4096;
-    let n = styles / 57;
-    let slices = styles % 57 != 0 || n > 1024 || layouts != 23 * n || list(working) || list(unclaimed);
+    let n = styles / STYLE;
+    let slices = styles % STYLE != 0 || n > 1024 || layouts != LAYOUT * n || list(working) || list(unclaimed);
     slices || (0..4).any(|k| call.slices[k].len() as u64 != u64::from(call.state[LENGTHS + k]))
 }
 
@@ -616,8 +617,8 @@ fn lengths() -> Vec<Named> {
                 c.slices[k].truncate(whole)
             })
         }),
-        changed!("58 words are a style", |c| {
-            let whole = c.records(STYLES) * 57;
+        changed!("a word more is a style", |c| {
+            let whole = c.records(STYLES) * STYLE;
             if c.state[LENGTHS] as usize == c.slices[STYLES].len() {
                 c.state[LENGTHS] = whole as u32;
             }
@@ -706,7 +707,7 @@ fn words() -> Vec<Named> {
             records.filter(|record| record[LAYER] == 256).for_each(|record| record[LAYER] = 255);
         }),
         ("a style is read", |call, out| match PROVED(call, out) {
-            0 if call.slices[STYLES][0] > 75 => 3,
+            0 if call.slices[STYLES][0] > 129 => 3,
             result => result,
         }),
         ("the area's width isn't tested", untested::<0>),
@@ -1154,8 +1155,8 @@ fn harmless() -> Vec<Change> {
         }),
         ("unclaimed records", |c, r| c.slices[UNCLAIMED].fill(r.word() | 1 << 20)),
         ("a style", |c, r| {
-            let at = r.below(57);
-            c.slices[STYLES][at] = r.pick(&[2, 129, u32::MAX]);
+            let at = r.below(STYLE as u32);
+            c.slices[STYLES][at] = r.pick(&[2, 385, u32::MAX]);
         }),
         ("a candidate's order and area", |c, r| {
             let (k, word) = (r.pick(&[1, 3, 4, 8, 9]), r.pick(&STRANGE));

@@ -25,7 +25,7 @@ fail = functools.partial(run_screens.fail, part="diff/words")
 WIDTH = explain.WIDTH
 # bytes of a line, with its line feed
 FIRST_LINE, ITEM_LINE = (WIDTH * len(fields) + 1 for fields in (explain.FIRST, explain.ITEM))
-NUMBERS = [*range(13), 15, 27, 35, 43, 59, 75, 76, 255, 256, 257, 259, 261, 266, 65537, 2147483653, 4294967295]
+NUMBERS = [*range(13), 15, 27, 35, 43, 59, 75, 76, 128, 129, 129, 130, 255, 256, 257, 259, 261, 266, 385, 65537, 2147483653, 4294967295]
 
 
 def replaced(r, text):
@@ -66,7 +66,7 @@ def explained(text):
 def main(program, seed, count):
     r = random.Random(seed)
     screens = [(text, wanted) for _, text, wanted in run_screens.stored(".list")]
-    good = [text for text, wanted in screens if not wanted.startswith(b" refused") and len(text) < 20000]
+    good = [text for text, wanted in screens if not wanted.startswith(b" refused") and len(text) < 27000]
     texts = [text for text, _ in screens]
     for _ in range(count):
         text = replaced(r, r.choice(good))

@@ -11,6 +11,7 @@
 mod random;
 
 use random::Random;
+use std::ops::Range;
 
 mod c {
     extern "C" {
@@ -40,8 +41,9 @@ mod c {
     }
 }
 
-/// Words of a style and of a candidate, and the most items that an opening takes.
-const WORDS: usize = 57;
+/// Words of a style, of a length in it (tag, value, second value), and of a candidate; and the most items that an opening takes.
+const WORDS: usize = 79;
+const LENGTH: usize = 3;
 const CANDIDATE: usize = 14;
 const MOST_ITEMS: usize = 1024;
 
@@ -98,12 +100,13 @@ enum Allowed {
 
 use Allowed::{Any, Below, OneOf};
 
-/// "Inset and margin take 1, 3, 5; padding and border 1, 5; sizes take all."
-const EDGE: Allowed = OneOf(&[1, 3, 5]);
-const FLAT: Allowed = OneOf(&[1, 5]);
-const SIZE: Allowed = OneOf(&[1, 3, 5, 11, 15, 27, 35, 43, 59, 75]);
+/// "Inset and margin take 1, 3, 5; padding and border 1, 5; sizes take all." And "the new tag 129 is allowed in every length field".
+const SUM: u32 = 129;
+const EDGE: Allowed = OneOf(&[1, 3, 5, SUM]);
+const FLAT: Allowed = OneOf(&[1, 5, SUM]);
+const SIZE: Allowed = OneOf(&[1, 3, 5, 11, 15, 27, 35, 43, 59, 75, SUM]);
 
-/// "Style, 57 words": the tags of its 22 lengths, inset, margin, padding, border, size, min, max; and the 13 words behind them.
+/// "A style is then 79 words": the tags of its 22 lengths, inset, margin, padding, border, size, min, max; and the 13 words behind them.
 const LENGTHS: [Allowed; 22] = [
     EDGE, EDGE, EDGE, EDGE, EDGE, EDGE, EDGE, EDGE, FLAT, FLAT, FLAT, FLAT, FLAT, FLAT, FLAT, FLAT, SIZE, SIZE, SIZE,
     SIZE, SIZE, SIZE,
@@ -123,17 +126,32 @@ const CODES: [Allowed; 13] = [
     Any,        // scrollbar width
     Below(256), // contain
 ];
-const RATIO_PRESENT: usize = 44;
-const RATIO: usize = 45;
-const KEYWORDS: [usize; 2] = [49, 51];
+/// Words of a record: where two of the lengths stand, and some of the words behind them.
+const PADDING_LEFT: usize = LENGTH * 8;
+const WIDTH: usize = LENGTH * 16;
+const AFTER_LENGTHS: usize = LENGTH * LENGTHS.len();
+const RATIO_PRESENT: usize = AFTER_LENGTHS;
+const RATIO: usize = AFTER_LENGTHS + 1;
+const JUSTIFY: usize = AFTER_LENGTHS + 5;
+const ALIGN: usize = AFTER_LENGTHS + 7;
+const OVERFLOW_Y: usize = AFTER_LENGTHS + 10;
+const CONTAIN: usize = AFTER_LENGTHS + 12;
+const KEYWORDS: [usize; 2] = [JUSTIFY, ALIGN];
 const ABSENT: u32 = 10;
 
-/// What a record's word may be. A length is a tag and a value.
+const _: () = assert!(WORDS == AFTER_LENGTHS + CODES.len() && WORDS == CONTAIN + 1);
+
+/// Which length's tag a record's word is.
+fn tag_of(k: usize) -> Option<usize> {
+    (k < AFTER_LENGTHS && k % LENGTH == 0).then_some(k / LENGTH)
+}
+
+/// What a record's word may be.
 fn allowed(k: usize) -> Allowed {
-    match k {
-        44.. => CODES[k - 44],
-        _ if k % 2 == 0 => LENGTHS[k / 2],
-        _ => Any,
+    match (k.checked_sub(AFTER_LENGTHS), tag_of(k)) {
+        (Some(code), _) => CODES[code],
+        (None, Some(length)) => LENGTHS[length],
+        (None, None) => Any,
     }
 }
 
@@ -262,6 +280,13 @@ fn parts() -> Vec<Named> {
     ]
 }
 
+/// The word's number if a length had so many words
+fn shorten(found: &mut [u32; 2], words: usize) {
+    let k = found[1] as usize;
+    let short = if k < AFTER_LENGTHS { k / LENGTH * words } else { k - (LENGTH - words) * LENGTHS.len() };
+    found[1] = short as u32;
+}
+
 /// What is told of the word that is named
 fn tellings() -> Vec<Named> {
     vec![
@@ -270,10 +295,11 @@ fn tellings() -> Vec<Named> {
         told("the word before the item", |found| found.swap(0, 1)),
         told("items from 1", |found| found[0] += 1),
         told("words from 1", |found| found[1] += 1),
-        told("lengths counted as one word", |found| {
-            found[1] = if found[1] < 44 { found[1] / 2 } else { found[1] - 22 }
+        told("lengths counted as one word", |found| shorten(found, 1)),
+        told("lengths counted as two words", |found| shorten(found, 2)),
+        told("words from 0 behind the lengths", |found| {
+            found[1] -= if (found[1] as usize) < AFTER_LENGTHS { 0 } else { AFTER_LENGTHS as u32 }
         }),
-        told("words from 0 behind the lengths", |found| found[1] -= if found[1] < 44 { 0 } else { 44 }),
         told("items in 16 bits", |found| found[0] &= 0xFFFF),
         told("items in 10 bits", |found| found[0] &= 0x3FF),
         told("items in 8 bits", |found| found[0] &= 0xFF),
@@ -339,39 +365,73 @@ fn words() -> Vec<Named> {
 
 /// Which tags a field takes
 fn tags() -> Vec<Named> {
-    /// A field by another list of tags
-    fn listed(name: &str, field: std::ops::Range<usize>, tags: &'static [u32]) -> Named {
-        let is_tag = move |k: usize| field.contains(&k) && k % 2 == 0;
-        ruled(name, move |record, k| if is_tag(k) { !tags.contains(&record[k]) } else { breaks(record, k) })
+    /// Lengths, of the 22, by another list of tags
+    fn listed(name: &str, lengths: Range<usize>, tags: &'static [u32]) -> Named {
+        let is_one = move |k: usize| tag_of(k).is_some_and(|length| lengths.contains(&length));
+        ruled(name, move |record, k| if is_one(k) { !tags.contains(&record[k]) } else { breaks(record, k) })
+    }
+    /// A part of each tag compared
+    fn masked(name: &str, mask: u32) -> Named {
+        ruled(name, move |r, k| if tag_of(k).is_some() { !allowed(k).takes(r[k] & mask) } else { breaks(r, k) })
     }
     let OneOf(all) = SIZE else { unreachable!() };
     let mut wrong = vec![
-        listed("insets take all tags", 0..8, all),
-        listed("margins take all tags", 8..16, all),
-        listed("insets take no auto", 0..8, &[1, 5]),
-        listed("margins take no auto", 8..16, &[1, 5]),
-        listed("margins take no percentage", 8..16, &[1, 3]),
-        listed("padding takes auto", 16..24, &[1, 3, 5]),
-        listed("borders take auto", 24..32, &[1, 3, 5]),
-        listed("borders take no percentage", 24..32, &[1]),
-        listed("sizes take what insets take", 32..36, &[1, 3, 5]),
-        listed("min and max take no keyword", 36..44, &[1, 3, 5]),
-        listed("max takes what padding takes", 40..44, &[1, 5]),
-        ruled("low bytes of tags", |r, k| if k < 44 { !allowed(k).takes(r[k] & 0xFF) } else { breaks(r, k) }),
-        ruled("low halves of tags", |r, k| if k < 44 { !allowed(k).takes(r[k] & 0xFFFF) } else { breaks(r, k) }),
-        ruled(
-            "tags without their sign",
-            |r, k| if k < 44 { !allowed(k).takes(r[k] & !(1 << 31)) } else { breaks(r, k) },
-        ),
-        ruled("0 is a tag", |r, k| breaks(r, k) && !(k < 44 && r[k] == 0)),
+        listed("insets take all tags", 0..4, all),
+        listed("margins take all tags", 4..8, all),
+        listed("insets take no auto", 0..4, &[1, 5, SUM]),
+        listed("margins take no auto", 4..8, &[1, 5, SUM]),
+        listed("margins take no percentage", 4..8, &[1, 3, SUM]),
+        listed("padding takes auto", 8..12, &[1, 3, 5, SUM]),
+        listed("borders take auto", 12..16, &[1, 3, 5, SUM]),
+        listed("borders take no percentage", 12..16, &[1, SUM]),
+        listed("sizes take what insets take", 16..18, &[1, 3, 5, SUM]),
+        listed("min and max take no keyword", 18..22, &[1, 3, 5, SUM]),
+        listed("max takes what padding takes", 20..22, &[1, 5, SUM]),
+        masked("low bytes of tags", 0xFF),
+        masked("low halves of tags", 0xFFFF),
+        masked("tags without their sign", !(1 << 31)),
+        ruled("0 is a tag", |r, k| breaks(r, k) && !(tag_of(k).is_some() && r[k] == 0)),
         ruled("odd numbers up to 75 are tags of sizes", |r, k| {
-            breaks(r, k) && !((32..44).contains(&k) && r[k] % 2 == 1 && r[k] <= 75)
+            breaks(r, k) && !(is_size(k) && r[k] % 2 == 1 && r[k] <= 75)
         }),
     ];
     for &tag in all {
-        wrong.push(ruled(&format!("no size takes {tag}"), move |r, k| {
-            breaks(r, k) || (32..44).contains(&k) && k % 2 == 0 && r[k] == tag
-        }));
+        wrong.push(ruled(&format!("no size takes {tag}"), move |r, k| breaks(r, k) || is_size(k) && r[k] == tag));
+    }
+    wrong
+}
+
+/// Whether a record's word is the tag of a size, a min or a max
+fn is_size(k: usize) -> bool {
+    tag_of(k).is_some_and(|length| length >= 16)
+}
+
+/// Which lengths take a sum, which tags are one, and which second values there are
+fn sums() -> Vec<Named> {
+    fn none(name: &str, lengths: Range<usize>) -> Named {
+        let refused = move |r: &[u32], k: usize| tag_of(k).is_some_and(|l| lengths.contains(&l)) && r[k] == SUM;
+        ruled(&format!("{name} take no sum"), move |r, k| breaks(r, k) || refused(r, k))
+    }
+    fn second(name: &str, bad: fn(tag: u32, second: u32) -> bool) -> Named {
+        ruled(name, move |r, k| breaks(r, k) || k < AFTER_LENGTHS && k % LENGTH == 2 && bad(r[k - 2], r[k]))
+    }
+    let mut wrong = vec![
+        none("lengths", 0..22),
+        none("insets", 0..4),
+        none("margins", 4..8),
+        none("padding and borders", 8..16),
+        none("sizes", 16..18),
+        none("min and max", 18..22),
+        second("a second value of another tag is to be 0", |tag, second| tag != SUM && second != 0),
+        second("a second value is a tag", |_, second| ![1, 3, 5, SUM].contains(&second)),
+        second("a sum's second value is to be a number", |tag, second| tag == SUM && f32::from_bits(second).is_nan()),
+    ];
+    // the Rust's calc and fit-content(calc), and what stands beside 129
+    for tag in [4, 6, SUM - 1, SUM + 1, 256 + SUM] {
+        wrong
+            .push(ruled(&format!("{tag} is a tag"), move |r, k| breaks(r, k) && !(tag_of(k).is_some() && r[k] == tag)));
+        wrong
+            .push(ruled(&format!("{tag} is a tag of sizes"), move |r, k| breaks(r, k) && !(is_size(k) && r[k] == tag)));
     }
     wrong
 }
@@ -383,13 +443,14 @@ fn codes() -> Vec<Named> {
         ruled(name, move |r, k| if is_safety(k) { !ignored(r, k - 1) && r[k] > 2 } else { breaks(r, k) })
     }
     fn low(name: &str, mask: u32) -> Named {
-        ruled(name, move |r, k| if k < 44 || is_safety(k) { breaks(r, k) } else { !allowed(k).takes(r[k] & mask) })
+        let is_code = |k: usize| k >= AFTER_LENGTHS && !is_safety(k);
+        ruled(name, move |r, k| if is_code(k) { !allowed(k).takes(r[k] & mask) } else { breaks(r, k) })
     }
     vec![
         low("low bytes of codes", 0xFF),
         low("low halves of codes", 0xFFFF),
         low("codes without their sign", !(1 << 31)),
-        ruled("codes with a sign", |r, k| breaks(r, k) && (k < 44 || (r[k] as i32) >= 0)),
+        ruled("codes with a sign", |r, k| breaks(r, k) && (k < AFTER_LENGTHS || (r[k] as i32) >= 0)),
         ignored("a safety behind keyword 10 is tested", |_, _| false),
         ignored("a safety behind keyword 0 isn't tested", |r, k| [0, ABSENT].contains(&r[k])),
         ignored("a safety behind keyword 9 isn't tested", |r, k| [9, ABSENT].contains(&r[k])),
@@ -411,14 +472,14 @@ fn codes() -> Vec<Named> {
             breaks(r, k) || k == RATIO && r[RATIO_PRESENT] == 1 && f32::from_bits(r[k]) <= 0.0
         }),
         ruled("a value behind auto is to be 0", |r, k| {
-            breaks(r, k) || k < 44 && k % 2 == 1 && r[k - 1] == 3 && r[k] != 0
+            breaks(r, k) || k < AFTER_LENGTHS && k % LENGTH == 1 && r[k - 1] == 3 && r[k] != 0
         }),
     ]
 }
 
 /// What the request invites one to write. The comparison is worth nothing if it misses one.
 fn wrong() -> Vec<Named> {
-    [choices(), parts(), tellings(), answers(), words(), tags(), codes()].into_iter().flatten().collect()
+    [choices(), parts(), tellings(), answers(), words(), tags(), sums(), codes()].into_iter().flatten().collect()
 }
 
 // ---- the comparison
@@ -588,46 +649,56 @@ fn filled(words: usize, word: fn(usize) -> u32) -> Vec<u32> {
 /// The words of a table, what is replaced in it, and what is then named.
 type Row = (usize, &'static [(usize, u32)], Option<Place>);
 
-const ROWS: [Row; 28] = [
+const ROWS: [Row; 37] = [
     (0, &[], None),
     (1, &[(0, 2)], None),
-    (56, &[(0, 2)], None),
-    (57, &[], None),
-    (57, &[(0, 2)], Some((0, 0))),
-    (57, &[(56, 256)], Some((0, 56))),
+    (57, &[(0, 2)], None), // a record, before sums
+    (WORDS - 1, &[(0, 2)], None),
+    (WORDS, &[], None),
+    (WORDS, &[(0, 2)], Some((0, 0))),
+    (WORDS, &[(CONTAIN, 256)], Some((0, CONTAIN))),
     // item and word, not the word's place in the table
-    (114, &[(57, 2)], Some((1, 0))),
-    (171, &[(114 + 16, 3)], Some((2, 16))),
+    (2 * WORDS, &[(WORDS, 2)], Some((1, 0))),
+    (3 * WORDS, &[(2 * WORDS + PADDING_LEFT, 3)], Some((2, PADDING_LEFT))),
+    // sums: the whole tag, any second value
+    (WORDS, &[(PADDING_LEFT, 129), (PADDING_LEFT + 2, u32::MAX)], None),
+    (WORDS, &[(PADDING_LEFT, 1), (PADDING_LEFT + 2, u32::MAX)], None),
+    (WORDS, &[(WIDTH, 4)], Some((0, WIDTH))),
+    (WORDS, &[(WIDTH, 6)], Some((0, WIDTH))),
+    (WORDS, &[(WIDTH, 385)], Some((0, WIDTH))),
+    (WORDS, &[(WIDTH, 128)], Some((0, WIDTH))),
+    (WORDS, &[(WIDTH, 130)], Some((0, WIDTH))),
+    (WORDS, &[(WIDTH, 129), (WIDTH + 1, 385), (WIDTH + 2, 385)], None),
     // keywords and safeties
-    (57, &[(49, 11), (50, 7)], Some((0, 49))),
-    (57, &[(49, 10), (50, 7)], None),
-    (57, &[(49, 9), (50, 3)], Some((0, 50))),
-    (57, &[(51, 11), (52, 7)], Some((0, 51))),
-    (57, &[(51, 10), (52, u32::MAX)], None),
-    (57, &[(51, 9), (52, 3)], Some((0, 52))),
-    (57, &[(49, 10), (50, 0), (51, 0), (52, 3)], Some((0, 52))),
-    (57, &[(49, 0), (50, 3), (51, 10), (52, 0)], Some((0, 50))),
-    (57, &[(49, 266), (50, 0)], Some((0, 49))),
+    (WORDS, &[(JUSTIFY, 11), (JUSTIFY + 1, 7)], Some((0, JUSTIFY))),
+    (WORDS, &[(JUSTIFY, 10), (JUSTIFY + 1, 7)], None),
+    (WORDS, &[(JUSTIFY, 9), (JUSTIFY + 1, 3)], Some((0, JUSTIFY + 1))),
+    (WORDS, &[(ALIGN, 11), (ALIGN + 1, 7)], Some((0, ALIGN))),
+    (WORDS, &[(ALIGN, 10), (ALIGN + 1, u32::MAX)], None),
+    (WORDS, &[(ALIGN, 9), (ALIGN + 1, 3)], Some((0, ALIGN + 1))),
+    (WORDS, &[(JUSTIFY, 10), (JUSTIFY + 1, 0), (ALIGN, 0), (ALIGN + 1, 3)], Some((0, ALIGN + 1))),
+    (WORDS, &[(JUSTIFY, 0), (JUSTIFY + 1, 3), (ALIGN, 10), (ALIGN + 1, 0)], Some((0, JUSTIFY + 1))),
+    (WORDS, &[(JUSTIFY, 266), (JUSTIFY + 1, 0)], Some((0, JUSTIFY))),
     // a ratio: its word is a float
-    (57, &[(44, 2)], Some((0, 44))),
-    (57, &[(44, 1), (45, 0x7FC0_0000)], None),
-    (57, &[(44, 1), (45, 0)], None),
+    (WORDS, &[(RATIO_PRESENT, 2)], Some((0, RATIO_PRESENT))),
+    (WORDS, &[(RATIO_PRESENT, 1), (RATIO, 0x7FC0_0000)], None),
+    (WORDS, &[(RATIO_PRESENT, 1), (RATIO, 0)], None),
     // the first item, then its first word
-    (114, &[(56, 256), (57, 2)], Some((0, 56))),
-    (114, &[(54, 4), (56, 256), (57, 2)], Some((0, 54))),
+    (2 * WORDS, &[(CONTAIN, 256), (WORDS, 2)], Some((0, CONTAIN))),
+    (2 * WORDS, &[(OVERFLOW_Y, 4), (CONTAIN, 256), (WORDS, 2)], Some((0, OVERFLOW_Y))),
     // a trailing part isn't looked at
-    (58, &[(57, 2)], None),
-    (113, &[(57, 2), (112, 4)], None),
-    (113, &[(56, 256), (57, 2)], Some((0, 56))),
+    (WORDS + 1, &[(WORDS, 2)], None),
+    (2 * WORDS - 1, &[(WORDS, 2), (2 * WORDS - 2, 4)], None),
+    (2 * WORDS - 1, &[(CONTAIN, 256), (WORDS, 2)], Some((0, CONTAIN))),
     // all items are, however many
-    (57 * 1025, &[(57 * 1024 + 56, 256)], Some((1024, 56))),
-    (57 * 1025 - 1, &[(57 * 1024, 2)], None),
-    (57 * 1150, &[(57 * 1149, 2)], Some((1149, 0))),
+    (WORDS * 1025, &[(WORDS * 1024 + CONTAIN, 256)], Some((1024, CONTAIN))),
+    (WORDS * 1025 - 1, &[(WORDS * 1024, 2)], None),
+    (WORDS * 1150, &[(WORDS * 1149, 2)], Some((1149, 0))),
 ];
 
 /// What a word is replaced by: all small numbers, aliases of good words, floats.
 fn values() -> Vec<u32> {
-    let good = [0, 1, 2, 3, 5, 10, 11, 15, 27, 35, 43, 59, 75, 255];
+    let good = [0, 1, 2, 3, 5, 10, 11, 15, 27, 35, 43, 59, 75, SUM, 255];
     let aliases = [8, 16, 24, 31].iter().flat_map(|bit| good.map(|word| word | 1 << bit));
     let floats = [0x3F80_0000, 0x7F80_0000, 0x7FC0_0000, 0xFF80_0000, u32::MAX - 1, u32::MAX];
     let mut values: Vec<u32> = (0..=260).chain(aliases).chain(floats).collect();
@@ -713,7 +784,7 @@ impl Trial<'_> {
                 for (i, j) in [(0, 0), (1, 1), (0, 1), (2, 0), (1, 2)] {
                     let mut table = filled(WORDS * 3, plain);
                     for (item, k) in [(i, a), (j, b)] {
-                        let odd = [2, 256, 1 << 31 | 1, u32::MAX, 76][self.random.below(5)];
+                        let odd = self.random.pick(&[2, 4, 6, 128, 130, 256, 385, 1 << 31 | 1, u32::MAX, 76]);
                         table[WORDS * item + k] = if allowed(k).takes(odd) { 256 } else { odd };
                     }
                     self.known(&table, Some((i, a).min((j, b))))?;
@@ -746,12 +817,12 @@ impl Trial<'_> {
 
     /// Many items, with a bad word in the first, in the last, and around 1,024; and a trailing part, whose first word is bad.
     fn large(&mut self) -> Result<(), String> {
-        for (items, trailing) in [1023, 1024, 1025, 1150, 1300].iter().flat_map(|&n| [(n, 0), (n, 1), (n, 56)]) {
+        for (items, trailing) in [1023, 1024, 1025, 1150, 1300].iter().flat_map(|&n| [(n, 0), (n, 1), (n, WORDS - 1)]) {
             let mut table = filled(WORDS * items + trailing, greatest);
             table.iter_mut().skip(WORDS * items).take(1).for_each(|word| *word = 2);
             self.known(&table, None)?;
             for item in [0, 1, 127, 128, 1022, 1023, 1024, items - 1].into_iter().filter(|&item| item < items) {
-                for k in [0, KEYWORDS[0] + 1, 56] {
+                for k in [0, KEYWORDS[0] + 1, CONTAIN] {
                     let mut other = table.clone();
                     // with a keyword the safety isn't ignored
                     other[WORDS * item + KEYWORDS[0]] = 9;
@@ -762,8 +833,8 @@ impl Trial<'_> {
         }
         // more items than 16 bits count
         let mut table = filled(WORDS * 65_538, plain);
-        table[WORDS * 65_537 + 56] = 256;
-        self.known(&table, Some((65_537, 56)))
+        table[WORDS * 65_537 + CONTAIN] = 256;
+        self.known(&table, Some((65_537, CONTAIN)))
     }
 
     fn directed(&mut self) -> Result<(), String> {
