@@ -1485,17 +1485,29 @@ static void style_word_names(void)
 
 static const uint32_t quiet_nan = 0x7FC00000;
 
-/* the run to its finish, every measured box being 120 by 18 */
+/* what is measured along an axis: so much, or less where there is less space */
+static float measured(const uint32_t *question, int space, float most)
+{
+    const float available = oof_float(question[space + 1]);
+    if (question[space] == OOF_SPACE_MIN_CONTENT)
+        return most / 4;
+    return question[space] == OOF_SPACE_DEFINITE && available < most ? available : most;
+}
+
+/* the run to its finish, every measured box being 120 by 18 or less */
 static uint32_t placed(words *w)
 {
     uint32_t result = opened(w);
-    while (result == OOF_ACCEPTED && w->answer[OOF_ANSWER_KIND] != OOF_FINISH)
+    while (result == OOF_ACCEPTED && w->answer[OOF_ANSWER_KIND] != OOF_FINISH) {
+        const float width = measured(w->answer, OOF_QUESTION_AVAILABLE_WIDTH, 120);
+        const float height = measured(w->answer, OOF_QUESTION_AVAILABLE_HEIGHT, 18);
         switch (w->answer[OOF_ANSWER_KIND]) {
-        case OOF_MEASURE_BOTH: result = oof_reply_both(120, 18, LENT(w)); break;
-        case OOF_MEASURE_WIDTH: result = oof_reply_width(120, LENT(w)); break;
-        case OOF_MEASURE_HEIGHT: result = oof_reply_height(18, LENT(w)); break;
+        case OOF_MEASURE_BOTH: result = oof_reply_both(width, height, LENT(w)); break;
+        case OOF_MEASURE_WIDTH: result = oof_reply_width(width, LENT(w)); break;
+        case OOF_MEASURE_HEIGHT: result = oof_reply_height(height, LENT(w)); break;
         default: result = laid_out(w, w->candidates, 0);
         }
+    }
     return result;
 }
 

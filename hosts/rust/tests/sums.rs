@@ -13,7 +13,7 @@ struct Written {
     layout: [u32; LAYOUT],
     records: [[u32; CANDIDATE]; 2],
     answer: [u32; ffi::ANSWER],
-    questions: Vec<Answer>,
+    questions: Vec<[u32; ffi::ANSWER]>,
 }
 impl Written {
     fn layout(&self) -> Layout {
@@ -25,7 +25,7 @@ impl Written {
 fn run(area: Size<f32>, direction: Direction, styles: &[u32]) -> Result<Written, Refusal> {
     let (mut layout, mut working, mut unclaimed) = ([0; LAYOUT], [0; CANDIDATE], [0; CANDIDATE]);
     let (mut state, mut answer, mut questions) = ([0; ffi::STATE], [0; ffi::ANSWER], vec![]);
-    let mut reply: Option<Reply> = None;
+    let mut reply = None;
     loop {
         let mut lent = Lent {
             styles,
@@ -54,7 +54,7 @@ fn run(area: Size<f32>, direction: Direction, styles: &[u32]) -> Result<Written,
             Answer::LayOut { .. } => Reply::LaidOut([0.0; 4]),
             _ => return Ok(Written { layout, records: [working, unclaimed], answer, questions }),
         });
-        questions.push(asked);
+        questions.push(answer);
     }
 }
 fn placed(area: Size<f32>, style: &Style) -> Written {
@@ -170,8 +170,8 @@ fn no_keyword() {
                 ..Style::default()
             },
         );
-        match written.questions[0] {
-            Answer::MeasureHeight { known, .. } => known.width,
+        match Answer::from_words(&written.questions[0]) {
+            Some(Answer::MeasureHeight { known, .. }) => known.width,
             other => panic!("{other:?}"),
         }
     };
@@ -224,8 +224,7 @@ fn as_the_pixels_it_comes_to() {
                 });
                 run(PANEL, Direction::Ltr, &changed(&words.concat())).unwrap()
             };
-            let (sum, pixels) = (of(false), of(true));
-            assert_eq!((sum.layout, sum.records, sum.answer), (pixels.layout, pixels.records, pixels.answer));
+            assert_eq!(of(false), of(true), "words {first} and {second}, {value} and {added}");
         }
     }
 }
