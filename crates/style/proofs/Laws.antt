@@ -6,7 +6,7 @@ use mathlib.Core.Path.{_≡_, refl, sym, _∙_}
 use mathlib.Core.Bool.{Bool, true, false, cond, _||_}
 use lib.Dec.{eqb}
 use lib.Ieee.{Float}
-use borrow.Author.Tests.{eqb-true}
+use borrow.Author.Tests.{eqb-true, ne-eqb}
 use Rattle.style.specs.declared.resolve.Field.{Field}
 use Rattle.style.specs.declared.resolve.Field.the-variants as field
 use Rattle.style.specs.declared.resolve.Resolved.{Resolved}
@@ -24,7 +24,7 @@ use Rattle.style.specs.declared.alignment.AlignmentSafety.the-variants.{
 use Rattle.style.specs.Resolve.{byTag, withoutKeyword, resolved, isAllowed, takes}
 use Rattle.style.specs.Values.{isSelfRelative, keywordRelative, selfRelative}
 use Rattle.style.specs.Codes.{sizingCode, overflowCode, directionCode, safetyCode, keywordCode, bitsCode, sizingOf, overflowOf, directionOf, safetyOf, keywordOf, bit0, bit1}
-use Rattle.style.specs.Laws.{AdmissionIsOfTheTag, TakesItsTags, tagsOf, among, SizingCodes, OverflowCodes, DirectionCodes, SafetyCodes, KeywordCodes, BitsCodes, SelfRelativeIsResolved}
+use Rattle.style.specs.Laws.{AdmissionIsOfTheTag, TakesItsTags, tagsOf, among, PercentInEveryField, SumInEveryField, SecondIsOfSums, SizingCodes, OverflowCodes, DirectionCodes, SafetyCodes, KeywordCodes, BitsCodes, SelfRelativeIsResolved}
 
 -- ---- tags
 
@@ -44,24 +44,38 @@ taken-without (Length x) = refl
 taken-without (Keyword k) = refl
 
 -- where a tag is no 3, the test for 3 has no say; where it is 3, it is none of the others
-no-auto : (tag : ℕ) (b : Bool) → eqb tag 3 ≡ b → (eqb tag 1 || cond b false (eqb tag 5 || false)) ≡ (eqb tag 1 || (eqb tag 5 || false))
+no-auto : (tag : ℕ) (b : Bool) → eqb tag 3 ≡ b → (eqb tag 1 || cond b false (eqb tag 5 || (eqb tag 129 || false))) ≡ (eqb tag 1 || (eqb tag 5 || (eqb tag 129 || false)))
 no-auto tag true e = rw (eqb-true tag 3 e) refl
 no-auto tag false e = refl
 
-allowed-by-tag : (f : Field) (tag : ℕ) (value basis : Float) → isAllowed (byTag f tag value basis) ≡ among (tagsOf f) tag
+allowed-by-tag : (f : Field) (tag : ℕ) (value second basis : Float) → isAllowed (byTag f tag value second basis) ≡ among (tagsOf f) tag
 unfolding byTag among
-allowed-by-tag field.InsetOrMargin tag value basis = simp (allowed-cond, either)
-allowed-by-tag field.PaddingOrBorder tag value basis = simp (allowed-cond, either) (no-auto tag (eqb tag 3) refl)
-allowed-by-tag field.Size tag value basis = simp (allowed-cond, either)
-allowed-by-tag field.MinOrMax tag value basis = simp (allowed-cond, taken-without, either)
+allowed-by-tag field.InsetOrMargin tag value second basis = simp (allowed-cond, either)
+allowed-by-tag field.PaddingOrBorder tag value second basis = simp (allowed-cond, either) (no-auto tag (eqb tag 3) refl)
+allowed-by-tag field.Size tag value second basis = simp (allowed-cond, either)
+allowed-by-tag field.MinOrMax tag value second basis = simp (allowed-cond, taken-without, either)
 
 pub takes-its-tags : TakesItsTags
 unfolding takes resolved
-takes-its-tags f tag = allowed-by-tag f tag _ _
+takes-its-tags f tag = allowed-by-tag f tag _ _ _
 
 pub admission-is-of-the-tag : AdmissionIsOfTheTag
 unfolding takes resolved
-admission-is-of-the-tag f l basis = allowed-by-tag f (l .tag) _ _ ∙ sym (allowed-by-tag f (l .tag) _ _)
+admission-is-of-the-tag f l basis = allowed-by-tag f (l .tag) _ _ _ ∙ sym (allowed-by-tag f (l .tag) _ _ _)
+
+-- ---- percentages and sums
+
+pub percent-in-every-field : PercentInEveryField
+unfolding resolved byTag
+percent-in-every-field f l basis e = rw e refl
+
+pub sum-in-every-field : SumInEveryField
+unfolding resolved byTag
+sum-in-every-field f l basis e = rw e refl
+
+pub second-is-of-sums : SecondIsOfSums
+unfolding resolved byTag
+second-is-of-sums f l l' basis other same alike = rw (same, alike) (rw (ne-eqb (l' .tag) 129 (λ e. other (same ∙ e))) refl)
 
 -- ---- codes
 

@@ -5,9 +5,11 @@ use mathlib.Core.Bool.{Bool, false, _||_}
 use mathlib.Core.List.{List, [], _∷_}
 use lib.Dec.{eqb}
 use lib.Ieee.{Float}
+use Rattle.util.specs.Number.{_⊕_, _⊗_}
 use Rattle.style.specs.declared.compact_length.CompactLength.{CompactLength}
 use Rattle.style.specs.declared.resolve.Field.{Field}
 use Rattle.style.specs.declared.resolve.Field.the-variants as field
+use Rattle.style.specs.declared.resolve.Resolved.the-variants.{Length}
 use Rattle.style.specs.declared.BoxSizing.{BoxSizing}
 use Rattle.style.specs.declared.Overflow.{Overflow}
 use Rattle.style.specs.declared.Direction.{Direction}
@@ -20,16 +22,16 @@ use Rattle.style.specs.Codes.{sizingCode, overflowCode, directionCode, s
 
 -- ---- tags
 
--- a length is allowed by its field and tag alone, whatever its value and the basis
+-- a length is allowed by its field and tag alone, whatever its values and the basis
 abbrev pub AdmissionIsOfTheTag : Type 0
 AdmissionIsOfTheTag = (f : Field) (l : CompactLength) (basis : Float) → isAllowed (resolved f l basis) ≡ takes f (l .tag)
 
--- document 01, "Tags"
+-- document 01, "Tags"; request #105: 129 in every field
 abbrev pub tagsOf : Field → List ℕ
-tagsOf field.InsetOrMargin = 1 ∷ 3 ∷ 5 ∷ []
-tagsOf field.PaddingOrBorder = 1 ∷ 5 ∷ []
-tagsOf field.Size = 1 ∷ 3 ∷ 5 ∷ 11 ∷ 15 ∷ 27 ∷ 35 ∷ 43 ∷ 59 ∷ 75 ∷ []
-tagsOf field.MinOrMax = 1 ∷ 3 ∷ 5 ∷ 11 ∷ 15 ∷ 27 ∷ 35 ∷ 43 ∷ 59 ∷ 75 ∷ []
+tagsOf field.InsetOrMargin = 1 ∷ 3 ∷ 5 ∷ 129 ∷ []
+tagsOf field.PaddingOrBorder = 1 ∷ 5 ∷ 129 ∷ []
+tagsOf field.Size = 1 ∷ 3 ∷ 5 ∷ 129 ∷ 11 ∷ 15 ∷ 27 ∷ 35 ∷ 43 ∷ 59 ∷ 75 ∷ []
+tagsOf field.MinOrMax = 1 ∷ 3 ∷ 5 ∷ 129 ∷ 11 ∷ 15 ∷ 27 ∷ 35 ∷ 43 ∷ 59 ∷ 75 ∷ []
 
 unfoldable pub among : List ℕ → ℕ → Bool
 among [] n = false
@@ -38,6 +40,21 @@ among (x ∷ xs) n = eqb n x || among xs n
 -- a field takes exactly its tags, by the whole word
 abbrev pub TakesItsTags : Type 0
 TakesItsTags = (f : Field) (tag : ℕ) → takes f tag ≡ among (tagsOf f) tag
+
+-- ---- percentages and sums: in every field a number of pixels, no keyword
+
+abbrev pub PercentInEveryField : Type 0
+PercentInEveryField = (f : Field) (l : CompactLength) (basis : Float) → l .tag ≡ 5 → resolved f l basis ≡ Length (basis ⊗ l .value)
+
+-- a percentage and a length: the same product, rounded, plus the second value, rounded
+abbrev pub SumInEveryField : Type 0
+SumInEveryField = (f : Field) (l : CompactLength) (basis : Float) → l .tag ≡ 129 → resolved f l basis ≡ Length ((basis ⊗ l .value) ⊕ l .second)
+
+-- under every other tag the second value has no say
+abbrev pub SecondIsOfSums : Type 0
+SecondIsOfSums =
+    (f : Field) (l l' : CompactLength) (basis : Float) → (l .tag ≡ 129 → ⊥) → l .tag ≡ l' .tag → l .value ≡ l' .value
+    → resolved f l basis ≡ resolved f l' basis
 
 -- ---- codes: each value has one, and each code of the list is of one value
 

@@ -1,9 +1,9 @@
--- Lengths: which tags a field takes, and what a length comes to in it (document 01, "Tags"; step 1 and step 2). Assumes nothing.
+-- Lengths: which tags a field takes, and what a length comes to in it (document 01, "Tags"; step 1 and step 2; request #105). Assumes nothing.
 use Prim.Native.Nat.{ℕ}
 use mathlib.Core.Bool.{Bool, true, false, cond}
 use lib.Dec.{eqb}
 use lib.Ieee.{Float}
-use Rattle.util.specs.Number.{_⊗_, 0f}
+use Rattle.util.specs.Number.{_⊕_, _⊗_, 0f}
 use Rattle.util.specs.declared.math.MaybeF32.{MaybeF32}
 use Rattle.util.specs.declared.math.MaybeF32.the-variants.{None, Some}
 use Rattle.geometry.specs.declared.Size.{Size}
@@ -50,17 +50,18 @@ fromSize field.PaddingOrBorder size = NotAllowed
 fromSize field.Size size = size
 fromSize field.MinOrMax size = withoutKeyword size
 
--- by tag, the whole word: 257 is no 1
-unfoldable pub byTag : Field → ℕ → Float → Float → Resolved
-byTag f tag value basis =
+-- by tag, the whole word: 257 is no 1. 129 is a sum: basis × value, rounded, plus second value, rounded
+unfoldable pub byTag : Field → ℕ → Float → Float → Float → Resolved
+byTag f tag value second basis =
     cond (eqb tag 1) (Length value)
     (cond (eqb tag 3) (autoIn f)
     (cond (eqb tag 5) (Length (basis ⊗ value))
-    (fromSize f (inSize tag value basis))))
+    (cond (eqb tag 129) (Length ((basis ⊗ value) ⊕ second))
+    (fromSize f (inSize tag value basis)))))
 
 -- what a length comes to in a field, percentages being taken of the basis
 unfoldable pub resolved : Field → CompactLength → Float → Resolved
-resolved f length basis = byTag f (length .tag) (length .value) basis
+resolved f length basis = byTag f (length .tag) (length .value) (length .second) basis
 
 -- ---- admission
 
@@ -70,9 +71,9 @@ isAllowed Absent = true
 isAllowed (Length x) = true
 isAllowed (Keyword k) = true
 
--- whether a field takes a tag; value and basis have no say (`AdmissionIsOfTheTag`)
+-- whether a field takes a tag; values and basis have no say (`AdmissionIsOfTheTag`)
 unfoldable pub takes : Field → ℕ → Bool
-takes f tag = isAllowed (resolved f (record { tag = tag; value = 0f }) 0f)
+takes f tag = isAllowed (resolved f (record { tag = tag; value = 0f; second = 0f }) 0f)
 
 -- ---- values
 

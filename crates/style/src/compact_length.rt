@@ -1,8 +1,9 @@
-// style/compact_length.rs: a length, by its tag and its value.
+// style/compact_length.rs: a length, by its tag, its value and its second value, which sums alone read.
 
 pub struct CompactLength {
     pub tag: u32,
     pub value: f32,
+    pub second: f32,
 }
 
 // `Rect<CompactLength>` of the Rust.

@@ -114,8 +114,9 @@ fn in_size(length: CompactLength, basis: f32) -> Resolved
     }
 }
 
-// What a length comes to in a field, percentages being taken of the basis. The tags that only sizes take are a match of their
-// own: so small, this one is put by the compiler into each caller, which keeps only the part of the answer that it wants.
+// What a length comes to in a field, percentages being taken of the basis. 129 is a sum of a percentage and a length, in every field. The
+// tags that only sizes take are a match of their own: so small, this one is put by the compiler into each caller, which keeps only the part
+// of the answer that it wants.
 pub fn resolve(field: Field, length: CompactLength, basis: f32) -> Resolved
     ensures { λ r. ⌜ r ≡ resolved field length basis ⌝ }
 {
@@ -124,6 +125,7 @@ pub fn resolve(field: Field, length: CompactLength, basis: f32) -> Resolved
         1 => Resolved::Length(length.value),
         3 => field.auto(),
         5 => Resolved::Length(basis * length.value),
+        129 => Resolved::Length(basis * length.value + length.second),
         _ => field.from_size(in_size(length, basis)),
     }
 }
@@ -136,6 +138,7 @@ impl Field {
         let length = CompactLength {
             tag: tag,
             value: 0.0,
+            second: 0.0,
         };
         resolve(self, length, 0.0).is_allowed()
     }

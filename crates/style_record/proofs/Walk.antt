@@ -39,46 +39,63 @@ module _ (r : ℕ → ℕ) (k : ℕ) where
 
 -- ---- a length starts with its tag, and no other word of it breaks a rule
 
-module _ (k : ℕ) (h : k < afterLengths) (even : k % lengthWords ≡ 0) where
-  tag-kind : kindOf k ≡ tag (lengthField (k / lengthWords))
-  unfolding kindOf lengthKinds
-  tag-kind = rw (lt-ltb k afterLengths h, even) refl
+-- word j of a length that starts at word k
+inside : (k j : ℕ) → j < lengthWords → k < afterLengths → k % lengthWords ≡ 0 → k + j < afterLengths
+inside k j l h e = omega arith
 
-  value-kind : kindOf (k + 1) ≡ number
-  unfolding kindOf lengthKinds
-  value-kind = rw (lt-ltb (k + 1) afterLengths (inside k h even), odd k even) refl
-    where
-      inside : (k : ℕ) → k < afterLengths → k % lengthWords ≡ 0 → k + 1 < afterLengths
-      inside k h e = omega arith
+place : (k j : ℕ) → j < lengthWords → k % lengthWords ≡ 0 → (k + j) % lengthWords ≡ j
+place k j l e = omega arith
 
-      odd : (k : ℕ) → k % lengthWords ≡ 0 → (k + 1) % lengthWords ≡ 1
-      odd k e = omega arith
+two-on : (k : ℕ) → k + 1 + 1 ≡ k + 2
+two-on k = omega arith
+
+-- the length behind it
+next-length : (k : ℕ) → k + 1 + 1 + 1 ≡ k + lengthWords
+next-length k = omega arith
 
 below : (k : ℕ) → k < afterLengths → k < styleWords
 below k h = omega arith
 
-next-below : (k : ℕ) → k < afterLengths → k + 1 < styleWords
-next-below k h = omega arith
+value-below : (k : ℕ) → k < afterLengths → k + 1 < styleWords
+value-below k h = omega arith
 
-two-on : (k : ℕ) → k + 1 + 1 ≡ k + lengthWords
-two-on k = omega arith
+second-below : (k : ℕ) → k < afterLengths → k + 1 + 1 < styleWords
+second-below k h = omega arith
 
-module _ (r : ℕ → ℕ) (k : ℕ) (h : k < afterLengths) (even : k % lengthWords ≡ 0) where
+module _ (k : ℕ) (h : k < afterLengths) (first : k % lengthWords ≡ 0) where
+  tag-kind : kindOf k ≡ tag (lengthField (k / lengthWords))
+  unfolding kindOf lengthKinds
+  tag-kind = rw (lt-ltb k afterLengths h, first) refl
+
+  value-kind : kindOf (k + 1) ≡ number
+  unfolding kindOf lengthKinds
+  value-kind = rw (lt-ltb (k + 1) afterLengths (inside k 1 (omega arith) h first), place k 1 (omega arith) first) refl
+
+  second-kind : kindOf (k + 1 + 1) ≡ number
+  unfolding kindOf lengthKinds
+  second-kind = rw (two-on k, lt-ltb (k + 2) afterLengths (inside k 2 (omega arith) h first), place k 2 (omega arith) first) refl
+
+module _ (r : ℕ → ℕ) (k : ℕ) (h : k < afterLengths) (first : k % lengthWords ≡ 0) where
   tag-rule : breaksRule r k ≡ not (takes (lengthField (k / lengthWords)) (r k))
   unfolding breaksRule breaksAs
-  tag-rule = rw (tag-kind k h even) refl
+  tag-rule = rw (tag-kind k h first) refl
 
   value-rule : breaksRule r (k + 1) ≡ false
   unfolding breaksRule breaksAs
-  value-rule = rw (value-kind k h even) refl
+  value-rule = rw (value-kind k h first) refl
+
+  second-rule : breaksRule r (k + 1 + 1) ≡ false
+  unfolding breaksRule breaksAs
+  second-rule = rw (second-kind k h first) refl
 
   tag-bad : takes (lengthField (k / lengthWords)) (r k) ≡ false → firstFrom r (styleWords - k) k ≡ Word k
   tag-bad e = word-bad r k (below k h) (tag-rule ∙ ap not e)
 
   tag-good : takes (lengthField (k / lengthWords)) (r k) ≡ true → firstFrom r (styleWords - k) k ≡ firstFrom r (styleWords - (k + lengthWords)) (k + lengthWords)
   tag-good e =
-      word-good r k (below k h) (tag-rule ∙ ap not e) ∙ word-good r (k + 1) (next-below k h) value-rule
-      ∙ ap (λ (j : ℕ). firstFrom r (styleWords - j) j) (two-on k)
+      word-good r k (below k h) (tag-rule ∙ ap not e) ∙ word-good r (k + 1) (value-below k h) value-rule
+      ∙ word-good r (k + 1 + 1) (second-below k h) second-rule
+      ∙ ap (λ (j : ℕ). firstFrom r (styleWords - j) j) (next-length k)
 
 -- ---- the tags from one word to another, all held to one field
 
@@ -150,7 +167,7 @@ module _ (f : Field) (from to : ℕ) (stretch : Stretch f from to) (s : List ℕ
 
   pub tag-on : takes f (item s i k) ≡ true → Tags from to s i (k + lengthWords)
   tag-on e =
-      (later, within (stretch .ends) (here .2), even (here .2), here .3 ∙ tag-good (item s i) k below-end (here .2) (stretch .taken k (here .0) h _ ∙ e))
+      (later, within (stretch .ends) (here .2), again (here .2), here .3 ∙ tag-good (item s i) k below-end (here .2) (stretch .taken k (here .0) h _ ∙ e))
     where
       later : from ≤ k + lengthWords
       later = let p = here .0 in omega arith
@@ -158,8 +175,8 @@ module _ (f : Field) (from to : ℕ) (stretch : Stretch f from to) (s : List ℕ
       within : to % lengthWords ≡ 0 → k % lengthWords ≡ 0 → k + lengthWords ≤ to
       within a b = omega arith
 
-      even : k % lengthWords ≡ 0 → (k + lengthWords) % lengthWords ≡ 0
-      even a = omega arith
+      again : k % lengthWords ≡ 0 → (k + lengthWords) % lengthWords ≡ 0
+      again a = omega arith
 
   pub tag-stop : takes f (item s i k) ≡ false → firstBroken s i ≡ Word k
   tag-stop e = here .3 ∙ tag-bad (item s i) k below-end (here .2) (stretch .taken k (here .0) h _ ∙ e)

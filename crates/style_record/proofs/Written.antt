@@ -24,16 +24,16 @@ use Rattle.style_record.specs.Record.{upTo, styleWords, ratioPresentWord
 use Rattle.style_record.specs.Check.{safetyBreaks, breaksAs, breaksRule}
 use Rattle.style_record.specs.Decode.{lengthAt, rectAt, sizeAt, alignAt, ratioAt, overflowAt, styleOf}
 use Rattle.style_record.specs.Encode.{lengthWordsOf, rectWordsOf, sizeWordsOf, presentCode, ratioBits, alignWordsOf, encoded, keptAs, keptFrom}
-use Rattle.style_record.specs.Laws.{FitsLengthRect, FitsLengthSize, FitsMaybe, FitsStyle}
+use Rattle.style_record.specs.Laws.{FitsLength, FitsLengthRect, FitsLengthSize, FitsMaybe, FitsStyle}
 
 -- ---- a style, written and decoded
 
 -- a length, written and read
 abbrev again : CompactLength → CompactLength
-again l = record { tag = l .tag; value = ofBits binary32 (toBits binary32 (l .value)) }
+again l = record { tag = l .tag; value = ofBits binary32 (toBits binary32 (l .value)); second = ofBits binary32 (toBits binary32 (l .second)) }
 
-length-back : (l : CompactLength) → T (fits binary32 (l .value)) → again l ≡ l
-length-back l f = λ j. record { tag = l .tag; value = ofBits-toBits binary32 (l .value) f j }
+length-back : (l : CompactLength) → FitsLength l → again l ≡ l
+length-back l f = λ j. record { tag = l .tag; value = ofBits-toBits binary32 (l .value) (f .value) j; second = ofBits-toBits binary32 (l .second) (f .second) j }
 
 rect-back : (r : LengthRect) → FitsLengthRect r → record { left = again (r .left); right = again (r .right); top = again (r .top); bottom = again (r .bottom) } ≡ r
 rect-back r f =

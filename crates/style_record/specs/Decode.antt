@@ -1,4 +1,4 @@
--- A style record decoded: each word at its index and by its meaning (document 01, "Style, 57 words"). What a word is read as that the
+-- A style record decoded: each word at its index and by its meaning (document 01, "Style"; request #105). What a word is read as that the
 -- check refuses, style/specs/Codes.antt says. Assumes nothing.
 use Prim.Native.Nat.{ℕ, _+_, _*_}
 use mathlib.Core.Bool.{cond}
@@ -19,7 +19,7 @@ use Rattle.style_record.specs.Record.{lengthWords, tagWord, ratioPresent
 -- ---- from word k of a record on
 
 unfoldable pub lengthAt : (ℕ → ℕ) → ℕ → CompactLength
-lengthAt r k = record { tag = r k; value = ofBits binary32 (r (k + 1)) }
+lengthAt r k = record { tag = r k; value = ofBits binary32 (r (k + 1)); second = ofBits binary32 (r (k + 2)) }
 
 unfoldable pub rectAt : (ℕ → ℕ) → ℕ → LengthRect
 rectAt r k =

@@ -17,7 +17,7 @@ use Rattle.style_record.specs.Record.{Kind, tag, number, upTo, ratio, ke
 -- ---- a style's words
 
 unfoldable pub lengthWordsOf : CompactLength → List ℕ
-lengthWordsOf l = l .tag ∷ toBits binary32 (l .value) ∷ []
+lengthWordsOf l = l .tag ∷ toBits binary32 (l .value) ∷ toBits binary32 (l .second) ∷ []
 
 unfoldable pub rectWordsOf : LengthRect → List ℕ
 rectWordsOf r = lengthWordsOf (r .left) ++ lengthWordsOf (r .right) ++ lengthWordsOf (r .top) ++ lengthWordsOf (r .bottom)

@@ -10,6 +10,7 @@ use lib.Dec.{T, ltb}
 use lib.Ieee.{fits, binary32}
 use Rattle.util.specs.declared.math.MaybeF32.{MaybeF32}
 use Rattle.util.specs.declared.math.MaybeF32.the-variants.{None, Some}
+use Rattle.style.specs.declared.compact_length.CompactLength.{CompactLength}
 use Rattle.style.specs.declared.compact_length.LengthRect.{LengthRect}
 use Rattle.style.specs.declared.compact_length.LengthSize.{LengthSize}
 use Rattle.style.specs.declared.Style.{Style}
@@ -28,7 +29,7 @@ use Rattle.style_record.specs.declared.check.TableCheck.the-variants as 
 
 -- the tables of kinds and the words written have the record's widths
 abbrev pub WidthsAgree : Type 0
-WidthsAgree = (f : Field) (y : Style) → (length (lengthKinds f) ≡ lengthWords) × (length codeKinds ≡ codeWords) × (length (encoded y) ≡ styleWords) × (styleWords ≡ 57)
+WidthsAgree = (f : Field) (y : Style) → (length (lengthKinds f) ≡ lengthWords) × (length codeKinds ≡ codeWords) × (length (encoded y) ≡ styleWords) × (styleWords ≡ 79)
 
 -- ---- the check
 
@@ -133,15 +134,19 @@ PartIsPassedOver = (s t : List ℕ) (n : ℕ) → length s ≡ styleWords * n �
 abbrev pub EachWordIsRead : Type 0
 EachWordIsRead = (s : List ℕ) (i : ℕ) → firstBroken s i ≡ NoWord → encoded (styleAt s i) ≡ kept s i
 
+pub record FitsLength (l : CompactLength) : Type 0 where
+  pub value : T (fits binary32 (l .value))
+  pub second : T (fits binary32 (l .second))
+
 pub record FitsLengthRect (r : LengthRect) : Type 0 where
-  pub left : T (fits binary32 (r .left .value))
-  pub right : T (fits binary32 (r .right .value))
-  pub top : T (fits binary32 (r .top .value))
-  pub bottom : T (fits binary32 (r .bottom .value))
+  pub left : FitsLength (r .left)
+  pub right : FitsLength (r .right)
+  pub top : FitsLength (r .top)
+  pub bottom : FitsLength (r .bottom)
 
 pub record FitsLengthSize (s : LengthSize) : Type 0 where
-  pub width : T (fits binary32 (s .width .value))
-  pub height : T (fits binary32 (s .height .value))
+  pub width : FitsLength (s .width)
+  pub height : FitsLength (s .height)
 
 abbrev pub FitsMaybe : MaybeF32 → Type 0
 FitsMaybe None = Unit {0}

@@ -1,4 +1,4 @@
--- The style record, word by word (document 01, "Style, 57 words"): 22 lengths of two words, then 13 words. Assumes nothing.
+-- The style record, word by word (document 01, "Style", with three words a length after request #105): 22 lengths, then 13 words. Assumes nothing.
 use Prim.Native.Nat.{ℕ, _+_, _*_, _-_, _/_, _%_}
 use mathlib.Core.Bool.{cond}
 use mathlib.Core.List.{List, [], _∷_}
@@ -9,9 +9,9 @@ use Rattle.style.specs.declared.resolve.Field.the-variants.{InsetOrMargin, Padd
 
 -- ---- widths
 
--- a length: tag and value
+-- a length: tag, value, second value
 abbrev pub lengthWords : ℕ
-lengthWords = 2
+lengthWords = 3
 
 -- inset, margin, padding, border: left, right, top, bottom each; then size, min, max: width, height each
 abbrev pub lengths : ℕ
@@ -24,7 +24,7 @@ codeWords = 13
 abbrev pub afterLengths : ℕ
 afterLengths = lengthWords * lengths
 
--- an item's words: 57
+-- an item's words: 79
 abbrev pub styleWords : ℕ
 styleWords = afterLengths + codeWords
 
@@ -92,7 +92,7 @@ lengthField l = cond (ltb l 8) InsetOrMargin (cond (ltb l 16) PaddingOrBorder (c
 
 -- the words of a length
 unfoldable pub lengthKinds : Field → List Kind
-lengthKinds f = tag f ∷ number ∷ []
+lengthKinds f = tag f ∷ number ∷ number ∷ []
 
 -- the words after the lengths
 unfoldable pub codeKinds : List Kind

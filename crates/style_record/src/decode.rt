@@ -43,6 +43,7 @@ fn length_at(styles: &[u32], at: usize, k: usize) -> CompactLength
     CompactLength {
         tag: word_at(styles, at, k),
         value: float_at(styles, at, k + 1),
+        second: float_at(styles, at, k + 2),
     }
 }
 

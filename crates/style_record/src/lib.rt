@@ -1,4 +1,4 @@
-// The style record: document 01's 57 words an item, in a lent table; checked and decoded.
+// The style record: 79 words an item (document 01, request #105), in a lent table; checked and decoded.
 pub mod check;
 pub mod decode;
 pub mod words;

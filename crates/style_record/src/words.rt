@@ -1,7 +1,7 @@
 // Widths of the style record, and where its words stand.
 
-// A length: tag and value.
-pub const LENGTH_WORDS: usize = 2;
+// A length: tag, value and second value.
+pub const LENGTH_WORDS: usize = 3;
 
 // Inset, margin, padding, border: left, right, top, bottom each. Then size, min, max: width, height each.
 pub const LENGTHS: usize = 22;

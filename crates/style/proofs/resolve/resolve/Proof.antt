@@ -1,6 +1,6 @@
 -- Generated: tools/proof/write-skeletons, then tools/proof/list-facts --fill.
-use borrow.Author.Tests.{ne-eqb}
 use Rattle.style.specs.Resolve.{byTag, resolved}
+use borrow.Author.Tests.{ne-eqb}
 use borrow.Author.Needs.{needs}
 use Rattle.style.proofs.resolve.resolve.Statement.{statement}
 use Rattle.style.proofs.resolve.resolve.Tie as tie
@@ -33,7 +33,11 @@ returns-3 c = simp (c .before .match .keys3)
 
 returns-4 : tie.Need-returns-4
 unfolding byTag resolved
-returns-4 c = simp (ne-eqb _ _ (c .before .before .match .rest .1), ne-eqb _ _ (c .before .before .match .rest .0 .1), ne-eqb _ _ (c .before .before .match .rest .0 .0 .1), ← c .from-size .ensures, ← c .before .in-size .ensures)
+returns-4 c = simp (c .before .before .match .keys4)
+
+returns-5 : tie.Need-returns-5
+unfolding byTag resolved
+returns-5 c = simp (ne-eqb _ _ (c .before .before .match .rest .1), ne-eqb _ _ (c .before .before .match .rest .0 .1), ne-eqb _ _ (c .before .before .match .rest .0 .0 .1), ne-eqb _ _ (c .before .before .match .rest .0 .0 .0 .1), ← c .before .in-size .ensures, ← c .from-size .ensures)
 
 pub resolve-spec : {M : Type 1} → statement M
 resolve-spec =
@@ -45,4 +49,5 @@ resolve-spec =
     returns
     returns-2
     returns-3
-    returns-4)
+    returns-4
+    returns-5)

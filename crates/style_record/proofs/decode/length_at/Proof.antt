@@ -17,9 +17,23 @@ add-float-at c = search needs
 float-at-requires : tie.Need-float-at-requires
 float-at-requires c κs = search needs
 
+add-float-at-2 : tie.Need-add-float-at-2
+add-float-at-2 c = search needs
+
+float-at-requires-2 : tie.Need-float-at-requires-2
+float-at-requires-2 c κs = search needs
+
 returns : tie.Need-returns
 unfolding lengthAt
-returns c = simp (← c .before .word-at .ensures, ← c .float-at .ensures)
+returns c = simp (← c .before .before .word-at .ensures, ← c .before .float-at .ensures, ← c .float-at2 .ensures)
 
 pub length-at-spec : {M : Type 1} → statement M
-length-at-spec = tie.close (tie.spec word-at-requires add-float-at float-at-requires returns)
+length-at-spec =
+    tie.close
+    (tie.spec
+    word-at-requires
+    add-float-at
+    float-at-requires
+    add-float-at-2
+    float-at-requires-2
+    returns)

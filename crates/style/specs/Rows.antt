@@ -1,0 +1,27 @@
+-- Sums worked out by hand (request #105), the same in every field; `proofs/Computed.antt` computes each. Assumes nothing.
+use mathlib.Core.Path.{_≡_}
+use lib.Ieee.{Float, ofBits, binary32}
+use Rattle.util.specs.Number.{0f}
+use Rattle.style.specs.declared.resolve.Field.{Field}
+use Rattle.style.specs.declared.resolve.Resolved.{Resolved}
+use Rattle.style.specs.declared.resolve.Resolved.the-variants.{Length}
+use Rattle.style.specs.Resolve.{resolved}
+
+-- what a sum comes to: basis × value + second value
+abbrev pub sumIn : Field → Float → Float → Float → Resolved
+sumIn f basis value second = resolved f (record { tag = 129; value = value; second = second }) basis
+
+abbrev pub SumRows : Type 0
+SumRows =
+    (f : Field)
+    -- half of 800 less 12: 388
+    → (sumIn f (ofBits binary32 0x4448_0000) (ofBits binary32 0x3F00_0000) (ofBits binary32 0xC140_0000) ≡ Length (ofBits binary32 0x43C2_0000))
+    -- a tenth of 10 less 1: 0, for the product is rounded first, to 1. Rounded once, it would be 1.5 × 10⁻⁸
+    × (sumIn f (ofBits binary32 0x4120_0000) (ofBits binary32 0x3DCC_CCCD) (ofBits binary32 0xBF80_0000) ≡ Length 0f)
+    -- the whole of 2²⁴ and 1: the sum is rounded too, to 2²⁴
+    × (sumIn f (ofBits binary32 0x4B80_0000) (ofBits binary32 0x3F80_0000) (ofBits binary32 0x3F80_0000) ≡ Length (ofBits binary32 0x4B80_0000))
+    -- nothing of an infinite basis, and 12: no number, as nothing of it is; not 12, and not absent
+    × (sumIn f (ofBits binary32 0x7F80_0000) 0f (ofBits binary32 0x4140_0000) ≡ Length (ofBits binary32 0x7FC0_0000))
+    -- half of 800 and an infinite second value: infinite; less the infinite basis: no number
+    × (sumIn f (ofBits binary32 0x4448_0000) (ofBits binary32 0x3F00_0000) (ofBits binary32 0x7F80_0000) ≡ Length (ofBits binary32 0x7F80_0000))
+    × (sumIn f (ofBits binary32 0x7F80_0000) (ofBits binary32 0x3F00_0000) (ofBits binary32 0xFF80_0000) ≡ Length (ofBits binary32 0x7FC0_0000))
