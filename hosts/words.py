@@ -50,17 +50,24 @@ CANDIDATE, LAYOUT = "tree_record/specs/Candidate.antt", "tree_record/specs/Layou
 STATE, ANSWER = "oof_c_words/specs/StateWords.antt", "oof_c_words/specs/AnswerWords.antt"
 PIXELS, REACH, FOUND = "pixels/specs/Told.antt", "reach/specs/Told.antt", "oof_c_words/specs/CheckWords.antt"
 SIDES = ["LEFT", "RIGHT", "TOP", "BOTTOM"]
-known = {}
-for name in ("lengthWords", "lengths", "codeWords", "afterLengths", "styleWords"):
+AT = r"(\w+|\([^()]*\))"  # a word's number, as it is written
+known = {"layerWord": number(CANDIDATE, "layerWord")}
+for name in re.findall(r"^abbrev pub (\w+) : ℕ$", text(RECORD), re.M):
     known[name] = eval(body(RECORD, name)[0][1], {}, known)
-known["layerWord"] = number(CANDIDATE, "layerWord")
 
 
-def place(record, field, at):
-    """The number behind `field = at r NUMBER` in a definition's text."""
-    found = re.search(rf"\b{field} = [^;]*?\b{at} (?:r|w) (\([^()]*\)|\w+)", record)
+def word_of(written):
+    """The number of a word, as it is written by the names of the style record: `(tagWord 4)`, `ratioWord`."""
+    (length, right), = body(RECORD, "tagWord")
+    tag = lambda m: str(eval(right, {length: int(m[1])}, known))
+    return eval(re.sub(r"\btagWord (\d+)", tag, written), {}, known)
+
+
+def place(record, field, of):
+    """The number behind `field = of r NUMBER` in a definition's text."""
+    found = re.search(rf"\b{field} = [^;]*?\b{of} (?:r|w) {AT}", record)
     assert found, f"no {field} in {record}"
-    return eval(found[1], {}, known)
+    return word_of(found[1])
 
 
 def style():
@@ -71,16 +78,16 @@ def style():
     for field, prefix in (("size", ""), ("min", "MIN_"), ("max", "MAX_")):
         first = place(record, field, "sizeAt")
         out |= {prefix + "WIDTH": first, prefix + "HEIGHT": first + known["lengthWords"]}
-    present, ratio = re.findall(r"\(r (\w+|\([^()]*\))\)", body(DECODE, "ratioAt")[0][1])
-    out |= {"RATIO_PRESENT": eval(present, {}, known), "RATIO": eval(ratio, {}, known)}
-    word = lambda of: eval(re.search(rf"{of} \(r (\([^()]*\))\)", record)[1], {}, known)
+    present, ratio = re.findall(rf"\(r {AT}\)", body(DECODE, "ratioAt")[0][1])
+    out |= {"RATIO_PRESENT": word_of(present), "RATIO": word_of(ratio)}
+    word = lambda of: word_of(re.search(rf"{of} \(r {AT}\)", record)[1])
     out |= {"BOX_SIZING": word("sizingOf"), "FLAGS": word("bit0"), "DIRECTION": word("directionOf"), "CONTAIN": word("containOf")}
     assert word("bit0") == word("bit1")
     for field in ("justify", "align"):
         first = place(record, field, "alignAt")
         out |= {field.upper(): first, field.upper() + "_SAFETY": first + 1}
-    for axis, at in re.findall(r"(x|y) = overflowOf \(r (\([^()]*\))\)", body(DECODE, "overflowAt")[0][1]):
-        out["OVERFLOW_" + axis.upper()] = eval(at, {}, known)
+    for axis, written in re.findall(rf"(x|y) = overflowOf \(r {AT}\)", body(DECODE, "overflowAt")[0][1]):
+        out["OVERFLOW_" + axis.upper()] = word_of(written)
     out["SCROLLBAR_WIDTH"] = word("scrollbar = ofBits binary32")
     return {"STYLE_" + name: at for name, at in out.items()}
 
