@@ -152,8 +152,8 @@ layered = (
     ])
 
 
-# two columns with a gutter of 24 between them, as designers write them. A label and a rule stand half the area less 12 from an edge; a note
-# ends 8 before the panel, since its right inset is the whole width and 8 more
+# two columns with a gutter of 24 between them, as designers write them. A label stands half the area less 12 from the left and from the top,
+# a box so from the right; a note ends 8 before the panel, since its right inset is the whole width and 8 more
 column = part(0.5, -36)
 summed = (
     opening(800, 480, x=16, y=40, overflow=(SCROLL, SCROLL)), [
@@ -250,7 +250,7 @@ ABOUT = {
 
 # ---- the limits
 
-# lengths that all come to few pixels: widths by 800, heights by 480
+# a sum in each length of item 0, and in item 1 sums that come to a negative size, which its min raises above its max
 every_length = (
     opening(800, 480), [
         item(style(
