@@ -1,4 +1,4 @@
--- The law on boxes that are computed: its hypotheses can be met, and those on percentages and ratio are needed. Assumes nothing.
+-- The law on boxes that are computed: its hypotheses can be met, and those on percentages, sums and ratio are needed. Assumes nothing.
 use mathlib.Core.Path.{_≡_, refl, sym, _∙_}
 use mathlib.Core.List.{[], _∷_}
 use mathlib.Core.Bool.{true, false, false≢true}
@@ -60,8 +60,9 @@ whole n = ofInt binary32 (pos n)
 abbrev quarters : ℕ → Float
 quarters n = fin false n (negsuc 1)
 
+-- the second value of these may be anything
 abbrev tagged : ℕ → Float → CompactLength
-tagged t x = record { tag = t; value = x }
+tagged t x = record { tag = t; value = x; second = nan }
 
 abbrev px : ℕ → CompactLength
 px n = tagged 1 (whole n)
@@ -173,6 +174,11 @@ narrow = containerOf (quarters 1) 0f Ltr
 abbrev percentage : Style
 percentage = styleOf (across auto auto) none none (across (tagged 5 (ofBits binary32 1028443341)) (px 0)) (auto by px 20) None keyword.Normal Ltr
 
+-- and a sum with nothing
+abbrev percentageAndNothing : Style
+percentageAndNothing =
+    styleOf (across auto auto) none none (across (record { tag = 129; value = ofBits binary32 1028443341; second = 0f }) (px 0)) (auto by px 20) None keyword.Normal Ltr
+
 -- 0.1, which is no whole number of quarters
 abbrev tenth : Float
 tenth = ofBits binary32 1036831949
@@ -197,10 +203,11 @@ computed :
     × (eq (leftmost (laid narrow percentage (candidateAt 0f Start) empty)) (leftmost (laidImage narrow percentage (candidateAt 0f Start) empty)) ≡ false)
     × (eq (leftmost (laid narrow tall (candidateAt 0f Start) noReplies)) (leftmost (laidImage narrow tall (candidateAt 0f Start) noReplies)) ≡ false)
     × (eq (leftmost (laid narrow measured (candidateAt 0f Start) (replied tenth))) (leftmost (laidImage narrow measured (candidateAt 0f Start) (replied tenth))) ≡ false)
+    × (eq (leftmost (laid narrow percentageAndNothing (candidateAt 0f Start) empty)) (leftmost (laidImage narrow percentageAndNothing (candidateAt 0f Start) empty)) ≡ false)
     × (laid panel filled (candidateAt 0f Start) noReplies .layout .padding ≡ record { left = whole 3; right = 0f; top = 0f; bottom = 0f })
     × (laidImage panel filled (candidateAt 0f Start) noReplies .layout .padding ≡ record { left = 0f; right = whole 3; top = 0f; bottom = 0f })
 unfolding add sub mul div neg lt le eq isNan ofBits ofInt zeroOf before larger smaller magnitude present orElse unwrapOr map mapAdd mapLarger atMost atLeast clamped mapClamped rectOrZero sumX sumY sums rectSum smallerSize definite bothPresent firstSize filledSize addedSize raisedSize clampedSize clampedFloats completed withRatio byTag resolved maybeResolved resolvedRect resolvedSize selfRelative clampedSpace clampedSpaces definiteSpaces fromResolved alignIn centeredBlock staticBlock insetBlock startIsWeaker repaired block bothInsets stretchFit stretching stretches isStretch halves filledMargins margins isNormal alignEdge limit keptWithin selfAligned staticAligned positionIn position placement ofWidth ofEachAxis lessOffset horizontal vertical paddingOrBorder styleSize minSize lessMargins spaceFor resolvedBox byKeyword ofResolved keywordOf absoluteStretch ifAbsent keywordsOf propagates reach placedAt contribution keywordStretch sizeKeywords settled ignoresRatio stretchRatio widened heightened raisedMin stretched finalSize scrollbarOf layoutOf fromOrigin boxLayout knownBy stretchedBy sizeBy layoutAfter otherDirection exchangedLengths imageContainer imageStyle edgeSum imageCandidate reflected reflectedPlace otherAlign otherEdge
-computed = (refl, refl, refl, refl, refl, refl)
+computed = (refl, refl, refl, refl, refl, refl, refl)
 
 -- ---- the hypotheses can be met
 
@@ -226,10 +233,13 @@ met =
     })
     hc (image-is-exact panel (candidateAt 0f Start) hb hc) (record { keyword = exactly 121 tt (refl, refl); fill = tt }) (record { left = zero; right = zero })
 
--- ---- without percentages, without ratio and with sizes of whole quarters only
+-- ---- without percentages, without sums, without ratio and with sizes of whole quarters only
 
 percentages-are-left-out : MirroredBox (narrow .area) (laid narrow percentage (candidateAt 0f Start) empty) (laidImage narrow percentage (candidateAt 0f Start) empty) → ⊥
 percentages-are-left-out h = false≢true (sym (computed .1) ∙ h .contribution .left)
+
+sums-are-left-out : MirroredBox (narrow .area) (laid narrow percentageAndNothing (candidateAt 0f Start) empty) (laidImage narrow percentageAndNothing (candidateAt 0f Start) empty) → ⊥
+sums-are-left-out h = false≢true (sym (computed .4) ∙ h .contribution .left)
 
 a-ratio-is-left-out : MirroredBox (narrow .area) (laid narrow tall (candidateAt 0f Start) noReplies) (laidImage narrow tall (candidateAt 0f Start) noReplies) → ⊥
 a-ratio-is-left-out h = false≢true (sym (computed .2) ∙ h .contribution .left)

@@ -76,7 +76,8 @@ module _ (f : Field) (l : CompactLength) (basis : Float) (h : QuarterLength l) w
       either QuarterResolved (eqb (l .tag) 1) (λ e. at 1 e)
       (λ _. either QuarterResolved (eqb (l .tag) 3) (λ _. auto-quarter f)
       (λ _. either QuarterResolved (eqb (l .tag) 5) (λ e. absurd (at 5 e))
-      (λ _. from-size-quarter f (inSize (l .tag) (l .value) basis) in-size-quarter)))
+      (λ _. either QuarterResolved (eqb (l .tag) 129) (λ e. absurd (at 129 e))
+      (λ _. from-size-quarter f (inSize (l .tag) (l .value) basis) in-size-quarter))))
 
 value-quarter : (r : Resolved) → QuarterResolved r → MaybeQuarters 16384 (valueOf r)
 value-quarter NotAllowed h = tt

@@ -26,10 +26,10 @@ use Rattle.util_exact.specs.Value.{_≐_, Quarter}
 pub data TagRule : Type 0 where
   wholeQuarters leftOut free : TagRule
 
--- pixels (1) and a fit-content limit in pixels (43) are whole quarters, percentages (5, 15) are left out, and the value of any other
--- tag may be anything
+-- pixels (1) and a fit-content limit in pixels (43) are whole quarters, percentages (5, 15) and sums with one (129) are left out, and the
+-- value of any other tag may be anything. So may every second value: it is of sums alone
 abbrev pub ruleOf : ℕ → TagRule
-ruleOf tag = cond (eqb tag 1 || eqb tag 43) wholeQuarters (cond (eqb tag 5 || eqb tag 15) leftOut free)
+ruleOf tag = cond (eqb tag 1 || eqb tag 43) wholeQuarters (cond (eqb tag 5 || eqb tag 15 || eqb tag 129) leftOut free)
 
 abbrev pub Keeps : TagRule → Float → Type 0
 Keeps wholeQuarters x = Quarter x

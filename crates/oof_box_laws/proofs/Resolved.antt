@@ -30,7 +30,7 @@ use Rattle.oof_axis.specs.Axis.{fromResolved}
 use Rattle.oof_axis.specs.declared.OofAlignment.the-variants as align
 use Rattle.oof_resolve.specs.Resolved.{ofWidth, ofEachAxis, lessOffset, horizontal, vertical, paddingOrBorder, styleSize, minSize, resolvedBox}
 use Rattle.oof_box.specs.Box.{_by_}
-use Rattle.oof_box_laws.specs.Resolved.{IsAuto, IsAutoSize, ScrollsBy, AxesOfTheBlock, AutoSidesAreNone, AlignedBy, AlignmentOfTheStyle, Comes, asPixels, asPercent, paddingBorderOf, leftOut, SizesOfItsBox, AutoIsNoSize, RatioCompletes, PercentagesOfTheWidth, InsetsOfTheirAxis}
+use Rattle.oof_box_laws.specs.Resolved.{IsAuto, IsAutoSize, ScrollsBy, AxesOfTheBlock, AutoSidesAreNone, AlignedBy, AlignmentOfTheStyle, Comes, asPixels, asPercent, asSum, paddingBorderOf, leftOut, SizesOfItsBox, AutoIsNoSize, RatioCompletes, PercentagesOfTheWidth, InsetsOfTheirAxis}
 
 -- ---- axes
 
@@ -62,6 +62,7 @@ comes-to : (f : Field) (l : CompactLength) (basis x : Float) → Comes basis l x
 unfolding maybeResolved resolved byTag
 comes-to f _ basis _ (asPixels) = refl
 comes-to f _ basis _ (asPercent) = refl
+comes-to f _ basis _ (asSum) = refl
 
 comes-or-zero : (f : Field) (l : CompactLength) (basis x : Float) → Comes basis l x → orZero (maybeResolved f l basis) ≡ x
 unfolding unwrapOr

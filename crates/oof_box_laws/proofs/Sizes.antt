@@ -361,7 +361,8 @@ unfolding keywordOf ofResolved resolved byTag
 no-size-keyword l stretch basis (inl e) = rw e refl
 no-size-keyword l stretch basis (inr (inl e)) = rw e refl
 no-size-keyword l stretch basis (inr (inr (inl e))) = rw e refl
-no-size-keyword l stretch basis (inr (inr (inr e))) = rw e refl
+no-size-keyword l stretch basis (inr (inr (inr (inl e)))) = rw e refl
+no-size-keyword l stretch basis (inr (inr (inr (inr e)))) = rw e refl
 
 none-if-absent : (m : MaybeF32) (k : SizingKeywordResolution) → k ≡ NoKeyword → ifAbsent m k ≡ NoKeyword
 unfolding ifAbsent

@@ -92,9 +92,9 @@ GivenSizeStays =
     (box .size .width ≡ Some x → SizeAlways (λ s. s .width ≡ x) container style candidate)
     × (box .size .height ≡ Some x → SizeAlways (λ s. s .height ≡ x) container style candidate)
 
--- neither a ratio nor a size keyword has a say: each side is in pixels, a percentage, or auto
+-- neither a ratio nor a size keyword has a say: each side is in pixels, a percentage, a sum of both, or auto
 abbrev pub NoSizeKeyword : CompactLength → Type 0
-NoSizeKeyword l = (l .tag ≡ 1) ⊎ ((l .tag ≡ 5) ⊎ IsAutoSize l)
+NoSizeKeyword l = (l .tag ≡ 1) ⊎ ((l .tag ≡ 5) ⊎ ((l .tag ≡ 129) ⊎ IsAutoSize l))
 
 pub record Plain (style : Style) : Type 0 where
   pub ratio : style .ratio ≡ None

@@ -32,12 +32,6 @@ use Rattle.oof_resolve.specs.declared.ResolvedBox.{ResolvedBox}
 
 -- ---- lengths, by tag
 
-abbrev pub pixels : Float → CompactLength
-pixels x = record { tag = 1; value = x }
-
-abbrev pub percent : Float → CompactLength
-percent x = record { tag = 5; value = x }
-
 -- auto; of a max it is called none
 abbrev pub IsAuto : CompactLength → Type 0
 IsAuto l = l .tag ≡ 3
@@ -46,10 +40,12 @@ IsAuto l = l .tag ≡ 3
 abbrev pub IsAutoSize : CompactLength → Type 0
 IsAutoSize l = (l .tag ≡ 3) ⊎ (l .tag ≡ 35)
 
--- what a length comes to: pixels are themselves, a percentage is of the basis
+-- what a length comes to: pixels are themselves, a percentage is of the basis, a sum is a percentage and its second value. The second
+-- value of the other two may be any
 pub data Comes (basis : Float) : CompactLength → Float → Type 0 where
-  asPixels : {x : Float} → Comes basis (pixels x) x
-  asPercent : {x : Float} → Comes basis (percent x) (basis ⊗ x)
+  asPixels : {x any : Float} → Comes basis (record { tag = 1; value = x; second = any }) x
+  asPercent : {x any : Float} → Comes basis (record { tag = 5; value = x; second = any }) (basis ⊗ x)
+  asSum : {x y : Float} → Comes basis (record { tag = 129; value = x; second = y }) (basis ⊗ x ⊕ y)
 
 -- ---- the two axes
 
