@@ -1,5 +1,5 @@
 //! One run of `compute_oof_layout_for_area` over a scripted tree, written down as a dialogue.
-use crate::case::{self, bits, float, Area, Case, Refused, CANDIDATE, LAYOUT, UNLAYERED};
+use crate::case::{self, bits, float, Area, Case, Refused, Sums, CANDIDATE, LAYOUT, UNLAYERED};
 use crate::compute::common::scrollable_overflow::compute_scrollable_overflow_contribution;
 use crate::compute::oof::compute_oof_layout_for_area;
 use crate::{
@@ -67,6 +67,7 @@ pub struct Transcript {
 struct Script<'h> {
     container: Style,
     styles: Vec<Style>,
+    sums: Sums,
     area: Area,
     /// The union of the contributions so far
     overflow: Rect<f32>,
@@ -82,11 +83,13 @@ pub fn run(case: &Case, host: &mut dyn Host) -> Result<Transcript, Refused> {
     if n > 1024 {
         return Err(2);
     }
-    let styles = case.styles.iter().map(case::style).collect::<Result<Vec<_>, _>>()?;
+    let mut sums = Sums::default();
+    let styles = case.styles.iter().map(|w| case::style(w, &mut sums)).collect::<Result<Vec<_>, _>>()?;
     let candidates = case.candidates.iter().map(|w| case::candidate(w, n)).collect::<Result<Vec<_>, _>>()?;
     let container = Style { overflow: area.overflow, ..Style::DEFAULT };
     let out = Transcript { layouts: vec![None; n], ..Default::default() };
-    let mut tree = Script { container, styles, area, overflow: Rect::ZERO, surfaced: OofCandidates::NONE, host, out };
+    let (overflow, surfaced) = (Rect::ZERO, OofCandidates::NONE);
+    let mut tree = Script { container, styles, sums, area, overflow, surfaced, host, out };
     tree.sweep(&candidates);
     let (direction, claims) = (tree.area.direction, tree.area.claims);
     let area = OofPositioningArea { size: tree.area.size, offset: tree.area.offset };
@@ -180,6 +183,9 @@ impl LayoutPartialTree for Script<'_> {
 
     fn get_core_container_style(&self, _: NodeId) -> &Style {
         &self.container
+    }
+    fn resolve_calc_value(&self, handle: *const (), basis: f32) -> f32 {
+        self.sums.resolve(handle, basis)
     }
     fn set_unrounded_layout(&mut self, node: NodeId, layout: &Layout) {
         let words = layout_words(layout);

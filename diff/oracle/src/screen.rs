@@ -1,12 +1,12 @@
 //! Document 01's screen file: what `boxlist` must print for it, by the published Rust. Also random screens.
-use crate::case::{float, Case, CANDIDATE, STYLE};
+use crate::case::{at, float, Case, CANDIDATE, LENGTH, LENGTHS, STYLE, SUM};
 use crate::host::Random;
 use crate::run::{run, Host, Kind, Question};
 
 const LIMIT: i64 = 9_999_999;
-/// The style words that hold floats; the candidate words too
+/// The style words that hold floats, a length's two values among them whatever its tag; the candidate words too
 fn style_float(i: usize) -> bool {
-    (i < 44 && i % 2 == 1) || i == 45 || i == 55
+    (i < LENGTH * LENGTHS && i % LENGTH != 0) || i == at::RATIO || i == at::SCROLLBAR
 }
 fn candidate_float(i: usize) -> bool {
     matches!(i, 3 | 4 | 8 | 9)
@@ -125,8 +125,24 @@ pub fn list(text: &[u8]) -> String {
     out + "overflow" + &t.overflow.map(number).concat() + "\n"
 }
 
-/// A random screen; about one in three is damaged
-pub fn random(r: &mut Random) -> Vec<u8> {
+/// A second value of some length, or the length as a sum. Now and then a tag beside a sum's, or a second value that is too large.
+fn with_second(tag: i64, value: i64, sums: &mut Random) -> [i64; LENGTH] {
+    let signed = |sums: &mut Random, top: u32| sums.draw(2 * top + 1) as i64 - top as i64;
+    if sums.draw(8) == 0 {
+        // most often a factor whose sums are whole eighths
+        let factor = [8, 8, -8, 16, 0, 4, 4, signed(sums, 12)][sums.draw(8) as usize];
+        return [SUM as i64, factor, signed(sums, 800)];
+    }
+    let any = LIMIT * signed(sums, 32767) / 32767;
+    match sums.draw(6000) {
+        0..6 => [[4, 6, 128, 130, 385][sums.draw(5) as usize], value, any],
+        6 => [tag, value, LIMIT + 1],
+        _ => [tag, value, any],
+    }
+}
+
+/// A random screen; about one in three is damaged. Sums and second values come from `sums`, so that no other word depends on them.
+pub fn random(r: &mut Random, sums: &mut Random) -> Vec<u8> {
     let (n, m) = (r.draw(4) as i64, r.draw(6) as i64);
     let n = if r.draw(12) == 0 { r.draw(128) as i64 + 1 } else { n };
     let mut rows: Vec<Vec<i64>> = vec![];
@@ -139,7 +155,7 @@ pub fn random(r: &mut Random) -> Vec<u8> {
     rows.push(head);
     for _ in 0..n {
         let mut f = vec![];
-        for i in 0..22 {
+        for i in 0..LENGTHS {
             let tags: &[i64] = if i < 8 {
                 &[1, 1, 3, 3, 5]
             } else if i < 16 {
@@ -155,7 +171,7 @@ pub fn random(r: &mut Random) -> Vec<u8> {
             } else {
                 size(r, if i < 16 { 80 } else { 6000 })
             };
-            f.extend([flip(r, 900, tag), value]);
+            f.extend(with_second(flip(r, 900, tag), value, sums));
         }
         let ratio = (r.draw(5) == 0) as i64;
         let codes = [
