@@ -5,7 +5,7 @@ use crate::rng::Rng;
 use crate::side::{question, Difference};
 use crate::words::{Library, Said, Words};
 use oof::ffi::state;
-use oracle::case::{float, CANDIDATE, LAYER, LAYOUT, NAN, STYLE};
+use oracle::case::{float, CANDIDATE, LAYER, LAYOUT, LENGTH, LENGTHS, NAN, STYLE, SUM};
 use oracle::gen;
 use oracle::host::{Profile, Random};
 use oracle::run::{Host, Kind};
@@ -13,18 +13,22 @@ use oracle::run::{Host, Kind};
 /// Where a call is damaged
 #[derive(Copy, Clone, PartialEq, Debug)]
 pub enum Family {
-    /// Of an opening: codes of the area; lengths of slices; words of styles and candidates; layers; room; several of these
+    /// Of an opening: codes of the area; lengths of slices; words of styles; sums; words of candidates; layers; room; several of
+    /// these
     OpenCodes,
     OpenLengths,
     OpenStyles,
+    OpenSums,
     OpenCandidates,
     OpenLayers,
     OpenRoom,
     OpenSeveral,
-    /// Of a reply: its kind; lengths; rewritten styles; rewritten working list; surfaced records; layers; several of these
+    /// Of a reply: its kind; lengths; rewritten styles; rewritten sums; rewritten working list; surfaced records; layers; several of
+    /// these
     ReplyKind,
     ReplyLengths,
     ReplyStyles,
+    ReplySums,
     ReplyWorking,
     ReplySurfaced,
     ReplyLayers,
@@ -37,10 +41,11 @@ pub enum Family {
 }
 use Family::*;
 
-pub const FAMILIES: [(Family, &str); 18] = [
+pub const FAMILIES: [(Family, &str); 20] = [
     (OpenCodes, "opening: codes of the area"),
     (OpenLengths, "opening: lengths of slices"),
     (OpenStyles, "opening: words of styles"),
+    (OpenSums, "opening: sums"),
     (OpenCandidates, "opening: words of candidates"),
     (OpenLayers, "opening: layers"),
     (OpenRoom, "opening: lists just too small"),
@@ -48,6 +53,7 @@ pub const FAMILIES: [(Family, &str); 18] = [
     (ReplyKind, "reply: of another kind"),
     (ReplyLengths, "reply: lengths of slices"),
     (ReplyStyles, "reply: styles rewritten"),
+    (ReplySums, "reply: sums"),
     (ReplyWorking, "reply: working list rewritten"),
     (ReplySurfaced, "reply: surfaced records"),
     (ReplyLayers, "reply: layers"),
@@ -81,7 +87,10 @@ pub fn one(
     noticed: &mut bool,
 ) -> Result<(), Difference> {
     let (mut words, mut host) = lend(rng);
-    if matches!(family, OpenCodes | OpenLengths | OpenStyles | OpenCandidates | OpenLayers | OpenRoom | OpenSeveral) {
+    if matches!(
+        family,
+        OpenCodes | OpenLengths | OpenStyles | OpenSums | OpenCandidates | OpenLayers | OpenRoom | OpenSeveral
+    ) {
         // over noise, or over the state of an open run
         if rng.one_in(2) && Library::default().open(&mut words) != 0 {
             return Err("a good opening is refused".to_string());
@@ -239,6 +248,7 @@ fn damage_opening(family: Family, w: &mut Words, rng: &mut Rng) {
             }
         }
         OpenStyles => rewrite_style(w, rng),
+        OpenSums => rewrite_sum(w, rng),
         OpenCandidates => {
             let items = w.items() as u32;
             rewrite_record(&mut w.candidates, items, rng);
@@ -255,7 +265,8 @@ fn damage_opening(family: Family, w: &mut Words, rng: &mut Rng) {
         }
         _ => {
             for _ in 0..2 + rng.below(2) {
-                let part = rng.of(&[OpenCodes, OpenLengths, OpenStyles, OpenCandidates, OpenLayers, OpenRoom]);
+                let part =
+                    rng.of(&[OpenCodes, OpenLengths, OpenStyles, OpenSums, OpenCandidates, OpenLayers, OpenRoom]);
                 damage_opening(part, w, rng);
             }
         }
@@ -298,10 +309,33 @@ fn rewrite_style(w: &mut Words, rng: &mut Rng) {
     }
     // tags and codes three times out of four
     let mut at = rng.below(w.styles.len() as u32) as usize;
-    if !rng.one_in(4) && at % STYLE < 44 {
-        at -= at % STYLE % 2;
+    if !rng.one_in(4) && at % STYLE < LENGTH * LENGTHS {
+        at -= at % STYLE % LENGTH;
     }
     w.styles[at] = if rng.one_in(3) { w.styles[at] ^ (1 << rng.below(32)) } else { rng.code() };
+}
+
+/// One length with a tag that is none, for the most part; as a sum; or with another second value, which has no rule. Or old styles.
+fn rewrite_sum(w: &mut Words, rng: &mut Rng) {
+    if w.items() == 0 {
+        return;
+    }
+    let from = STYLE * rng.below(w.items() as u32) as usize + LENGTH * rng.below(LENGTHS as u32) as usize;
+    let length = &mut w.styles[from..from + LENGTH];
+    match rng.below(8) {
+        0 => drop_seconds(&mut w.styles),
+        1 => length.copy_from_slice(&[SUM, rng.next() as u32, rng.next() as u32]),
+        2 => length[2] = rng.next() as u32,
+        _ => length[0] = rng.of(&BESIDE_SUM),
+    }
+}
+/// The neighbours of a sum's tag, words with its low byte, and the Rust's own tags of calc and of fit-content with calc
+const BESIDE_SUM: [u32; 7] = [128, 130, 385, 0x8181, 0x8000_0081, 4, 6];
+
+/// Styles of 57 words, as they were before there were second values
+fn drop_seconds(styles: &mut Vec<u32>) {
+    let has_none = |word: usize| word >= LENGTH * LENGTHS || word % LENGTH != 2;
+    *styles = (0..styles.len()).filter(|at| has_none(at % STYLE)).map(|at| styles[at]).collect();
 }
 
 fn rewrite_record(list: &mut [u32], items: u32, rng: &mut Rng) {
@@ -370,6 +404,7 @@ fn damage_reply(family: Family, said: &mut Said, w: &mut Words, rng: &mut Rng) {
             }
         }
         ReplyStyles => rewrite_style(w, rng),
+        ReplySums => rewrite_sum(w, rng),
         ReplyWorking => {
             let items = w.items() as u32;
             rewrite_record(&mut w.working, items, rng);
@@ -395,6 +430,7 @@ fn damage_reply(family: Family, said: &mut Said, w: &mut Words, rng: &mut Rng) {
                     ReplyLengths,
                     ReplyStyles,
                     ReplyStyles,
+                    ReplySums,
                     ReplyWorking,
                     ReplyWorking,
                     ReplySurfaced,

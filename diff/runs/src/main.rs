@@ -4,8 +4,8 @@
 //!
 //! CASES (20,000 unless said) are run of each profile, CALLS (as many as CASES) are damaged in each family, and 50 large cases
 //! are run. Then one bit of what the library says is flipped in each of 2,000 runs of each profile, and in 200 refused calls of
-//! each family: all must be noticed. The first difference is printed with its case, and the exit status is 1. With --figures
-//! the counts of each part are printed.
+//! each family: all must be noticed. The first difference is printed with its case, and the exit status is 1; so it is if no sum
+//! stood in some length. With --figures the counts of each part are printed.
 mod damage;
 mod model;
 mod rng;
@@ -13,7 +13,7 @@ mod side;
 mod typed;
 mod words;
 
-use oracle::case::{Case, CANDIDATE, STYLE};
+use oracle::case::{at, Case, CANDIDATE, LENGTH, LENGTHS, STYLE};
 use oracle::gen;
 use oracle::host::Profile;
 use rng::Rng;
@@ -79,33 +79,35 @@ fn small_case(profile: Profile, seed: u64, number: u64) -> (Case, Setting, Rng) 
 /// Makes the styles take branches that the profiles seldom take: what stretches, with a ratio or as a table; what is centered
 /// or overflows between two insets; static centers
 fn lean(case: &mut Case, profile: Profile, rng: &mut Rng) {
-    const AUTO: [u32; 2] = [3, 0];
+    const AUTO: u32 = 3;
     const STRETCH: u32 = 9;
     for style in &mut case.styles {
         let which = rng.below(4);
         for side in 0..4 {
+            let inset = &mut style[at::INSET + LENGTH * side..];
             if which == 3 {
-                style[2 * side..][..2].copy_from_slice(&AUTO);
-            } else if style[2 * side] == 3 {
-                style[2 * side..][..2].copy_from_slice(&[1, (rng.below(200) as f32 * 0.25).to_bits()]);
+                (inset[0], inset[1]) = (AUTO, 0);
+            } else if inset[0] == AUTO {
+                (inset[0], inset[1]) = (1, (rng.below(200) as f32 * 0.25).to_bits());
             }
         }
         match which {
             0 | 1 => {
                 let lone = rng.below(4) as usize; // one side may keep its size
                 for axis in (0..2).filter(|&axis| axis != lone) {
-                    style[32 + 2 * axis..][..2].copy_from_slice(&AUTO);
+                    let size = &mut style[at::SIZE + LENGTH * axis..];
+                    (size[0], size[1]) = (AUTO, 0);
                 }
-                for keyword in [49, 51] {
+                for keyword in [at::JUSTIFY, at::ALIGN] {
                     style[keyword] = rng.of(&[STRETCH, STRETCH, 0, 10, 7]);
                 }
-                style[47] = if which == 1 { 2 + rng.below(2) } else { rng.of(&[0, 0, 1]) };
+                style[at::FLAGS] = if which == 1 { 2 + rng.below(2) } else { rng.of(&[0, 0, 1]) };
                 if profile != Profile::Quarter && rng.one_in(2) {
-                    (style[44], style[45]) = (1, rng.of(&[0.5f32, 1.0, 1.5, 2.0]).to_bits());
+                    (style[at::RATIO_PRESENT], style[at::RATIO]) = (1, rng.of(&[0.5f32, 1.0, 1.5, 2.0]).to_bits());
                 }
             }
             2 => {
-                for keyword in [49, 51] {
+                for keyword in [at::JUSTIFY, at::ALIGN] {
                     (style[keyword], style[keyword + 1]) = (rng.of(&[1, 2, 5, 6, 7, 7]), rng.below(3));
                 }
             }
@@ -126,9 +128,10 @@ fn break_code(case: &mut Case, rng: &mut Rng) {
     match rng.below(3) {
         0 => case.area[4 + rng.below(4) as usize] = code,
         1 => {
-            let at = rng.below(case.styles.len() as u32) as usize;
+            let item = rng.below(case.styles.len() as u32) as usize;
             let word = rng.below(STYLE as u32) as usize;
-            case.styles[at][if word < 44 { word & !1 } else { word }] = code;
+            // of a length, its tag
+            case.styles[item][if word < LENGTH * LENGTHS { word - word % LENGTH } else { word }] = code;
         }
         _ => {
             let at = rng.below(case.candidates.len() as u32) as usize;
@@ -179,9 +182,11 @@ fn all_profiles(o: &Options) -> Counted {
     let mut all = Counted::default();
     let show = |name: &str, seen: &Counted| {
         if o.figures {
-            let Counted { cases, boxes, questions: q, surfaced, unclaimed, words, nans, signs, refused } = seen;
+            let Counted { cases, boxes, questions: q, surfaced, unclaimed, words, nans, signs, refused, .. } = seen;
             println!("{name}: {cases} cases, {boxes} boxes, {surfaced} surfaced, {unclaimed} unclaimed, questions {q:?} (both, width, height, lay out)");
             println!("    {words} words compared, {nans} NaNs in layouts, {signs} zeros of another sign; openings refused {:?} (1 to 4)", &refused[1..5]);
+            let Counted { with_sums, styles, styles_with_sums, sums, .. } = seen;
+            println!("    {with_sums} runs by sums: {styles_with_sums} of {styles} styles, in each length {sums:?}");
         }
     };
     for (name, profile) in Profile::NAMES {
@@ -272,16 +277,29 @@ fn sabotage(o: &Options) -> u64 {
     runs + calls
 }
 
+/// A sum stood in every length of a style that a box was placed by, if there were so many cases of each profile
+fn every_length_held_a_sum(o: &Options, seen: &Counted) {
+    const LONG_ENOUGH: u64 = 1000;
+    let none: Vec<usize> = (0..LENGTHS).filter(|&length| seen.sums[length] == 0).collect();
+    if o.cases >= LONG_ENOUGH && !none.is_empty() {
+        println!("NO SUM in the lengths {none:?}");
+        exit(1);
+    }
+}
+
 fn main() {
     let o = options();
     let seen = all_profiles(&o);
+    every_length_held_a_sum(&o, &seen);
     let calls = damaged(&o);
     let flips = sabotage(&o);
     println!(
-        "diff/runs: seed {}: {} runs agree with the Rust ({} boxes, {} questions), {calls} damaged calls with document 01's table; {flips} flipped bits, all noticed",
+        "diff/runs: seed {}: {} runs agree with the Rust ({} boxes, {} questions; {} styles with sums, {} sums or more in each length), {calls} damaged calls with document 01's table; {flips} flipped bits, all noticed",
         o.seed,
         seen.cases,
         seen.boxes,
         seen.questions.iter().sum::<u64>(),
+        seen.styles_with_sums,
+        seen.sums.iter().min().unwrap(),
     );
 }

@@ -5,10 +5,21 @@
 use crate::words::{Said, Words};
 use oracle::run::Kind;
 
-// Words of a record
-const STYLE: usize = 57;
+// Words of a record; a style has 22 lengths of three words, tag, value and second value, and 13 words
+const STYLE: usize = 79;
+const LENGTH: usize = 3;
 const CANDIDATE: usize = 14;
 const LAYOUT: usize = 23;
+
+// Places in a style, behind the lengths
+const RATIO_PRESENT: usize = 66;
+const BOX_SIZING: usize = 68;
+const FLAGS: usize = 69;
+const DIRECTION: usize = 70;
+const JUSTIFY: usize = 71;
+const ALIGN: usize = 73;
+const OVERFLOW: usize = 75;
+const CONTAIN: usize = 78;
 
 // Places in a candidate
 const NODE: usize = 0;
@@ -111,25 +122,26 @@ fn bad_styles(styles: &[u32]) -> bool {
     styles.chunks(STYLE).any(bad_style)
 }
 fn bad_style(w: &[u32]) -> bool {
+    // a sum, tag 129, may stand everywhere; values and second values have no rule
     let tag_is_bad = |length: usize| {
         let tags: &[u32] = match length {
-            0..=7 => &[1, 3, 5],                         // inset, margin
-            8..=15 => &[1, 5],                           // padding, border
-            _ => &[1, 3, 5, 11, 15, 27, 35, 43, 59, 75], // size, min, max
+            0..=7 => &[1, 3, 5, 129],                         // inset, margin
+            8..=15 => &[1, 5, 129],                           // padding, border
+            _ => &[1, 3, 5, 11, 15, 27, 35, 43, 59, 75, 129], // size, min, max
         };
-        !tags.contains(&w[2 * length])
+        !tags.contains(&w[LENGTH * length])
     };
-    let alignment_is_bad = |keyword: u32, safety: u32| keyword > 10 || (keyword != 10 && safety > 2);
+    let alignment_is_bad = |at: usize| w[at] > 10 || (w[at] != 10 && w[at + 1] > 2);
     (0..22).any(tag_is_bad)
-        || w[44] > 1 // ratio present
-        || w[46] > 1 // box sizing
-        || w[47] > 3 // flags
-        || w[48] > 1 // direction
-        || alignment_is_bad(w[49], w[50])
-        || alignment_is_bad(w[51], w[52])
-        || w[53] > 3 // overflow
-        || w[54] > 3
-        || w[56] > 255 // contain
+        || w[RATIO_PRESENT] > 1
+        || w[BOX_SIZING] > 1
+        || w[FLAGS] > 3
+        || w[DIRECTION] > 1
+        || alignment_is_bad(JUSTIFY)
+        || alignment_is_bad(ALIGN)
+        || w[OVERFLOW] > 3
+        || w[OVERFLOW + 1] > 3
+        || w[CONTAIN] > 255
 }
 
 /// Edges and safeties are 0 to 2, a layer 0 to 255

@@ -5,7 +5,7 @@ use crate::rng::Rng;
 use crate::typed;
 use crate::words::{Library, Said, Words};
 use oof::ffi::state;
-use oracle::case::{bits, float, Case, CANDIDATE, LAYER, LAYOUT};
+use oracle::case::{at::SIZE, bits, float, Case, CANDIDATE, LAYER, LAYOUT, LENGTH, LENGTHS, STYLE, SUM};
 use oracle::host::{Profile, Random};
 use oracle::run::{run, Host, Kind, Question, Space, Transcript};
 use std::ops::AddAssign;
@@ -25,6 +25,24 @@ pub struct Counted {
     pub words: u64,
     pub nans: u64,
     pub signs: u64,
+    /// Runs that placed a box by a sum; styles that boxes were placed by, those of them with a sum, and sums in each length
+    pub with_sums: u64,
+    pub styles: u64,
+    pub styles_with_sums: u64,
+    pub sums: [u64; LENGTHS],
+}
+impl Counted {
+    /// The sums of a run: of each item that was placed, once
+    fn sums(&mut self, case: &Case, rust: &Transcript) {
+        let before = self.styles_with_sums;
+        for (style, _) in case.styles.iter().zip(&rust.layouts).filter(|(_, layout)| layout.is_some()) {
+            let sums: Vec<usize> = (0..LENGTHS).filter(|&length| style[LENGTH * length] == SUM).collect();
+            sums.iter().for_each(|&length| self.sums[length] += 1);
+            self.styles += 1;
+            self.styles_with_sums += u64::from(!sums.is_empty());
+        }
+        self.with_sums += u64::from(self.styles_with_sums > before);
+    }
 }
 impl AddAssign<&Counted> for Counted {
     fn add_assign(&mut self, o: &Counted) {
@@ -35,6 +53,10 @@ impl AddAssign<&Counted> for Counted {
         self.words += o.words;
         self.nans += o.nans;
         self.signs += o.signs;
+        self.with_sums += o.with_sums;
+        self.styles += o.styles;
+        self.styles_with_sums += o.styles_with_sums;
+        (0..LENGTHS).for_each(|i| self.sums[i] += o.sums[i]);
         (0..7).for_each(|i| self.refused[i] += o.refused[i]);
         (0..4).for_each(|i| self.questions[i] += o.questions[i]);
     }
@@ -100,6 +122,7 @@ pub fn compare(
     }
     seen.boxes += rust.hoisted.len() as u64;
     seen.unclaimed += rust.unclaimed.len() as u64;
+    seen.sums(case, &rust);
     if library.saboteur.is_some() {
         return Ok(());
     }
@@ -211,8 +234,8 @@ impl Side<'_> {
             w.state[state::BEGUN] += 1;
         }
         // two size keywords that are measured are one question; any other that measures both is step 6's
-        let style = &w.styles[57 * q.node as usize..];
-        let keywords = [style[32], style[34]].iter().all(|tag| [11, 15, 27, 43, 59].contains(tag));
+        let style = &w.styles[STYLE * q.node as usize..];
+        let keywords = [style[SIZE], style[SIZE + LENGTH]].iter().all(|tag| [11, 15, 27, 43, 59].contains(tag));
         w.state[state::PROGRESS] = match q.kind {
             Kind::Both if keywords => 1,
             Kind::Both => 4,
