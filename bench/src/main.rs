@@ -155,7 +155,7 @@ fn places(items: usize) -> [Option<BadWord>; 4] {
     [None, at(0, 0), at(0, STYLE - 1), at(items - 1, STYLE - 1)]
 }
 
-/// A table with a bad word: no tag as word 0, no contain as word 56
+/// A table with a bad word: no tag as word 0, no contain as the last word
 fn with_bad(scene: &Scene, place: Option<BadWord>) -> Words {
     let mut words = Words::new(scene);
     if let Some(BadWord { item, word }) = place {
@@ -262,7 +262,10 @@ fn main() {
         one_call(rounds, items);
     }
     println!();
-    println!("| items | one sum of the table | called | a good table | bad at 0:0 | bad at 0:56 | bad at last:56 |");
+    let last = STYLE - 1;
+    println!(
+        "| items | one sum of the table | called | a good table | bad at 0:0 | bad at 0:{last} | bad at last:{last} |"
+    );
     println!("|---|---|---|---|---|---|---|");
     for items in ITEMS {
         bad_words(rounds, items);

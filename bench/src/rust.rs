@@ -20,7 +20,9 @@ impl Tree {
     pub fn new(scene: &Scene) -> Tree {
         let area = case::area(&scene.area).unwrap();
         let container = Style { overflow: area.overflow, ..Style::DEFAULT };
-        let styles: Vec<Style> = scene.styles.iter().map(|w| case::style(w).unwrap()).collect();
+        // there is no sum in a scene
+        let mut sums = case::Sums::default();
+        let styles: Vec<Style> = scene.styles.iter().map(|w| case::style(w, &mut sums).unwrap()).collect();
         let candidates = scene.candidates.iter().map(|w| case::candidate(w, styles.len()).unwrap()).collect();
         let layouts = vec![Layout::with_order(0); styles.len()];
         Tree { area, container, styles, candidates, layouts, questions: 0 }

@@ -1,4 +1,4 @@
-//! What is placed: words from the generator of plausible CSS, every candidate claimed, none surfaced.
+//! What is placed: words from the generator of plausible CSS, without sums, every candidate claimed, none surfaced.
 use oracle::case::{CANDIDATE, STYLE};
 use oracle::gen;
 use oracle::host::Profile;
@@ -14,11 +14,11 @@ pub struct Scene {
 
 /// So many items, and so many boxes that go through them in turn
 pub fn scene(seed: u64, items: usize, boxes: usize) -> Scene {
-    let (mut case, _) = gen::case(Profile::Typical, seed, 0);
+    let (mut case, _) = gen::case_without_sums(Profile::Typical, seed, 0);
     let mut number = 0;
     while case.styles.len() < items || case.candidates.len() < boxes {
         number += 1;
-        let more = gen::case(Profile::Typical, seed, number).0;
+        let more = gen::case_without_sums(Profile::Typical, seed, number).0;
         case.styles.extend(more.styles);
         case.candidates.extend(more.candidates);
     }
