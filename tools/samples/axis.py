@@ -10,6 +10,9 @@ import ctypes, random, struct, subprocess, sys
 
 oracle = sys.argv[1]
 AUTO = 1 << 32
+# words of a length, the tag of a sum, and where a style's margins (a length) and codes stand
+LENGTH, SUM = 3, 129
+MARGIN, DIRECTION, JUSTIFY = 4, 70, 71
 here = sys.argv[0].rsplit('/', 1)[0]
 
 def f32(word): return struct.unpack('<f', struct.pack('<I', word))[0]
@@ -19,16 +22,18 @@ def run(args, text=None): return subprocess.run(args, input=text, capture_output
 def words(line): return [int(w, 0) for w in line.split()[1:]]
 
 def length(style, i, basis):
-    tag, value = style[i:i + 2]
+    tag, value, second = style[LENGTH * i:][:LENGTH]
     if tag == 3: return AUTO
-    # a product of two floats is exact as a double, so it is rounded once
-    return plain(bits(f32(value) * f32(basis)) if tag == 5 else value)
+    if tag == 1: return plain(value)
+    # a product of two floats is exact as a double, so it is rounded once; a sum of two is rounded to a double first, to no other float
+    product = bits(f32(value) * f32(basis))
+    return plain(bits(f32(product) + f32(second)) if tag == SUM else product)
 
 def axis(area, style, cand, y):
-    keyword, safety = style[49 + 2 * y:51 + 2 * y]
+    keyword, safety = style[JUSTIFY + 2 * y:][:2]
     if keyword == 10: keyword, safety = 0, 0
-    if keyword in (5, 6): keyword = keyword - 4 if y or style[48] == area[4] else 7 - keyword
-    return [plain(area[y])] + [length(style, 4 * y + k, area[y]) for k in (0, 2)] + [length(style, 8 + 4 * y + k, area[0]) for k in (0, 2)] \
+    if keyword in (5, 6): keyword = keyword - 4 if y or style[DIRECTION] == area[4] else 7 - keyword
+    return [plain(area[y])] + [length(style, 2 * y + k, area[y]) for k in (0, 1)] + [length(style, MARGIN + 2 * y + k, area[0]) for k in (0, 1)] \
         + [plain(w) for w in cand[3 + 5 * y:5 + 5 * y]] + cand[5 + 5 * y:8 + 5 * y] + [keyword, safety, int(not y), int(not y and area[4] == 1), int(area[6 + y] >= 2)]
 
 def boxes(profile, seed, wanted):

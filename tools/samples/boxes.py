@@ -9,18 +9,21 @@ pixels, any float bits, plausible CSS), `ORACLE run` lays them out and prints qu
 prints cases that lean to the rare branches. A case has one item and one candidate, so that the finish rectangle is the box's
 contribution, joined with zeros. Run at the root of the repository, then `rt fmt`.
 
-A box of the first sample is 127 words of 32 bits, little end first:
+A box of the first sample is 149 words of 32 bits, little end first:
 
-    0 style (57)   57 area (8)   65 finish (4)
-    69 stages, in digits of base 8, the last one highest: keyword both 1, width 2, height 3, step 6 4, lay out 5
-    70 candidate (14)   84 replies: keyword (2), step 6 (2), overflow (4)   92 layout (23)
-    115 questions: known or final width and height, space across and down (3 times 4)
+    0 style (79)   79 area (8)   87 finish (4)
+    91 stages, in digits of base 8, the last one highest: keyword both 1, width 2, height 3, step 6 4, lay out 5
+    92 candidate (14)   106 replies: keyword (2), step 6 (2), overflow (4)   114 layout (23)
+    137 questions: known or final width and height, space across and down (3 times 4)
 
 Of zeros the sign is dropped, every NaN is 7FC00000. A size that isn't known is FFFFFFFF, min-content FFFFFFFE, max-content FFFFFFFD."""
 import struct, subprocess, sys
 
 oracle = sys.argv[1]
 here = sys.argv[0].rsplit('/', 1)[0]
+# words of a box, and where a style has its size's tags
+BOX, SIZE = 149, (48, 51)
+MEASURED = 11, 15, 27, 43, 59
 NONE, MIN, MAX = 0xFFFFFFFF, 0xFFFFFFFE, 0xFFFFFFFD
 NAMES = {'none': NONE, 'min': MIN, 'max': MAX}
 
@@ -52,7 +55,7 @@ def keyword_is_asked(style, asks):
     """Whether the first question is one for size keywords: a width or height question is; one for both is where both tags are
     keywords that are measured (in step 6 a side with such a tag is never absent)."""
     kind = asks[0][0]
-    return kind in ('width', 'height') or kind == 'both' and style[32] in (11, 15, 27, 43, 59) and style[34] in (11, 15, 27, 43, 59)
+    return kind in ('width', 'height') or kind == 'both' and all(style[tag] in MEASURED for tag in SIZE)
 
 def record(box):
     area, style, cand, asks, replies, layout, finish = box
@@ -65,13 +68,13 @@ def record(box):
     code = sum(d * 8 ** i for i, d in enumerate(path))
     w = style + area + [plain(x) for x in finish] + [code] + cand + keyword + fill + overflow + [plain(x) for x in layout] \
         + [plain(x) for x in (questions + [0] * 12)[:12]]
-    assert len(w) == 127
+    assert len(w) == BOX
     return w
 
 profiles = (('quarter', 21), ('typical', 22), ('wild', 23), ('directed', 24))
 with open('crates/test_oof_box/stdin', 'wb') as f:
     for profile, seed in profiles:
-        for box in boxes(profile, seed, 500): f.write(struct.pack('<127I', *record(box)))
+        for box in boxes(profile, seed, 500): f.write(struct.pack('<%dI' % BOX, *record(box)))
 
 HEAD = '''-- %d boxes that the Rust laid out (profile %s, seed %d): what was given, asked, replied and found.
 -- Made by tools/samples/boxes.py: edit that, not this. Assumes nothing.

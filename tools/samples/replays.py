@@ -15,15 +15,21 @@ import pathlib
 import subprocess
 import sys
 
-STYLE, CANDIDATE, LAYOUT = 57, 14, 23
+STYLE, CANDIDATE, LAYOUT = 79, 14, 23
+# words of a length: tag, value, second value
+LENGTH = 3
 LAYER, MOST_LAYER = 13, 255
 HERE = pathlib.Path(__file__).resolve().parents[2] / "hosts" / "c"
 NOWHERE = 0xFFFFFFFF
 KINDS = {"both": 0, "width": 1, "height": 2, "layout": 3}
-LENGTHS = [{1, 3, 5}] * 8 + [{1, 5}] * 8 + [{1, 3, 5, 11, 15, 27, 35, 43, 59, 75}] * 6
+LENGTHS = [{1, 3, 5, 129}] * 8 + [{1, 5, 129}] * 8 + [{1, 3, 5, 11, 15, 27, 35, 43, 59, 75, 129}] * 6
+# tags that are none: the low byte of 1 or of 129, the neighbours of 129, the Rust's own of calc and of fit-content with calc
+NO_TAGS = [257, 385, 128, 130, 4, 6]
 # layers that are none: the first one, one whose low byte is 1, 2 ^ 31, a NaN, the highest word
 BAD_LAYERS = [256, 257, 0x80000000, 0x7FC00001, 0xFFFFFFFF]
-CODES = {44: 1, 46: 1, 47: 3, 48: 1, 49: 10, 51: 10, 53: 3, 54: 3, 56: 255}
+# the highest code of each word behind the lengths, and where the two keywords stand
+CODES = {66: 1, 68: 1, 69: 3, 70: 1, 71: 10, 73: 10, 75: 3, 76: 3, 78: 255}
+KEYWORDS = 71, 73
 
 
 class Draw:
@@ -46,9 +52,9 @@ class Draw:
 def style_bad(styles):
     for at in range(0, len(styles), STYLE):
         r = styles[at:at + STYLE]
-        if any(r[2 * i] not in tags for i, tags in enumerate(LENGTHS)) or any(r[k] > most for k, most in CODES.items()):
+        if any(r[LENGTH * i] not in tags for i, tags in enumerate(LENGTHS)) or any(r[k] > most for k, most in CODES.items()):
             return True
-        if any(r[k] != 10 and r[k + 1] > 2 for k in (49, 51)):
+        if any(r[k] != 10 and r[k + 1] > 2 for k in KEYWORDS):
             return True
     return False
 
@@ -238,9 +244,10 @@ def replay(script, draw, case, answer):
         if which == 0 or asked is None:
             kind = draw.pick([k for k in range(4) if k != asked])
         elif which == 1 and not mending:
-            at = STYLE * draw.below(n) + draw.pick([0, 16, 32, 46, 49, 56])
-            style, mend = (at, 257), ((at, styles[at]), (NOWHERE, 0))
-            damaged = styles[:at] + [257] + styles[at + 1:]
+            word = draw.pick([0, 24, 48, 68, 71, 78])
+            at, bad = STYLE * draw.below(n) + word, 257 if word in CODES else draw.pick(NO_TAGS)
+            style, mend = (at, bad), ((at, styles[at]), (NOWHERE, 0))
+            damaged = styles[:at] + [bad] + styles[at + 1:]
         elif which == 2 and not mending:
             word = draw.pick([0, 2, 5, 12, LAYER])
             at, bad = CANDIDATE * draw.below(counts[0]) + word, draw.pick(BAD_LAYERS) if word == LAYER else 5
@@ -315,7 +322,7 @@ def refuse_opening(script, draw, case):
         elif which == 2:
             candidates = candidates[:-1]
         elif which == 3:
-            styles[STYLE * draw.below(n) + draw.pick([0, 2, 18, 40, 44, 53])] = 12
+            styles[STYLE * draw.below(n) + draw.pick([0, 3, 27, 60, 66, 75])] = 12
         elif which == 4 and len(candidates) >= CANDIDATE:
             word = draw.pick([0, 2, 6, 11, LAYER])
             candidates[word] = draw.pick(BAD_LAYERS) if word == LAYER else 5
