@@ -1,10 +1,11 @@
--- Document 01's rows: 10 to 13 through the definition of one box, and with 1 to 9 (specs/AxisRows.antt) the row set, which is one test.
+-- Document 01's rows: 10 to 13 through the definition of one box, and with 1 to 9 (specs/AxisRows.antt) the row set, which is one test; and
+-- rows for request #105's sums.
 -- Block size 100, margins 0, left-to-right unless said. Each box has a height, so that it asks nothing but to be laid out, unless its width
 -- is auto. Assumes nothing.
 use Prim.Native.Nat.{ℕ}
 use mathlib.Core.Bool.{Bool, true, false, _&&_}
 use mathlib.Core.List.{List, [], _∷_, _++_}
-use lib.Ieee.{Float, nan, eq, neg}
+use lib.Ieee.{Float, nan, eq, neg, ofBits, binary32}
 use Rattle.util.specs.Number.{0f}
 use Rattle.util.specs.declared.math.MaybeF32.{MaybeF32}
 use Rattle.util.specs.declared.math.MaybeF32.the-variants.{None, Some}
@@ -35,10 +36,10 @@ use Rattle.test_oof_box_rows.specs.AxisRows.{px, axisRows}
 -- ---- what is given
 
 abbrev pub length : Float → CompactLength
-length x = record { tag = 1; value = x }
+length x = record { tag = 1; value = x; second = 0f }
 
 abbrev pub auto : CompactLength
-auto = record { tag = 3; value = 0f }
+auto = record { tag = 3; value = 0f; second = 0f }
 
 abbrev pub sides : CompactLength → CompactLength → CompactLength → LengthRect
 sides left right others = record { left = left; right = right; top = others; bottom = others }
@@ -166,9 +167,46 @@ overflowRows =
     ∷ adds (containerOf Ltr Scroll) (outside 40) 50 0 (neg (px 40)) (px 10) (px 10)
     ∷ []
 
+-- ---- request #105: a sum of a percentage and a length, the area being 100 by 100
+
+-- half the area less so many pixels
+abbrev pub halfLess : ℕ → CompactLength
+halfLess n = record { tag = 129; value = ofBits binary32 0x3F00_0000; second = neg (px n) }
+
+unfoldable pub standsAt : Style → ℕ → Bool
+standsAt style x = eq (outcome 0 0 (placed (containerOf Ltr Visible) style candidate) .outcome .layout .location .x) (px x)
+
+-- the first question is to measure the height, the width being known
+unfoldable pub asksHeight : ℕ → Talk Placed → Bool
+asksHeight w (done p) = false
+asksHeight w (ask (MeasureBoth m) next) = false
+asksHeight w (ask (MeasureWidth m) next) = false
+asksHeight w (ask (MeasureHeight m) next) = is (m .known .width) w
+asksHeight w (ask (LayOut l) next) = false
+
+-- width half less 12, height min-content, max width as given
+unfoldable pub halfWide : CompactLength → Style
+halfWide max = boxOf auto auto (record { width = halfLess 12; height = record { tag = 11; value = 0f; second = 0f } }) auto max (length 0f)
+
+unfoldable pub sumRows : List Bool
+sumRows =
+    -- the width; a min above it, a max below it
+    hasWidth (boxOf auto auto (tenHigh (halfLess 12)) auto auto (length 0f)) 38
+    ∷ hasWidth (boxOf auto auto (tenHigh (length (px 10))) (halfLess 12) auto (length 0f)) 38
+    ∷ hasWidth (boxOf auto auto (tenHigh (length (px 90))) auto (halfLess 12) (length 0f)) 38
+    -- padding: the least width
+    ∷ hasMin (boxOf auto auto (tenHigh auto) auto auto (halfLess 12)) 38
+    -- left inset; right inset, 40 wide
+    ∷ standsAt (boxOf (halfLess 12) auto (tenHigh (length (px 40))) auto auto (length 0f)) 38
+    ∷ standsAt (boxOf auto (halfLess 12) (tenHigh (length (px 40))) auto auto (length 0f)) 22
+    -- it is a number, no keyword: the height alone is measured, the width being the sum, clamped
+    ∷ asksHeight 38 (placed (containerOf Ltr Visible) (halfWide auto) candidate)
+    ∷ asksHeight 30 (placed (containerOf Ltr Visible) (halfWide (length (px 30))) candidate)
+    ∷ []
+
 -- the row set: 1 to 11 are the starred ones
 unfoldable pub rows : List Bool
-rows = axisRows ++ boxRows ++ overflowRows
+rows = axisRows ++ boxRows ++ overflowRows ++ sumRows
 
 unfoldable pub all : List Bool → Bool
 all [] = true
