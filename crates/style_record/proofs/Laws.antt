@@ -10,9 +10,9 @@ use borrow.Author.Tests.{leb-true, leb-false}
 use Rattle.util.proofs.Floats.{no}
 use Rattle.style_record.specs.Record.{lengthKinds, codeKinds, item}
 use Rattle.style_record.specs.Check.{breaks, ItemCheck, NoWord, Word, firstBroken, checked}
-use Rattle.style_record.specs.Decode.{styleAt}
+use Rattle.style_record.specs.Decode.{lengthAt, rectAt, sizeAt, alignAt, ratioAt, overflowAt, styleOf, styleAt}
 use Rattle.style_record.specs.Encode.{lengthWordsOf, rectWordsOf, sizeWordsOf, alignWordsOf, encoded, kept}
-use Rattle.style_record.specs.Laws.{WidthsAgree, AllGood, NoneBreaks, First, ItemGoodIsNone, GoodIsNone, BadIsFirst, SomeIsFound, EachWordIsRead, EachFieldIsWritten, DecodingIsExact}
+use Rattle.style_record.specs.Laws.{WidthsAgree, AllGood, NoneBreaks, First, ItemGoodIsNone, GoodIsNone, BadIsFirst, SomeIsFound, EachWordAtItsIndex, EachWordIsRead, EachFieldIsWritten, DecodingIsExact}
 use Rattle.style_record.specs.declared.check.TableCheck.{TableCheck}
 use Rattle.style_record.specs.declared.check.TableCheck.the-variants as table
 use Rattle.style_record.proofs.First.{ItemIs, item-good, item-bad, item-is, TableIs, good, bad, table-is}
@@ -110,6 +110,31 @@ some-is-found s i k p q e = go (checked s) (table-is s) refl
     go _ (bad j l f) x = (j, l, x)
 
 -- ---- the decoding
+
+pub each-word-at-its-index : EachWordAtItsIndex
+unfolding styleOf rectAt sizeAt lengthAt ratioAt alignAt overflowAt
+each-word-at-its-index r =
+    record {
+      inset = record { left = refl; right = refl; top = refl; bottom = refl };
+      margin = record { left = refl; right = refl; top = refl; bottom = refl };
+      padding = record { left = refl; right = refl; top = refl; bottom = refl };
+      border = record { left = refl; right = refl; top = refl; bottom = refl };
+      size = record { width = refl; height = refl };
+      min = record { width = refl; height = refl };
+      max = record { width = refl; height = refl };
+      ratioAbsent = λ e. rw e refl;
+      ratioPresent = λ e. rw e refl;
+      sizing = refl;
+      replaced = refl;
+      table = refl;
+      direction = refl;
+      justify = refl;
+      align = refl;
+      overflowX = refl;
+      overflowY = refl;
+      scrollbar = refl;
+      contain = refl;
+    }
 
 pub each-word-is-read : EachWordIsRead
 unfolding styleAt kept breaks

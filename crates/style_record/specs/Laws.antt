@@ -7,7 +7,7 @@ use mathlib.Core.Bool.{true, false, not, _&&_}
 use mathlib.Core.List.{List, _++_}
 use lib.ListN.{getD, length}
 use lib.Dec.{T, ltb}
-use lib.Ieee.{fits, binary32}
+use lib.Ieee.{fits, ofBits, binary32}
 use Rattle.util.specs.declared.math.MaybeF32.{MaybeF32}
 use Rattle.util.specs.declared.math.MaybeF32.the-variants.{None, Some}
 use Rattle.style.specs.declared.compact_length.CompactLength.{CompactLength}
@@ -16,6 +16,7 @@ use Rattle.style.specs.declared.compact_length.LengthSize.{LengthSize}
 use Rattle.style.specs.declared.Style.{Style}
 use Rattle.style.specs.declared.resolve.Field.{Field}
 use Rattle.style.specs.declared.resolve.Field.the-variants.{InsetOrMargin, PaddingOrBorder, Size, MinOrMax}
+use Rattle.style.specs.Codes.{sizingOf, overflowOf, directionOf, alignmentOf, bit0, bit1, containOf}
 use Rattle.style.specs.Laws.{tagsOf, among}
 use Rattle.style_record.specs.Record.{lengthWords, codeWords, afterLengths, styleWords, lengthKinds, codeKinds, kindOf, items}
 use Rattle.style_record.specs.Check.{breaksAs, breaks, NoWord, firstBroken, checked}
@@ -127,7 +128,47 @@ BehindIsNext = (s t : List ℕ) (n : ℕ) → length s ≡ styleWords * n → ch
 abbrev pub PartIsPassedOver : Type 0
 PartIsPassedOver = (s t : List ℕ) (n : ℕ) → length s ≡ styleWords * n → length t < styleWords → checked (s ++ t) ≡ checked s
 
--- ---- the decoding: `encoded` has document 01's words in their order, which is to be read there, and decoding is its inverse. So no word is
+-- ---- the decoding, by the number of each word
+
+abbrev pub lengthOf : ℕ → ℕ → ℕ → CompactLength
+lengthOf tag value second = record { tag = tag; value = ofBits binary32 value; second = ofBits binary32 second }
+
+pub record SidesAt (r : ℕ → ℕ) (from : ℕ) (sides : LengthRect) : Type 0 where
+  pub left : sides .left ≡ lengthOf (r from) (r (from + 1)) (r (from + 2))
+  pub right : sides .right ≡ lengthOf (r (from + 3)) (r (from + 4)) (r (from + 5))
+  pub top : sides .top ≡ lengthOf (r (from + 6)) (r (from + 7)) (r (from + 8))
+  pub bottom : sides .bottom ≡ lengthOf (r (from + 9)) (r (from + 10)) (r (from + 11))
+
+pub record SizesAt (r : ℕ → ℕ) (from : ℕ) (sizes : LengthSize) : Type 0 where
+  pub width : sizes .width ≡ lengthOf (r from) (r (from + 1)) (r (from + 2))
+  pub height : sizes .height ≡ lengthOf (r (from + 3)) (r (from + 4)) (r (from + 5))
+
+-- document 01's order, with three words a length: where each field of a style is read
+pub record WordsOf (r : ℕ → ℕ) (y : Style) : Type 0 where
+  pub inset : SidesAt r 0 (y .inset)
+  pub margin : SidesAt r 12 (y .margin)
+  pub padding : SidesAt r 24 (y .padding)
+  pub border : SidesAt r 36 (y .border)
+  pub size : SizesAt r 48 (y .size)
+  pub min : SizesAt r 54 (y .min)
+  pub max : SizesAt r 60 (y .max)
+  pub ratioAbsent : r 66 ≡ 0 → y .ratio ≡ None
+  pub ratioPresent : r 66 ≡ 1 → y .ratio ≡ Some (ofBits binary32 (r 67))
+  pub sizing : y .sizing ≡ sizingOf (r 68)
+  pub replaced : y .replaced ≡ bit0 (r 69)
+  pub table : y .table ≡ bit1 (r 69)
+  pub direction : y .direction ≡ directionOf (r 70)
+  pub justify : y .justify ≡ alignmentOf (r 71) (r 72)
+  pub align : y .align ≡ alignmentOf (r 73) (r 74)
+  pub overflowX : y .overflow .x ≡ overflowOf (r 75)
+  pub overflowY : y .overflow .y ≡ overflowOf (r 76)
+  pub scrollbar : y .scrollbar ≡ ofBits binary32 (r 77)
+  pub contain : y .contain ≡ containOf (r 78)
+
+abbrev pub EachWordAtItsIndex : Type 0
+EachWordAtItsIndex = (r : ℕ → ℕ) → WordsOf r (styleOf r)
+
+-- ---- the decoding, word for word: `encoded` has document 01's words in their order, which is to be read there, and decoding is its inverse. So no word is
 -- dropped, none is read as another's, and the words that decoding passes over are those that `kept` names.
 
 -- an item that breaks no rule, decoded and written again

@@ -50,8 +50,32 @@ TagRows =
     × (checked (put 48 59 (put 51 75 (put 54 59 (put 57 75 (put 60 59 (put 63 75 plain)))))) ≡ Good)
     × (checked (put 48 2 plain) ≡ Bad 0 48)
     × (checked (put 54 2 plain) ≡ Bad 0 54)
-    -- a value may be any bits
+    -- a value may be any bits, and so may a second value: a wrong tag there is no tag
     × (checked (put 1 nan (put 64 0xFFFF_FFFF plain)) ≡ Good)
+    × (checked (put 2 nan (put 65 0xFFFF_FFFF plain)) ≡ Good)
+    × (checked (put 1 2 (put 2 2 (put 46 2 (put 47 2 plain)))) ≡ Good)
+
+-- so many lengths with a tag
+abbrev tagged : ℕ → ℕ → List ℕ
+tagged t zero = []
+tagged t (suc n) = t ∷ 0 ∷ 0 ∷ tagged t n
+
+-- request #105's sums: 129 in every length, the whole word
+abbrev pub SumTagRows : Type 0
+SumTagRows =
+    (checked (tagged 129 22 ++ replicate 13 0) ≡ Good)
+    -- its low byte alone is none, nor is a number beside it
+    × (checked (put 0 385 plain) ≡ Bad 0 0)
+    × (checked (put 24 385 plain) ≡ Bad 0 24)
+    × (checked (put 48 385 plain) ≡ Bad 0 48)
+    × (checked (put 63 128 plain) ≡ Bad 0 63)
+    × (checked (put 63 130 plain) ≡ Bad 0 63)
+    -- the Rust's own tags for it, 4 for a sum and 6 for fit-content of one, are none here
+    × (checked (put 0 4 plain) ≡ Bad 0 0)
+    × (checked (put 24 4 plain) ≡ Bad 0 24)
+    × (checked (put 48 4 plain) ≡ Bad 0 48)
+    × (checked (put 48 6 plain) ≡ Bad 0 48)
+    × (checked (put 54 6 plain) ≡ Bad 0 54)
 
 -- ---- the words after the lengths
 
