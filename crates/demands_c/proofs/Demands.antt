@@ -27,7 +27,7 @@ use Rattle.oof_box.specs.declared.question.Question.{Question}
 use Rattle.oof_box.specs.declared.question.Question.the-variants.{MeasureBoth, MeasureWidth, MeasureHeight, LayOut}
 use Rattle.oof_box.specs.declared.question.Reply.{Reply}
 use Rattle.run.specs.Call.{Lent, Outcome, outcome}
-use Rattle.run.specs.Conditions.{FirstIs, NoneHolds, openingTests, replyTests}
+use Rattle.run.specs.Conditions.{itemWords, FirstIs, NoneHolds, openingTests, replyTests}
 use Rattle.run.specs.Run.{closed, begun, opened, replied}
 use Rattle.run.specs.Straight.{Course, ended, asks}
 use Rattle.run.specs.Theorems.{isRefused, oneIfAsked, Heard, Loan, own, other, Turn, turned, next, nextWith, AllLend, Stands, saidAfter, openIn, called, heededIn, courseOf, laidCount}
@@ -250,7 +250,7 @@ drawing-demands lent state before c =
 -- ---- the first bad word
 
 -- a word's number is its own count
-own-count : (k : ℕ) → k < 57 → countWord k ≡ k
+own-count : (k : ℕ) → k < itemWords → countWord k ≡ k
 own-count k h = omega arith
 
 -- 0 isn't 1

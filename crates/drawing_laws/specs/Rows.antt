@@ -6,6 +6,7 @@ use mathlib.Core.Path.{_≡_}
 use lib.ListN.{replicate}
 use Rattle.geometry.specs.Geometry.{zeroPoint, zeroRect, zeroSize}
 use Rattle.refusal.specs.declared.Refusal.the-variants.{BadExtent, BadCandidate}
+use Rattle.style_record.specs.Record.{lengths, codeWords}
 use Rattle.sweep.specs.Sweep.{layersOf}
 use Rattle.oof_box.specs.Cut.{noReplies}
 use Rattle.oof_box.specs.declared.question.Reply.the-variants.{LaidOut}
@@ -28,14 +29,14 @@ candidate position layer = 0 ∷ 0 ∷ position ∷ (replicate 10 0 ++ (layer �
 abbrev panel : Opening
 panel = record { area = record { size = zeroSize; offset = zeroPoint }; direction = 0; claims = 1; overflowx = 0; overflowy = 0 }
 
--- an item with n lengths of 0 pixels
-abbrev lengths : ℕ → List ℕ
-lengths zero = []
-lengths (suc n) = 1 ∷ 0 ∷ lengths n
+-- n lengths of 0 pixels
+abbrev pixels : ℕ → List ℕ
+pixels zero = []
+pixels (suc n) = 1 ∷ 0 ∷ pixels n
 
 -- one item, which is laid out without a measure
 abbrev table : List ℕ
-table = lengths 22 ++ replicate 13 0
+table = pixels lengths ++ replicate codeWords 0
 
 abbrev slices : List ℕ → List ℕ → Lent
 slices working unclaimed = lent table (replicate 23 0) working unclaimed

@@ -1,5 +1,5 @@
 -- The word across from another is of the same kind, so a style's image breaks a rule exactly where the style does. Assumes nothing.
-use Prim.Native.Nat.{ℕ, zero, suc, _+_, _-_, _/_, _%_, _<_, _≤_}
+use Prim.Native.Nat.{ℕ, zero, suc, _+_, _-_, _*_, _/_, _%_, _<_, _≤_}
 use native.Mathlib.Omega.{arith}
 use mathlib.Core.Path.{_≡_, refl, sym, ap, _∙_}
 use mathlib.Core.Bool.{Bool, true, false, cond}
@@ -7,26 +7,28 @@ use lib.Dec.{ltb, leb, eqb}
 use lib.ListN.{getD}
 use borrow.Author.Tests.{ltb-true, ltb-false, leb-true, leb-false, eqb-true, eqb-false, lt-ltb, le-ltb, le-leb, lt-leb, ne-eqb}
 use Rattle.style.specs.declared.resolve.Field.{Field}
-use Rattle.style_record.specs.Record.{number, lengthKinds, lengthField, codeKinds, kindOf, styleWords}
+use Rattle.style_record.specs.Record.{lengthWords, afterLengths, directionWord, number, lengthKinds, lengthField, codeKinds, kindOf, styleWords}
 use Rattle.style_record.specs.Check.{breaksAs, breaksRule}
-use Rattle.mirror_run.specs.Image.{otherDirection, counterpart, boxWords, directionWord, imageStyle}
+use Rattle.mirror_run.specs.Image.{otherDirection, sidesWords, boxWords, counterpart, imageStyle}
 
 -- ---- places
 
 -- a word stands across from itself, or left and right change places
 pub data Place (k : ℕ) : ℕ → Type 0 where
   stays : Place k k
-  toRight : k < boxWords → k % 8 < 2 → Place k (k + 2)
-  toLeft : k < boxWords → 2 ≤ k % 8 → k % 8 < 4 → Place k (k - 2)
+  toRight : k < boxWords → k % sidesWords < lengthWords → Place k (k + lengthWords)
+  toLeft : k < boxWords → lengthWords ≤ k % sidesWords → k % sidesWords < 2 * lengthWords → Place k (k - lengthWords)
 
 pub place : (k : ℕ) → Place k (counterpart k)
 unfolding counterpart
-place k = go (leb boxWords k) (ltb (k % 8) 2) (ltb (k % 8) 4) refl refl refl
+place k = go (leb boxWords k) (ltb (k % sidesWords) lengthWords) (ltb (k % sidesWords) (2 * lengthWords)) refl refl refl
   where
-    go : (b c d : Bool) → leb boxWords k ≡ b → ltb (k % 8) 2 ≡ c → ltb (k % 8) 4 ≡ d → Place k (cond b k (cond c (k + 2) (cond d (k - 2) k)))
+    go : (b c d : Bool) → leb boxWords k ≡ b → ltb (k % sidesWords) lengthWords ≡ c → ltb (k % sidesWords) (2 * lengthWords) ≡ d
+        → Place k (cond b k (cond c (k + lengthWords) (cond d (k - lengthWords) k)))
     go true c d p q r = stays
-    go false true d p q r = toRight (leb-false boxWords k p) (ltb-true (k % 8) 2 q)
-    go false false true p q r = toLeft (leb-false boxWords k p) (ltb-false (k % 8) 2 q) (ltb-true (k % 8) 4 r)
+    go false true d p q r = toRight (leb-false boxWords k p) (ltb-true (k % sidesWords) lengthWords q)
+    go false false true p q r =
+        toLeft (leb-false boxWords k p) (ltb-false (k % sidesWords) lengthWords q) (ltb-true (k % sidesWords) (2 * lengthWords) r)
     go false false false p q r = stays
 
 pub counterpart-there : (k : ℕ) → k < styleWords → counterpart k < styleWords
@@ -38,13 +40,13 @@ counterpart-there k h = go (counterpart k) (place k)
     go _ (toLeft l p q) = omega arith
 
 module _ (k : ℕ) (l : k < boxWords) where
-  on-the-left : k % 8 < 2 → counterpart k ≡ k + 2
+  on-the-left : k % sidesWords < lengthWords → counterpart k ≡ k + lengthWords
   unfolding counterpart
-  on-the-left h = rw (lt-leb boxWords k l, lt-ltb (k % 8) 2 h) refl
+  on-the-left h = rw (lt-leb boxWords k l, lt-ltb (k % sidesWords) lengthWords h) refl
 
-  on-the-right : 2 ≤ k % 8 → k % 8 < 4 → counterpart k ≡ k - 2
+  on-the-right : lengthWords ≤ k % sidesWords → k % sidesWords < 2 * lengthWords → counterpart k ≡ k - lengthWords
   unfolding counterpart
-  on-the-right h m = rw (lt-leb boxWords k l, le-ltb (k % 8) 2 h, lt-ltb (k % 8) 4 m) refl
+  on-the-right h m = rw (lt-leb boxWords k l, le-ltb (k % sidesWords) lengthWords h, lt-ltb (k % sidesWords) (2 * lengthWords) m) refl
 
 -- words after the sides stand across from themselves
 itself : (k : ℕ) → boxWords ≤ k → counterpart k ≡ k
@@ -57,13 +59,13 @@ counterpart-twice k = go (counterpart k) (place k) refl
   where
     go : (m : ℕ) → Place k m → counterpart k ≡ m → counterpart m ≡ k
     go _ stays e = e
-    go _ (toRight l p) e = on-the-right (k + 2) (omega arith) (omega arith) (omega arith) ∙ back k
+    go _ (toRight l p) e = on-the-right (k + lengthWords) (omega arith) (omega arith) (omega arith) ∙ back k
       where
-        back : (k : ℕ) → k + 2 - 2 ≡ k
+        back : (k : ℕ) → k + lengthWords - lengthWords ≡ k
         back k = omega arith
-    go _ (toLeft l p q) e = on-the-left (k - 2) (omega arith) (omega arith) ∙ back k p
+    go _ (toLeft l p q) e = on-the-left (k - lengthWords) (omega arith) (omega arith) ∙ back k p
       where
-        back : (k : ℕ) → 2 ≤ k % 8 → k - 2 + 2 ≡ k
+        back : (k : ℕ) → lengthWords ≤ k % sidesWords → k - lengthWords + lengthWords ≡ k
         back k p = omega arith
 
 -- ---- kinds
@@ -84,14 +86,14 @@ unfolding lengthField
 same-field l m e h =
     rw (same-test l m 8 (λ p. omega arith) (λ p. omega arith), same-test l m 16 (λ p. omega arith) (λ p. omega arith), lt-ltb m 16 (omega arith)) refl
 
-length-kind : (k : ℕ) → k < boxWords → kindOf k ≡ getD (lengthKinds (lengthField (k / 2))) (k % 2) number
+length-kind : (k : ℕ) → k < boxWords → kindOf k ≡ getD (lengthKinds (lengthField (k / lengthWords))) (k % lengthWords) number
 unfolding kindOf
-length-kind k h = rw (lt-ltb k 44 (omega arith)) refl
+length-kind k h = rw (lt-ltb k afterLengths (omega arith)) refl
 
-same-kind : (k m : ℕ) → k < boxWords → m < boxWords → k / 2 / 4 ≡ m / 2 / 4 → k % 2 ≡ m % 2 → kindOf k ≡ kindOf m
+same-kind : (k m : ℕ) → k < boxWords → m < boxWords → k / lengthWords / 4 ≡ m / lengthWords / 4 → k % lengthWords ≡ m % lengthWords → kindOf k ≡ kindOf m
 same-kind k m h l e p =
     length-kind k h
-    ∙ rw (same-field (k / 2) (m / 2) e (omega arith), p) refl
+    ∙ rw (same-field (k / lengthWords) (m / lengthWords) e (omega arith), p) refl
     ∙ sym (length-kind m l)
 
 pub counterpart-kind : (k : ℕ) → kindOf (counterpart k) ≡ kindOf k
@@ -99,8 +101,8 @@ counterpart-kind k = go (counterpart k) (place k)
   where
     go : (m : ℕ) → Place k m → kindOf m ≡ kindOf k
     go _ stays = refl
-    go _ (toRight l p) = same-kind (k + 2) k (omega arith) l (omega arith) (omega arith)
-    go _ (toLeft l p q) = same-kind (k - 2) k (omega arith) l (omega arith) (omega arith)
+    go _ (toRight l p) = same-kind (k + lengthWords) k (omega arith) l (omega arith) (omega arith)
+    go _ (toLeft l p q) = same-kind (k - lengthWords) k (omega arith) l (omega arith) (omega arith)
 
 -- ---- rules
 
@@ -130,7 +132,7 @@ module _ (r : ℕ → ℕ) where
   unfolding breaksRule
   of-lengths k l =
       rw (moved k (λ e. omega arith), counterpart-kind k, length-kind k l)
-      (before-free (lengthField (k / 2)) (k % 2) (imageStyle r (k - 1)) (r (counterpart k - 1)) (r (counterpart k)))
+      (before-free (lengthField (k / lengthWords)) (k % lengthWords) (imageStyle r (k - 1)) (r (counterpart k - 1)) (r (counterpart k)))
 
   after-sides : (k : ℕ) → boxWords ≤ k → breaksRule (imageStyle r) k ≡ breaksRule r k
   unfolding breaksRule breaksAs kindOf lengthKinds codeKinds lengthField imageStyle counterpart

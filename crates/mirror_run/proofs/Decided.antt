@@ -14,7 +14,7 @@ use Rattle.records.proofs.Laws.{every-is}
 use Rattle.tree.specs.declared.layout.OofCandidate.{OofCandidate}
 use Rattle.tree_record.specs.Candidate.{candidateWidth, candidateOf}
 use Rattle.style.specs.declared.compact_length.CompactLength.{CompactLength}
-use Rattle.style_record.specs.Record.{lengthWords, lengths, afterLengths, item, items}
+use Rattle.style_record.specs.Record.{lengths, tagWord, ratioPresentWord, scrollbarWord, item, items}
 use Rattle.style_record.specs.Decode.{lengthAt}
 use Rattle.util_exact.specs.Value.{Quarter}
 use Rattle.mirror_box.specs.Quarter.{TagRule, wholeQuarters, leftOut, free, ruleOf, Keeps}
@@ -62,16 +62,16 @@ abbrev pub isLength : CompactLength → Bool
 isLength l = isKept (ruleOf (l .tag)) (l .value)
 
 abbrev pub isItem : (ℕ → ℕ) → Bool
-isItem word = every lengths (λ l. isLength (lengthAt word (lengthWords * l))) && isQuarter (ofBits binary32 (word (afterLengths + 11))) && not (eqb (word afterLengths) 1)
+isItem word = every lengths (λ l. isLength (lengthAt word (tagWord l))) && isQuarter (ofBits binary32 (word scrollbarWord)) && not (eqb (word ratioPresentWord) 1)
 
 item-decided : (word : ℕ → ℕ) → isItem word ≡ true → QuarterItem word
 item-decided word e =
-    let b = both-true (every lengths (λ l. isLength (lengthAt word (lengthWords * l))) && isQuarter (ofBits binary32 (word (afterLengths + 11)))) (not (eqb (word afterLengths) 1)) e in
-    let c = both-true (every lengths (λ l. isLength (lengthAt word (lengthWords * l)))) (isQuarter (ofBits binary32 (word (afterLengths + 11)))) (b .0) in
+    let b = both-true (every lengths (λ l. isLength (lengthAt word (tagWord l))) && isQuarter (ofBits binary32 (word scrollbarWord))) (not (eqb (word ratioPresentWord) 1)) e in
+    let c = both-true (every lengths (λ l. isLength (lengthAt word (tagWord l)))) (isQuarter (ofBits binary32 (word scrollbarWord))) (b .0) in
     record {
-      each = λ l h. kept-decided (ruleOf (lengthAt word (lengthWords * l) .tag)) (lengthAt word (lengthWords * l) .value) (every-is lengths (λ l. isLength (lengthAt word (lengthWords * l))) .0 (c .0) l h);
-      scrollbar = quarter-decided (ofBits binary32 (word (afterLengths + 11))) (c .1);
-      ratio = eqb-false (word afterLengths) 1 (not-true (eqb (word afterLengths) 1) (b .1));
+      each = λ l h. kept-decided (ruleOf (lengthAt word (tagWord l) .tag)) (lengthAt word (tagWord l) .value) (every-is lengths (λ l. isLength (lengthAt word (tagWord l))) .0 (c .0) l h);
+      scrollbar = quarter-decided (ofBits binary32 (word scrollbarWord)) (c .1);
+      ratio = eqb-false (word ratioPresentWord) 1 (not-true (eqb (word ratioPresentWord) 1) (b .1));
     }
 
 abbrev pub isTable : List ℕ → Bool

@@ -9,8 +9,8 @@ use lib.Seq.{ext-getD}
 use borrow.Author.Tests.{ltb-true, ltb-false, le-ltb, eqb-true, eqb-false, ne-eqb}
 use Rattle.records.specs.Records.{recordAt}
 use Rattle.tree_record.specs.Candidate.{candidateWidth}
-use Rattle.style_record.specs.Record.{styleWords}
-use Rattle.mirror_run.specs.Image.{eachRecord, otherDirection, counterpart, directionWord, imageStyle, imageStyles, imageCandidates}
+use Rattle.style_record.specs.Record.{directionWord, styleWords}
+use Rattle.mirror_run.specs.Image.{eachRecord, otherDirection, counterpart, imageStyle, imageStyles, imageCandidates}
 use Rattle.mirror_run.specs.Laws.{ImageIsAsLong, PartStays, StylesTwice, StylesPass, StylesDecode, CandidatesPass, CandidatesDecode}
 use Rattle.mirror_run.proofs.Words.{listed-word, each-length, each-word}
 use Rattle.mirror_run.proofs.Counterpart.{counterpart-there, counterpart-twice, moved}
@@ -48,7 +48,7 @@ unfolding imageStyle counterpart
 image-twice r r' same k h = go (eqb k directionWord) refl
   where
     go : (b : Bool) → eqb k directionWord ≡ b → imageStyle r' k ≡ r k
-    go true e = let d = eqb-true k directionWord e in rw (d, same directionWord (omega arith)) (direction-twice (r 48))
+    go true e = let d = eqb-true k directionWord e in rw (d, same directionWord (omega arith)) (direction-twice (r directionWord))
     go false e =
         let d = eqb-false k directionWord e in
         moved r' k d ∙ same (counterpart k) (counterpart-there k h) ∙ moved r (counterpart k) (λ x. d (sym (counterpart-twice k) ∙ ap counterpart x)) ∙ ap r (counterpart-twice k)

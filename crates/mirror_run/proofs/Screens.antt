@@ -54,14 +54,18 @@ use Rattle.mirror_run.specs.Runs.{Message, runNext, imageNext, isUnread,
 
 -- ---- words
 
+-- a length by its tag and value
+abbrev lengthOf : ℕ → ℕ → List ℕ
+lengthOf tag value = tag ∷ value ∷ []
+
 abbrev px : ℕ → List ℕ
-px value = 1 ∷ value ∷ []
+px value = lengthOf 1 value
 
 abbrev auto : List ℕ
-auto = 3 ∷ 0 ∷ []
+auto = lengthOf 3 0
 
 abbrev asContent : List ℕ
-asContent = 11 ∷ 0 ∷ []
+asContent = lengthOf 11 0
 
 -- left and right; top and bottom are 0
 abbrev sides : List ℕ → List ℕ → List ℕ

@@ -1,15 +1,15 @@
 -- A table of styles and its image: the same check, and each item decodes to its image. Assumes nothing.
-use Prim.Native.Nat.{ℕ, zero, suc, _+_, _-_, _/_, _<_, _≤_}
+use Prim.Native.Nat.{ℕ, zero, suc, _+_, _-_, _*_, _/_, _<_, _≤_}
 use native.Mathlib.Omega.{arith}
 use mathlib.Core.Path.{_≡_, refl, sym, ap, _∙_}
 use mathlib.Core.Bool.{false}
 use mathlib.Core.List.{List}
-use lib.Dec.{lit<}
+use lib.Dec.{lit<, lit≤}
 use borrow.Author.Tests.{ltb-false}
 use Rattle.util.proofs.Floats.{no}
 use Rattle.style.specs.Codes.{directionOf}
 use Rattle.util.specs.declared.math.MaybeF32.the-variants.{None}
-use Rattle.style_record.specs.Record.{afterLengths, codeKinds, kindOf, styleWords, item, items}
+use Rattle.style_record.specs.Record.{lengthWords, tagWord, ratioPresentWord, ratioWord, boxSizingWord, flagsWord, directionWord, justifyWord, alignWord, overflowXWord, overflowYWord, scrollbarWord, containWord, codeKinds, kindOf, styleWords, item, items}
 use Rattle.style_record.specs.Check.{breaksAs, breaksRule, breaks, checked}
 use Rattle.style_record.specs.Decode.{lengthAt, rectAt, sizeAt, alignAt, ratioAt, overflowAt, styleOf, styleAt}
 use Rattle.style_record.specs.Laws.{NoneBreaks, First}
@@ -24,43 +24,49 @@ use Rattle.mirror_run.proofs.Counterpart.{counterpart-there, counterpar
 -- ---- two records with the same words
 
 module _ (r r' : ℕ → ℕ) (same : (k : ℕ) → k < styleWords → r k ≡ r' k) where
-  same-length : (k : ℕ) → k + 1 < styleWords → lengthAt r k ≡ lengthAt r' k
+  same-length : (k : ℕ) → k + lengthWords ≤ styleWords → lengthAt r k ≡ lengthAt r' k
   unfolding lengthAt
-  same-length k h = rw (same k (omega arith), same (k + 1) h) refl
+  same-length k h = rw (same k (omega arith), same (k + 1) (omega arith)) refl
 
-  same-rect : (k : ℕ) → k + 7 < styleWords → rectAt r k ≡ rectAt r' k
+  same-rect : (k : ℕ) → k + 4 * lengthWords ≤ styleWords → rectAt r k ≡ rectAt r' k
   unfolding rectAt
   same-rect k h =
-      rw (same-length k (omega arith), same-length (k + 2) (omega arith), same-length (k + 4) (omega arith), same-length (k + 6) (omega arith)) refl
+      rw (
+        same-length k (omega arith),
+        same-length (k + lengthWords) (omega arith),
+        same-length (k + 2 * lengthWords) (omega arith),
+        same-length (k + 3 * lengthWords) (omega arith),
+      )
+      refl
 
-  same-size : (k : ℕ) → k + 3 < styleWords → sizeAt r k ≡ sizeAt r' k
+  same-size : (k : ℕ) → k + 2 * lengthWords ≤ styleWords → sizeAt r k ≡ sizeAt r' k
   unfolding sizeAt
-  same-size k h = rw (same-length k (omega arith), same-length (k + 2) (omega arith)) refl
+  same-size k h = rw (same-length k (omega arith), same-length (k + lengthWords) (omega arith)) refl
 
   same-style : styleOf r ≡ styleOf r'
   unfolding styleOf ratioAt alignAt overflowAt
   same-style =
       rw (
-        same-rect 0 (lit< tt),
-        same-rect 8 (lit< tt),
-        same-rect 16 (lit< tt),
-        same-rect 24 (lit< tt),
-        same-size 32 (lit< tt),
-        same-size 36 (lit< tt),
-        same-size 40 (lit< tt),
-        same 44 (lit< tt),
-        same 45 (lit< tt),
-        same 46 (lit< tt),
-        same 47 (lit< tt),
-        same 48 (lit< tt),
-        same 49 (lit< tt),
-        same 50 (lit< tt),
-        same 51 (lit< tt),
-        same 52 (lit< tt),
-        same 53 (lit< tt),
-        same 54 (lit< tt),
-        same 55 (lit< tt),
-        same 56 (lit< tt),
+        same-rect (tagWord 0) (lit≤ tt),
+        same-rect (tagWord 4) (lit≤ tt),
+        same-rect (tagWord 8) (lit≤ tt),
+        same-rect (tagWord 12) (lit≤ tt),
+        same-size (tagWord 16) (lit≤ tt),
+        same-size (tagWord 18) (lit≤ tt),
+        same-size (tagWord 20) (lit≤ tt),
+        same ratioPresentWord (lit< tt),
+        same ratioWord (lit< tt),
+        same boxSizingWord (lit< tt),
+        same flagsWord (lit< tt),
+        same directionWord (lit< tt),
+        same justifyWord (lit< tt),
+        same (justifyWord + 1) (lit< tt),
+        same alignWord (lit< tt),
+        same (alignWord + 1) (lit< tt),
+        same overflowXWord (lit< tt),
+        same overflowYWord (lit< tt),
+        same scrollbarWord (lit< tt),
+        same containWord (lit< tt),
       )
       refl
 
@@ -76,9 +82,9 @@ direction-decoded zero h = refl
 direction-decoded (suc zero) h = refl
 direction-decoded (suc (suc d)) h = absurd (omega arith)
 
-image-decoded : (r : ℕ → ℕ) → r 48 < 2 → styleOf (imageStyle r) ≡ box.imageStyle (styleOf r)
+image-decoded : (r : ℕ → ℕ) → r directionWord < 2 → styleOf (imageStyle r) ≡ box.imageStyle (styleOf r)
 unfolding styleOf rectAt sizeAt lengthAt ratioAt alignAt overflowAt imageStyle counterpart box.imageStyle box.exchangedLengths
-image-decoded r h = rw (direction-decoded (r 48) h) refl
+image-decoded r h = rw (direction-decoded (r directionWord) h) refl
 
 -- ---- a table
 
@@ -123,14 +129,14 @@ module _ (ws : List ℕ) where
       go _ (good a) p = a
       go _ (bad i k f) p = no refl p
 
-  direction-there : badStyle ws ≡ false → (i : ℕ) → i < items ws → item ws i 48 < 2
+  direction-there : badStyle ws ≡ false → (i : ℕ) → i < items ws → item ws i directionWord < 2
   unfolding breaks breaksRule breaksAs kindOf codeKinds
-  direction-there e i h = omega (arith, ltb-false 1 (item ws i 48) (none-breaks e i h 48 (lit< tt)))
+  direction-there e i h = omega (arith, ltb-false 1 (item ws i directionWord) (none-breaks e i h directionWord (lit< tt)))
 
   -- a ratio that isn't present is absent
-  pub no-ratio : badStyle ws ≡ false → (i : ℕ) → i < items ws → (item ws i afterLengths ≡ 1 → ⊥) → ratioAt (item ws i) ≡ None
+  pub no-ratio : badStyle ws ≡ false → (i : ℕ) → i < items ws → (item ws i ratioPresentWord ≡ 1 → ⊥) → ratioAt (item ws i) ≡ None
   unfolding breaks breaksRule breaksAs kindOf codeKinds ratioAt
-  no-ratio e i h d = rw (absent (item ws i 44) (ltb-false 1 (item ws i 44) (none-breaks e i h 44 (lit< tt))) d) refl
+  no-ratio e i h d = rw (absent (item ws i ratioPresentWord) (ltb-false 1 (item ws i ratioPresentWord) (none-breaks e i h ratioPresentWord (lit< tt))) d) refl
     where
       absent : (n : ℕ) → n ≤ 1 → (n ≡ 1 → ⊥) → n ≡ 0
       absent zero l d = refl

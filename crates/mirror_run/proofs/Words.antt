@@ -3,10 +3,13 @@ use Prim.Native.Nat.{ℕ, zero, suc, _+_, _*_, _/_, _%_, _<_}
 use native.Mathlib.Omega.{arith}
 use native.Mathlib.Nat.{add-zero, mul-suc, mul-le-mul-left, mul-div-le, mul-add-div, mul-add-mod-self-left, div-eq-of-lt, mod-eq-of-lt, not-suc-le-zero, le-of-suc-le-suc}
 use mathlib.Core.Path.{_≡_, refl, ap, _∙_}
+use mathlib.Core.Bool.{cond}
 use mathlib.Core.List.{List, [], _∷_, _++_, map}
+use lib.Dec.{eqb}
 use lib.ListN.{length, getD}
 use lib.Ieee.{add, sub, mul, neg, sum, round, units, odd, size, span, climb, ofBits, toBits, ofFields, nanBits, binary32}
 use borrow.Author.Tests.{lt-ltb}
+use Rattle.style_record.specs.Record.{directionWord, styleWords}
 use Rattle.run.specs.declared.Opening.{Opening}
 use Rattle.mirror_box.specs.Image.{edgeSum}
 use Rattle.mirror_run.specs.Image.{otherDirection, otherEdge, counterpart, imageStyle, reflectedWord, imageCandidate, listed, eachRecord, imageOpening, imageStyles, imageCandidates}
@@ -61,6 +64,10 @@ panel direction =
       overflowy = 0;
     }
 
+-- n words from a place on, each its own place
+abbrev places : ℕ → ℕ → List ℕ
+places at n = listed n (λ k. at + k)
+
 pub record Images : Type 0 where
   -- left-to-right and right-to-left change places; 2, which is no direction, stays
   pub openings : map (λ (d : ℕ). imageOpening (panel d) .direction) (0 ∷ 1 ∷ 2 ∷ []) ≡ 1 ∷ 0 ∷ 2 ∷ []
@@ -73,12 +80,12 @@ pub record Images : Type 0 where
   -- a style whose words are their own places, but for its direction, 0. Inset, margin, padding and border have each left, right, top and
   -- bottom, of two words: the first two and the next two change places. The direction is flipped
   pub style :
-      imageStyles (listed 48 (λ k. k) ++ 0 ∷ 49 ∷ 50 ∷ 51 ∷ 52 ∷ 53 ∷ 54 ∷ 55 ∷ 56 ∷ [])
+      imageStyles (listed styleWords (λ k. cond (eqb k directionWord) 0 k))
       ≡ (2 ∷ 3 ∷ 0 ∷ 1 ∷ 4 ∷ 5 ∷ 6 ∷ 7 ∷ [])
       ++ (10 ∷ 11 ∷ 8 ∷ 9 ∷ 12 ∷ 13 ∷ 14 ∷ 15 ∷ [])
       ++ (18 ∷ 19 ∷ 16 ∷ 17 ∷ 20 ∷ 21 ∷ 22 ∷ 23 ∷ [])
       ++ (26 ∷ 27 ∷ 24 ∷ 25 ∷ 28 ∷ 29 ∷ 30 ∷ 31 ∷ [])
-      ++ (32 ∷ 33 ∷ 34 ∷ 35 ∷ 36 ∷ 37 ∷ 38 ∷ 39 ∷ 40 ∷ 41 ∷ 42 ∷ 43 ∷ 44 ∷ 45 ∷ 46 ∷ 47 ∷ 1 ∷ 49 ∷ 50 ∷ 51 ∷ 52 ∷ 53 ∷ 54 ∷ 55 ∷ 56 ∷ [])
+      ++ (places 32 16 ++ (1 ∷ places 49 8))
   -- words that are no whole record stay
   pub part : imageStyles (1 ∷ 2 ∷ 3 ∷ []) ≡ 1 ∷ 2 ∷ 3 ∷ []
 

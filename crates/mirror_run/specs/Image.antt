@@ -9,7 +9,7 @@ use lib.Ieee.{ofBits, toBits, binary32}
 use Rattle.util.specs.Number.{_⊖_}
 use Rattle.tree.specs.declared.layout.OofPositioningArea.{OofPositioningArea}
 use Rattle.tree_record.specs.Candidate.{candidateWidth}
-use Rattle.style_record.specs.Record.{lengthWords, afterLengths, styleWords}
+use Rattle.style_record.specs.Record.{lengthWords, directionWord, styleWords}
 use Rattle.run.specs.declared.Opening.{Opening}
 use Rattle.mirror_box.specs.Image.{edgeSum}
 
@@ -38,9 +38,6 @@ sidesWords = 4 * lengthWords
 -- the four come first in a style
 abbrev pub boxWords : ℕ
 boxWords = 4 * sidesWords
-
-abbrev pub directionWord : ℕ
-directionWord = afterLengths + 4
 
 -- the place across from a word's: of a left length's word that of the right one's, tag for tag and value for value; and back
 unfoldable pub counterpart : ℕ → ℕ

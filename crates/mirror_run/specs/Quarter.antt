@@ -12,7 +12,7 @@ use Rattle.tree.specs.declared.layout.OofPositioningArea.{OofPositioningArea}
 use Rattle.tree.specs.declared.layout.OofCandidate.{OofCandidate}
 use Rattle.records.specs.Records.{recordAt}
 use Rattle.tree_record.specs.Candidate.{candidateWidth, candidateOf}
-use Rattle.style_record.specs.Record.{lengthWords, lengths, afterLengths, item, items}
+use Rattle.style_record.specs.Record.{lengths, tagWord, ratioPresentWord, scrollbarWord, item, items}
 use Rattle.style_record.specs.Decode.{lengthAt}
 use Rattle.oof_box.specs.declared.question.Reply.{Reply}
 use Rattle.oof_box.specs.declared.question.Reply.the-variants.{Both, Width, Height, LaidOut}
@@ -32,9 +32,9 @@ pub record QuarterArea (area : OofPositioningArea) : Type 0 where
 
 -- a style: each of its lengths by its tag, the scrollbar width; no ratio is present
 pub record QuarterItem (word : ℕ → ℕ) : Type 0 where
-  pub each : (l : ℕ) → l < lengths → QuarterLength (lengthAt word (lengthWords * l))
-  pub scrollbar : Quarter (ofBits binary32 (word (afterLengths + 11)))
-  pub ratio : word afterLengths ≡ 1 → ⊥
+  pub each : (l : ℕ) → l < lengths → QuarterLength (lengthAt word (tagWord l))
+  pub scrollbar : Quarter (ofBits binary32 (word scrollbarWord))
+  pub ratio : word ratioPresentWord ≡ 1 → ⊥
 
 abbrev pub QuarterTable : List ℕ → Type 0
 QuarterTable styles = (i : ℕ) → i < items styles → QuarterItem (item styles i)

@@ -53,8 +53,8 @@ few-records list e = ltb-false 4096 (length list / candidateWidth) (neither (rag
 records-in-a-word : (n : ℕ) → n / candidateWidth ≤ 4096 → InAWord n
 records-in-a-word n h = let g : n < candidateWidth * (n / candidateWidth + 1) = lt-mul-div-succ n (lit< tt) in omega (arith, g, h)
 
-items-in-a-word : (n : ℕ) → n / 57 ≤ 1024 → InAWord n
-items-in-a-word n h = let g : n < 57 * (n / 57 + 1) = lt-mul-div-succ n (lit< tt) in omega (arith, g, h)
+items-in-a-word : (n : ℕ) → n / styleWords ≤ 1024 → InAWord n
+items-in-a-word n h = let g : n < styleWords * (n / styleWords + 1) = lt-mul-div-succ n (lit< tt) in omega (arith, g, h)
 
 record Small (l : Lent) : Type 0 where
   styles : InAWord (length (l .styles))

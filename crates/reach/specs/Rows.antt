@@ -1,6 +1,6 @@
 -- Rows worked out by hand; `proofs/Rows.antt` computes each. `e 8` is the word of eight eighths of a pixel, `8e` in the comments. Assumes
 -- nothing.
-use Prim.Native.Nat.{ℕ}
+use Prim.Native.Nat.{ℕ, _+_, _*_}
 use mathlib.Core.Bool.{true, false}
 use mathlib.Core.List.{List, [], _∷_, _++_}
 use mathlib.Core.Path.{_≡_}
@@ -13,6 +13,7 @@ use Rattle.style.specs.declared.Direction.{Direction}
 use Rattle.style.specs.declared.Direction.the-variants.{Ltr, Rtl}
 use Rattle.style.specs.declared.Overflow.{Overflow}
 use Rattle.style.specs.declared.Overflow.the-variants.{Visible, Clip, Hidden, Scroll}
+use Rattle.style_record.specs.Record.{styleWords}
 use Rattle.tree.specs.declared.layout.Layout.{Layout}
 use Rattle.oof_resolve.specs.declared.ContainingBlock.{ContainingBlock}
 use Rattle.oof_box.specs.Cut.{noReplies}
@@ -242,9 +243,13 @@ candidate node position = onLayer 0 node position
 abbrev layouts : List ℕ
 layouts = layout (e 64) (e 42) (e 4) (e 3) ++ layout (e 44) (e 45) (e 6) (e 10)
 
--- the styles of two items, hoisted as 1, 0
+-- the styles of n items, in words that are all 0
+abbrev styles : ℕ → List ℕ
+styles n = replicate (styleWords * n) 0
+
+-- two items, hoisted as 1, 0
 abbrev two : Lent
-two = lent (replicate 114 0) layouts (candidate 1 2 ++ candidate 0 2) []
+two = lent (styles 2) layouts (candidate 1 2 ++ candidate 0 2) []
 
 -- filled working and unclaimed records, boxes begun, questions answered
 abbrev counts : ℕ → ℕ → ℕ → ℕ → Counts
@@ -281,7 +286,7 @@ by direction overflowx overflowy = state Finished (counts 2 0 2 2) (panel direct
 -- three items, hoisted as 2, 0, 1: node 1 is 6e by 10e, 4e from the left of the area and 30e from its top; node 0 as node 0 above, node 2 as
 -- node 1 above
 abbrev three : Lent
-three = lent (replicate 171 0) (layout (e 64) (e 42) (e 4) (e 3) ++ layout (e 28) (e 70) (e 6) (e 10) ++ layout (e 44) (e 45) (e 6) (e 10)) (candidate 2 2 ++ candidate 0 2 ++ candidate 1 2) []
+three = lent (styles 3) (layout (e 64) (e 42) (e 4) (e 3) ++ layout (e 28) (e 70) (e 6) (e 10) ++ layout (e 44) (e 45) (e 6) (e 10)) (candidate 2 2 ++ candidate 0 2 ++ candidate 1 2) []
 
 abbrev threeBy : Overflow → Overflow → State
 threeBy overflowx overflowy = state Finished (counts 3 0 3 3) (panel Ltr overflowx overflowy) (rect 0 (e 48) 0 (e 60)) three
@@ -309,10 +314,10 @@ RunRows =
     × (reached 0 (by Rtl Scroll Visible) two ≡ Unseen)
     × (reached 1 (by Rtl Scroll Visible) two ≡ Unseen)
     -- a node that is hoisted twice has one layout
-    × (let l = lent (replicate 114 0) layouts (candidate 0 2 ++ candidate 0 2) [] in (reached 0 (done l) l ≡ Seen 25 0) × (reached 1 (done l) l ≡ Seen 25 0))
+    × (let l = lent (styles 2) layouts (candidate 0 2 ++ candidate 0 2) [] in (reached 0 (done l) l ≡ Seen 25 0) × (reached 1 (done l) l ≡ Seen 25 0))
     -- the words of the styles aren't read, nor another box's numbers
-    × (let l = lent (replicate 114 2) layouts (candidate 1 2 ++ candidate 0 2) [] in reached 0 (done l) l ≡ Seen 5 0)
-    × (let l = lent (replicate 114 0) (layout nan nan nan nan ++ layout (e 44) (e 45) (e 6) (e 10)) (candidate 1 2 ++ candidate 0 2) [] in (reached 0 (done l) l ≡ Seen 5 0) × (reached 1 (done l) l ≡ Refused NotInEighths))
+    × (let l = lent (replicate (styleWords * 2) 2) layouts (candidate 1 2 ++ candidate 0 2) [] in reached 0 (done l) l ≡ Seen 5 0)
+    × (let l = lent (styles 2) (layout nan nan nan nan ++ layout (e 44) (e 45) (e 6) (e 10)) (candidate 1 2 ++ candidate 0 2) [] in (reached 0 (done l) l ≡ Seen 5 0) × (reached 1 (done l) l ≡ Refused NotInEighths))
 
 abbrev pub ExtentRows : Type 0
 ExtentRows =
@@ -322,17 +327,17 @@ ExtentRows =
     × (reached 0 (closed two) two ≡ Refused BadExtent)
     -- places go by the filled records: the list's second isn't one
     × (reached 1 (withCounts Finished (counts 1 0 1 1) two) two ≡ Refused BadExtent)
-    -- 58 style words, though the state recorded 58, before 6 too; a slice of another length than at the opening
-    × (let l = lent (replicate 58 0) (layout (e 64) (e 42) (e 4) (e 3)) (candidate 0 2 ++ candidate 0 2) [] in (reached 0 (done l) l ≡ Refused BadExtent) × (reached 0 (asked l) l ≡ Refused BadExtent))
-    × (reached 0 (done two) (lent (replicate 114 0) layouts (candidate 1 2) []) ≡ Refused BadExtent)
+    -- one style word more than an item has, though the state recorded so many, before 6 too; a slice of another length than at the opening
+    × (let l = lent (replicate (styleWords + 1) 0) (layout (e 64) (e 42) (e 4) (e 3)) (candidate 0 2 ++ candidate 0 2) [] in (reached 0 (done l) l ≡ Refused BadExtent) × (reached 0 (asked l) l ≡ Refused BadExtent))
+    × (reached 0 (done two) (lent (styles 2) layouts (candidate 1 2) []) ≡ Refused BadExtent)
 
 abbrev pub ProgressRows : Type 0
 ProgressRows =
     -- an unfinished run, and before 4 where a record is bad too
     (reached 0 (asked two) two ≡ Refused WrongReply)
-    × (let l = lent (replicate 114 0) layouts (candidate 1 2 ++ candidate 0 5) [] in reached 0 (asked l) l ≡ Refused WrongReply)
+    × (let l = lent (styles 2) layouts (candidate 1 2 ++ candidate 0 5) [] in reached 0 (asked l) l ≡ Refused WrongReply)
     -- counts above the lists: one record, 2 filled, place 1; and no unclaimed record, 1 filled
-    × (let l = lent (replicate 114 0) layouts (candidate 1 2) [] in reached 1 (done l) l ≡ Refused WrongReply)
+    × (let l = lent (styles 2) layouts (candidate 1 2) [] in reached 1 (done l) l ≡ Refused WrongReply)
     × (reached 0 (withCounts Finished (counts 2 1 2 2) two) two ≡ Refused WrongReply)
     -- boxes begun and questions answered aren't looked at
     × (reached 0 (withCounts Finished (counts 2 0 7 99) two) two ≡ Seen 5 0)
@@ -341,12 +346,12 @@ ProgressRows =
 abbrev pub CandidateRows : Type 0
 CandidateRows =
     -- a code or a node of another filled record, and before 9 too
-    (let l = lent (replicate 114 0) layouts (candidate 1 2 ++ candidate 0 5) [] in (reached 0 (done l) l ≡ Refused BadCandidate) × (reached 0 (broken l) l ≡ Refused BadCandidate))
-    × (let l = lent (replicate 114 0) layouts (candidate 1 2 ++ candidate 2 2) [] in reached 0 (done l) l ≡ Refused BadCandidate)
+    (let l = lent (styles 2) layouts (candidate 1 2 ++ candidate 0 5) [] in (reached 0 (done l) l ≡ Refused BadCandidate) × (reached 0 (broken l) l ≡ Refused BadCandidate))
+    × (let l = lent (styles 2) layouts (candidate 1 2 ++ candidate 2 2) [] in reached 0 (done l) l ≡ Refused BadCandidate)
     -- a layer above 255 of another filled record; 255 is one
-    × (let l = lent (replicate 114 0) layouts (candidate 1 2 ++ onLayer 256 0 2) [] in reached 0 (done l) l ≡ Refused BadCandidate)
-    × (let l = lent (replicate 114 0) layouts (candidate 1 2 ++ onLayer 255 0 2) [] in reached 0 (done l) l ≡ Seen 5 0)
+    × (let l = lent (styles 2) layouts (candidate 1 2 ++ onLayer 256 0 2) [] in reached 0 (done l) l ≡ Refused BadCandidate)
+    × (let l = lent (styles 2) layouts (candidate 1 2 ++ onLayer 255 0 2) [] in reached 0 (done l) l ≡ Seen 5 0)
     × (reached 0 (broken two) two ≡ Refused NotInEighths)
     -- not one past the filled records, nor an unclaimed one
-    × (let l = lent (replicate 114 0) layouts (candidate 1 2 ++ candidate 0 2 ++ candidate 2 5) [] in reached 0 (done l) l ≡ Seen 5 0)
-    × (let l = lent (replicate 114 0) layouts (candidate 1 2 ++ candidate 0 2) (candidate 2 5) in reached 0 (withCounts Finished (counts 2 1 2 2) l) l ≡ Seen 5 0)
+    × (let l = lent (styles 2) layouts (candidate 1 2 ++ candidate 0 2 ++ candidate 2 5) [] in reached 0 (done l) l ≡ Seen 5 0)
+    × (let l = lent (styles 2) layouts (candidate 1 2 ++ candidate 0 2) (candidate 2 5) in reached 0 (withCounts Finished (counts 2 1 2 2) l) l ≡ Seen 5 0)

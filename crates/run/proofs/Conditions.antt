@@ -42,7 +42,7 @@ use Rattle.run.specs.declared.Extents.{Extents}
 use Rattle.run.specs.Call.{Lent}
 use Rattle.run.specs.Refusals.{badArea, ragged, badTable, badList, badSlices, otherLengths, isBad, badStyle, badCandidate, listFull, wrongCounts}
 use Rattle.run.specs.Run.{extentsOf, takenIn, isWrong}
-use Rattle.run.specs.Conditions.{AreaIsBad, GoodTable, Whole, GoodList, SlicesAreBad, Among, Allowed, WordIsAllowed, StyleIsBad, places, word, AxisIsBad, RecordIsBad, CandidateIsBad, QuestionKind, both, width, height, layOut, kindOfReply, kindAt, NotAsked, CountsAreWrong, SideIsUnresolved}
+use Rattle.run.specs.Conditions.{AreaIsBad, itemWords, GoodTable, Whole, GoodList, SlicesAreBad, Among, Allowed, WordIsAllowed, StyleIsBad, places, word, AxisIsBad, RecordIsBad, CandidateIsBad, QuestionKind, both, width, height, layOut, kindOfReply, kindAt, NotAsked, CountsAreWrong, SideIsUnresolved}
 use Rattle.run.proofs.Ways.{neither}
 use Rattle.run.proofs.Decides.{Decides, by-iff, either, regroup, opposite, refutes, both-fail, guard, last, below, at-most, equal, not-every}
 use Rattle.run.proofs.Decides as decides
@@ -89,9 +89,9 @@ table-decided styles layouts = refutes there back
     there f =
         let first = neither _ _ f in
         let second = neither _ _ (first .0) in
-        let e = eqb-true (length styles % 57) 0 (not-false _ (second .0)) in
-        let h = ltb-false _ (length styles / 57) (second .1) in
-        (length styles / 57, h, omega arith, eqb-true (length layouts) (23 * (length styles / 57)) (not-false _ (first .1)))
+        let e = eqb-true (length styles % itemWords) 0 (not-false _ (second .0)) in
+        let h = ltb-false _ (length styles / itemWords) (second .1) in
+        (length styles / itemWords, h, omega arith, eqb-true (length layouts) (23 * (length styles / itemWords)) (not-false _ (first .1)))
 
     back : GoodTable styles layouts → badTable styles layouts ≡ false
     back g =
@@ -99,8 +99,8 @@ table-decided styles layouts = refutes there back
         let d = g .2 in
         let e = g .3 in
         both-fail
-        (both-fail (same (length styles % 57) 0 (omega arith)) (le-ltb _ (length styles / 57) (omega arith)))
-        (same (length layouts) (23 * (length styles / 57)) (omega arith))
+        (both-fail (same (length styles % itemWords) 0 (omega arith)) (le-ltb _ (length styles / itemWords) (omega arith)))
+        (same (length layouts) (23 * (length styles / itemWords)) (omega arith))
 
 pub slices-decided : (lent : Lent) → Decides (badSlices lent) (SlicesAreBad lent)
 unfolding badSlices

@@ -34,9 +34,13 @@ AreaIsBad o = (1 < o .direction) ⊎ (3 < o .claims) ⊎ (3 < o .overflowx) ⊎ 
 
 -- ---- 2, bad extent
 
+-- "Style, 57 words"
+abbrev pub itemWords : ℕ
+itemWords = 57
+
 -- "styles .. 57 × n words with n ≤ 1,024; layouts .. 23 × n"
 abbrev pub GoodTable : List ℕ → List ℕ → Type 0
-GoodTable styles layouts = (n : ℕ) × (n ≤ 1024) × (length styles ≡ 57 * n) × (length layouts ≡ 23 * n)
+GoodTable styles layouts = (n : ℕ) × (n ≤ 1024) × (length styles ≡ itemWords * n) × (length layouts ≡ 23 * n)
 
 -- "Candidate, 13 words"; by request #104 it has "a fourteenth word, its layer"
 abbrev pub recordWords : ℕ
@@ -79,20 +83,20 @@ WordIsAllowed styles i k = Allowed (kindOf k) (item styles i (k - 1)) (item styl
 
 -- some word of some item is not allowed
 abbrev pub StyleIsBad : List ℕ → Type 0
-StyleIsBad styles = (i : ℕ) × (k : ℕ) × (i < items styles) × (k < 57) × (¬ WordIsAllowed styles i k)
+StyleIsBad styles = (i : ℕ) × (k : ℕ) × (i < items styles) × (k < itemWords) × (¬ WordIsAllowed styles i k)
 
 -- request #103, "that item and the first of its words": word k of item i is not allowed, all words before it in its item are, and all of the
 -- items before
 pub record FirstNotAllowed (styles : List ℕ) (i k : ℕ) : Type 0 where
   pub item-there : i < items styles
-  pub word-there : k < 57
+  pub word-there : k < itemWords
   pub not-allowed : ¬ WordIsAllowed styles i k
   pub words-before : (l : ℕ) → l < k → WordIsAllowed styles i l
-  pub items-before : (j : ℕ) → j < i → (l : ℕ) → l < 57 → WordIsAllowed styles j l
+  pub items-before : (j : ℕ) → j < i → (l : ℕ) → l < itemWords → WordIsAllowed styles j l
 
 -- no word of the table breaks a rule; a part of a record behind the last whole one is no item
 abbrev pub AllAllowed : List ℕ → Type 0
-AllAllowed styles = (i : ℕ) → i < items styles → (k : ℕ) → k < 57 → WordIsAllowed styles i k
+AllAllowed styles = (i : ℕ) → i < items styles → (k : ℕ) → k < itemWords → WordIsAllowed styles i k
 
 -- ---- 4, bad candidate: "node not below n, or a code outside its list"; by request #104 "a higher layer" than 255 too
 

@@ -7,7 +7,7 @@ use lib.Ieee.{ofInt, toBits, binary32}
 use lib.IntN.{pos}
 use lib.ListN.{getD, replicate, set}
 use Rattle.records.specs.Records.{recordAt, written}
-use Rattle.style_record.specs.Record.{styleWords, items}
+use Rattle.style_record.specs.Record.{codeWords, styleWords, tagWord, ratioWord, flagsWord, justifyWord, items}
 use Rattle.tree_record.specs.Candidate.{candidateWidth, layerWord}
 use Rattle.tree_record.specs.Layout.{layoutWidth}
 use Rattle.oof_box.specs.declared.question.Stage.the-variants.{LayOut}
@@ -30,18 +30,22 @@ minus n = px n + 2147483648
 abbrev pub nan : ℕ
 nan = 2143289344
 
+-- a length by its tag and value
+unfoldable pub lengthOf : ℕ → ℕ → List ℕ
+lengthOf tag value = tag ∷ value ∷ []
+
 -- so many lengths of one tag
 unfoldable pub lengths : ℕ → ℕ → List ℕ
 lengths zero tag = []
-lengths (suc n) tag = tag ∷ 0 ∷ lengths n tag
+lengths (suc n) tag = lengthOf tag 0 ++ lengths n tag
 
 -- an item: insets, size, min and max auto; margins, padding and borders 0 pixels; all other words 0
 unfoldable pub item : List ℕ
-item = lengths 4 3 ++ lengths 12 1 ++ lengths 6 3 ++ replicate 13 0
+item = lengths 4 3 ++ lengths 12 1 ++ lengths 6 3 ++ replicate codeWords 0
 
 -- tag and value of its width and of its height
 unfoldable pub sized : ℕ → ℕ → ℕ → ℕ → List ℕ
-sized widthTag w heightTag h = written item 32 (widthTag ∷ w ∷ heightTag ∷ h ∷ [])
+sized widthTag w heightTag h = written item (tagWord 16) (lengthOf widthTag w ++ lengthOf heightTag h)
 
 -- 30 by 20 pixels: it is laid out without a measure
 unfoldable pub box : List ℕ
@@ -49,7 +53,7 @@ box = sized 1 (px 30) 1 (px 20)
 
 -- 257 is no tag
 unfoldable pub broken : List ℕ
-broken = set item 0 257
+broken = set item (tagWord 0) 257
 
 -- node, order, position; static areas from 0 to 0, start edges; layer 1
 unfoldable pub candidate : ℕ → ℕ → ℕ → List ℕ
@@ -194,8 +198,9 @@ all (b ∷ bs) = b && all bs
 unfoldable pub refusedOpening : Outcome
 refusedOpening = opening absolute (over broken 1 1)
 
-unfoldable pub of58 : Lent
-of58 = over (box ++ (0 ∷ [])) 1 1
+-- one word more than an item has
+unfoldable pub oneMore : Lent
+oneMore = over (box ++ (0 ∷ [])) 1 1
 
 unfoldable pub openedBox : Outcome
 openedBox = opening absolute (over box 1 1)
@@ -210,11 +215,11 @@ lengthsKept =
     ∷ counts (0 ∷ 0 ∷ 0 ∷ 0 ∷ []) refusedOpening
     ∷ unwritten (over broken 1 1) refusedOpening
     ∷ refuses 6 (next broken refusedOpening (surfacing []))
-    -- 58 style words, then 57
-    ∷ refuses 2 (opening absolute of58)
-    ∷ refuses 2 (reply (opening absolute of58 .step .state) (over box 1 1) (surfacing []))
-    -- a forged state that records 58, with 58 lent
-    ∷ refuses 2 (reply (withExtents (openedBox .step .state) 58) of58 (surfacing []))
+    -- one style word more, then one item
+    ∷ refuses 2 (opening absolute oneMore)
+    ∷ refuses 2 (reply (opening absolute oneMore .step .state) (over box 1 1) (surfacing []))
+    -- a forged state that records as many as are lent
+    ∷ refuses 2 (reply (withExtents (openedBox .step .state) (styleWords + 1)) oneMore (surfacing []))
     -- an accepted run: a reply with another list; its finish; a reply after that
     ∷ refuses 2 (reply (openedBox .step .state) (over box 2 1) (surfacing []))
     ∷ finishes (boxEnd 1) finished
@@ -284,12 +289,12 @@ withoutBoxes =
 unfoldable pub styles : List Bool
 styles =
     -- 257 as a tag is `broken`; keyword 10 with safety 7, and keyword 9
-    laysOut boxAsked (opening absolute (over (written box 49 (10 ∷ 7 ∷ [])) 1 1))
-    ∷ refuses 3 (opening absolute (over (written box 49 (9 ∷ 7 ∷ [])) 1 1))
+    laysOut boxAsked (opening absolute (over (written box justifyWord (10 ∷ 7 ∷ [])) 1 1))
+    ∷ refuses 3 (opening absolute (over (written box justifyWord (9 ∷ 7 ∷ [])) 1 1))
     -- flags 3, then 4; the ratio's word where it is absent
-    ∷ laysOut boxAsked (opening absolute (over (set box 47 3) 1 1))
-    ∷ refuses 3 (opening absolute (over (set box 47 4) 1 1))
-    ∷ laysOut boxAsked (opening absolute (over (set box 45 nan) 1 1))
+    ∷ laysOut boxAsked (opening absolute (over (set box flagsWord 3) 1 1))
+    ∷ refuses 3 (opening absolute (over (set box flagsWord 4) 1 1))
+    ∷ laysOut boxAsked (opening absolute (over (set box ratioWord nan) 1 1))
     -- an item that nobody names
     ∷ refuses 3 (opening absolute (over (box ++ broken) 1 1))
     ∷ []
@@ -421,7 +426,7 @@ leastByAuto = sized 11 0 3 0
 
 -- at most 20 wide
 unfoldable pub narrow : List ℕ → List ℕ
-narrow style = written style 40 (1 ∷ px 20 ∷ [])
+narrow style = written style (tagWord 20) (lengthOf 1 (px 20))
 
 unfoldable pub hundredByLeast : List ℕ
 hundredByLeast = narrow (sized 1 (px 100) 11 0)
@@ -467,7 +472,7 @@ flatBox right = let s = sized 1 0 1 (px 10) in next s (opening absolute (over s 
 -- a box 40 wide in a scrolling parent, so far left of its start
 unfoldable pub outside : ℕ → Outcome
 outside n =
-    let s = written (sized 1 (px 40) 1 (px 20)) 0 (1 ∷ minus n ∷ []) in
+    let s = written (sized 1 (px 40) 1 (px 20)) (tagWord 0) (lengthOf 1 (minus n)) in
     next s (openingIn (px 100) 0 1 3 absolute (over s 1 0)) (surfacing [])
 
 unfoldable pub overflows : List Bool
@@ -507,7 +512,7 @@ rewritingUnclaimedLayer layer =
 
 -- a box at 10, 5, on layer 3; it surfaces one that is claimed, on layer 255, and one that isn't, on layer 4
 unfoldable pub aside : List ℕ
-aside = written box 0 (1 ∷ px 10 ∷ 3 ∷ 0 ∷ 1 ∷ px 5 ∷ 3 ∷ 0 ∷ [])
+aside = written box (tagWord 0) (lengthOf 1 (px 10) ++ lengthOf 3 0 ++ lengthOf 1 (px 5) ++ lengthOf 3 0)
 
 unfoldable pub surfacingTwo : Outcome
 surfacingTwo =
