@@ -32,7 +32,7 @@ panel = record { area = record { size = zeroSize; offset = zeroPoint }; directio
 -- n lengths of 0 pixels
 abbrev pixels : ℕ → List ℕ
 pixels zero = []
-pixels (suc n) = 1 ∷ 0 ∷ pixels n
+pixels (suc n) = 1 ∷ 0 ∷ 0 ∷ pixels n
 
 -- one item, which is laid out without a measure
 abbrev table : List ℕ

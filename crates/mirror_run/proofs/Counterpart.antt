@@ -111,7 +111,8 @@ before-free : (f : Field) (j before before' w : ℕ) → breaksAs (getD (lengthK
 unfolding lengthKinds breaksAs
 before-free f zero before before' w = refl
 before-free f (suc zero) before before' w = refl
-before-free f (suc (suc j)) before before' w = refl
+before-free f (suc (suc zero)) before before' w = refl
+before-free f (suc (suc (suc j))) before before' w = refl
 
 pub direction-code : (d : ℕ) → ltb 1 (otherDirection d) ≡ ltb 1 d
 unfolding otherDirection

@@ -54,9 +54,9 @@ use Rattle.mirror_run.specs.Runs.{Message, runNext, imageNext, isUnread,
 
 -- ---- words
 
--- a length by its tag and value
+-- a length by its tag and value. Its second value, which these tags ignore, is a NaN
 abbrev lengthOf : ℕ → ℕ → List ℕ
-lengthOf tag value = tag ∷ value ∷ []
+lengthOf tag value = tag ∷ value ∷ 2143289345 ∷ []
 
 abbrev px : ℕ → List ℕ
 px value = lengthOf 1 value

@@ -26,7 +26,7 @@ use Rattle.mirror_run.proofs.Counterpart.{counterpart-there, counterpar
 module _ (r r' : ℕ → ℕ) (same : (k : ℕ) → k < styleWords → r k ≡ r' k) where
   same-length : (k : ℕ) → k + lengthWords ≤ styleWords → lengthAt r k ≡ lengthAt r' k
   unfolding lengthAt
-  same-length k h = rw (same k (omega arith), same (k + 1) (omega arith)) refl
+  same-length k h = rw (same k (omega arith), same (k + 1) (omega arith), same (k + 2) (omega arith)) refl
 
   same-rect : (k : ℕ) → k + 4 * lengthWords ≤ styleWords → rectAt r k ≡ rectAt r' k
   unfolding rectAt

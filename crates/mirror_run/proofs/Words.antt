@@ -78,14 +78,14 @@ pub record Images : Type 0 where
       imageCandidates (panel 0 .area) (9 ∷ 8 ∷ 2 ∷ 1106247680 ∷ 1109393408 ∷ 0 ∷ 1 ∷ 2 ∷ 7 ∷ 6 ∷ 0 ∷ 0 ∷ 2 ∷ 5 ∷ [])
       ≡ 9 ∷ 8 ∷ 2 ∷ 1117257728 ∷ 1118568448 ∷ 2 ∷ 1 ∷ 0 ∷ 7 ∷ 6 ∷ 0 ∷ 0 ∷ 2 ∷ 5 ∷ []
   -- a style whose words are their own places, but for its direction, 0. Inset, margin, padding and border have each left, right, top and
-  -- bottom, of two words: the first two and the next two change places. The direction is flipped
+  -- bottom, of three words: the first three and the next three change places. The direction is flipped
   pub style :
       imageStyles (listed styleWords (λ k. cond (eqb k directionWord) 0 k))
-      ≡ (2 ∷ 3 ∷ 0 ∷ 1 ∷ 4 ∷ 5 ∷ 6 ∷ 7 ∷ [])
-      ++ (10 ∷ 11 ∷ 8 ∷ 9 ∷ 12 ∷ 13 ∷ 14 ∷ 15 ∷ [])
-      ++ (18 ∷ 19 ∷ 16 ∷ 17 ∷ 20 ∷ 21 ∷ 22 ∷ 23 ∷ [])
-      ++ (26 ∷ 27 ∷ 24 ∷ 25 ∷ 28 ∷ 29 ∷ 30 ∷ 31 ∷ [])
-      ++ (places 32 16 ++ (1 ∷ places 49 8))
+      ≡ (3 ∷ 4 ∷ 5 ∷ 0 ∷ 1 ∷ 2 ∷ places 6 6)
+      ++ (15 ∷ 16 ∷ 17 ∷ 12 ∷ 13 ∷ 14 ∷ places 18 6)
+      ++ (27 ∷ 28 ∷ 29 ∷ 24 ∷ 25 ∷ 26 ∷ places 30 6)
+      ++ (39 ∷ 40 ∷ 41 ∷ 36 ∷ 37 ∷ 38 ∷ places 42 6)
+      ++ (places 48 22 ++ (1 ∷ places 71 8))
   -- words that are no whole record stay
   pub part : imageStyles (1 ∷ 2 ∷ 3 ∷ []) ≡ 1 ∷ 2 ∷ 3 ∷ []
 

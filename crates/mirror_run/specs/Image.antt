@@ -39,7 +39,7 @@ sidesWords = 4 * lengthWords
 abbrev pub boxWords : ℕ
 boxWords = 4 * sidesWords
 
--- the place across from a word's: of a left length's word that of the right one's, tag for tag and value for value; and back
+-- the place across from a word's: of a left length's word that of the right one's, tag for tag, value for value and second for second; and back
 unfoldable pub counterpart : ℕ → ℕ
 counterpart k =
     cond (leb boxWords k) k

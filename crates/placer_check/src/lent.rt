@@ -17,7 +17,7 @@ pub const MOST_RECORDS: usize = 4096;
 
 // ---- 2: bad extent
 
-// Styles not 57 × n words with n at most 1,024, or layouts not 23 × n.
+// Styles not 79 × n words with n at most 1,024, or layouts not 23 × n.
 fn is_table_bad(styles: &[u32], layouts: &[u32]) -> bool
     ensures { λ r. ⌜ r ≡ badTable (now (styles .entry)) (now (layouts .entry)) ⌝ }
 {

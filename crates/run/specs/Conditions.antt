@@ -34,11 +34,11 @@ AreaIsBad o = (1 < o .direction) ⊎ (3 < o .claims) ⊎ (3 < o .overflowx) ⊎ 
 
 -- ---- 2, bad extent
 
--- "Style, 57 words"
+-- "Style, 57 words"; by request #105 "A style is then 79 words"
 abbrev pub itemWords : ℕ
-itemWords = 57
+itemWords = 79
 
--- "styles .. 57 × n words with n ≤ 1,024; layouts .. 23 × n"
+-- "styles .. 57 × n words", 79 × n since #105, "with n ≤ 1,024; layouts .. 23 × n"
 abbrev pub GoodTable : List ℕ → List ℕ → Type 0
 GoodTable styles layouts = (n : ℕ) × (n ≤ 1024) × (length styles ≡ itemWords * n) × (length layouts ≡ 23 * n)
 

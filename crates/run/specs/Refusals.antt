@@ -43,7 +43,7 @@ badArea o = ltb 1 (o .direction) || ltb 3 (o .claims) || ltb 3 (o .overflowx) ||
 abbrev pub ragged : ℕ → List ℕ → Bool
 ragged w words = not (eqb (length words % w) 0)
 
--- styles not 57 × n words with n at most 1,024, or layouts not 23 × n
+-- styles not 79 × n words with n at most 1,024, or layouts not 23 × n
 unfoldable pub badTable : List ℕ → List ℕ → Bool
 badTable styles layouts =
     ragged styleWords styles || ltb 1024 (items styles) || not (eqb (length layouts) (layoutWidth * items styles))

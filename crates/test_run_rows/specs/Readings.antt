@@ -30,9 +30,9 @@ minus n = px n + 2147483648
 abbrev pub nan : ℕ
 nan = 2143289344
 
--- a length by its tag and value
+-- a length by its tag and value; its second value is 0
 unfoldable pub lengthOf : ℕ → ℕ → List ℕ
-lengthOf tag value = tag ∷ value ∷ []
+lengthOf tag value = tag ∷ value ∷ 0 ∷ []
 
 -- so many lengths of one tag
 unfoldable pub lengths : ℕ → ℕ → List ℕ
