@@ -10,11 +10,12 @@ use lib.ListN.{length, take, drop, getD, set, length-drop, drop-of-length-le}
 use lib.Seq.{sets, drop-cons, drop-drop, getD-drop, length-take-le}
 use lib.Dec.{eqb}
 use Rattle.boxlist_lines.proofs.Stores.{sets-append}
+use Rattle.style_record.specs.Record.{styleWords}
 use Rattle.screen_fields.specs.declared.format.Kind.{Kind}
 use Rattle.screen_fields.specs.declared.format.Kind.the-variants.{Code}
 use Rattle.screen_fields.specs.declared.format.Line.{Line}
 use Rattle.screen_fields.specs.declared.format.Line.the-variants.{First, Item, Candidate}
-use Rattle.screen_fields.specs.Format.{fieldsOf, COLUMNS, bytesOf}
+use Rattle.screen_fields.specs.Format.{replyWidth, fieldsOf, COLUMNS, bytesOf}
 use Rattle.screen_fields.specs.Field.{wordOf, isGood, valueOf}
 use Rattle.screen_fields.specs.Place.{part}
 use Rattle.screen.specs.Screen.{goodFields, goodLine, goodLines, wordsOf, rowsOf}
@@ -27,7 +28,7 @@ next at j = omega arith
 along : (to j : ℕ) → to + (j + 1) ≡ suc (to + j)
 along to j = omega arith
 
-pub width-small : (line : Line) → length (fieldsOf line) ≤ 63
+pub width-small : (line : Line) → length (fieldsOf line) ≤ styleWords + replyWidth
 width-small First = let e = first-width in omega arith
 width-small Item = let e = item-width in omega arith
 width-small Candidate = let e = candidate-width in omega arith

@@ -2,11 +2,11 @@
 use Prim.Native.Nat.{ℕ, zero, suc, _+_, _-_, _%_, _<_}
 use native.Mathlib.Nat.{add-zero, zero-add, add-suc, suc-add, le-of-suc-le-suc, not-suc-le-zero}
 use mathlib.Core.Path.{_≡_, refl, sym, subst, _∙_}
-use mathlib.Core.Bool.{Bool, true, false, cond}
+use mathlib.Core.Bool.{Bool, true, false, cond, not}
 use mathlib.Core.List.{List, [], _∷_}
 use lib.Dec.{T, ltb, leb, eqb}
 use lib.ListN.{length, getD}
-use Rattle.style_record.specs.Record.{styleWords}
+use Rattle.style_record.specs.Record.{lengthWords, afterLengths, styleWords}
 use Rattle.tree_record.specs.Candidate.{candidateWidth, layerWord}
 use Rattle.screen_fields.specs.declared.format.Kind.{Kind}
 use Rattle.screen_fields.specs.declared.format.Kind.the-variants.{Code, Eighths}
@@ -19,7 +19,9 @@ use Rattle.screen_fields.proofs.Text.{apart}
 -- the test that the code makes
 unfoldable pub isFloatAt : Line → ℕ → Bool
 isFloatAt First j = ltb j 4
-isFloatAt Item j = cond (ltb j 44) (eqb (j % 2) 1) (cond (eqb j 45) true (cond (eqb j 55) true (leb styleWords j)))
+isFloatAt Item j =
+    cond (ltb j afterLengths) (not (eqb (j % lengthWords) 0))
+    (cond (eqb j (afterLengths + 1)) true (cond (eqb j (afterLengths + 11)) true (leb styleWords j)))
 isFloatAt Candidate j = cond (ltb j 3) false (cond (eqb j layerWord) false (ltb ((j - 3) % 5) 2))
 
 abbrev same : Bool → Bool → Bool

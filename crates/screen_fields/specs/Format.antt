@@ -4,7 +4,7 @@ use Prim.Native.Nat.{ℕ, zero, suc, _+_, _*_}
 use mathlib.Core.Bool.{Bool, true, false}
 use mathlib.Core.List.{List, [], _∷_, _++_}
 use lib.ListN.{length, replicate}
-use Rattle.style_record.specs.Record.{styleWords}
+use Rattle.style_record.specs.Record.{lengths, styleWords}
 use Rattle.tree_record.specs.Candidate.{candidateWidth}
 use Rattle.screen_fields.specs.declared.format.Kind.{Kind}
 use Rattle.screen_fields.specs.declared.format.Kind.the-variants.{Code, Eighths}
@@ -30,10 +30,14 @@ headerWidth = 10
 unfoldable pub firstFields : List Kind
 firstFields = replicate 4 Eighths ++ replicate 6 Code
 
--- a style: 22 lengths of tag and value; ratio present, ratio; box sizing, flags, direction, justify, its safety, align, its safety,
--- overflow x, overflow y; scrollbar width; contain
+-- a length: tag, value
+abbrev pub lengthFields : List Kind
+lengthFields = Code ∷ Eighths ∷ []
+
+-- a style: the lengths; ratio present, ratio; box sizing, flags, direction, justify, its safety, align, its safety, overflow x, overflow y;
+-- scrollbar width, contain
 unfoldable pub styleFields : List Kind
-styleFields = times 22 (Code ∷ Eighths ∷ []) ++ (Code ∷ Eighths ∷ []) ++ replicate 9 Code ++ (Eighths ∷ Code ∷ [])
+styleFields = times lengths lengthFields ++ (Code ∷ Eighths ∷ []) ++ replicate 9 Code ++ (Eighths ∷ Code ∷ [])
 
 -- the scripted replies: measured width and height; overflow left, right, top, bottom
 abbrev pub replyWidth : ℕ

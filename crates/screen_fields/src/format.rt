@@ -82,9 +82,9 @@ fn is_float(line: Line, j: usize) -> bool
     match line {
         Line::First => j < 4,
         Line::Item => {
-            // the lengths come first, a tag and a value each; then the ratio and the scrollbar width are floats
+            // of a length all words but the tag; then the ratio, the scrollbar width and the replies
             if j < words::RATIO_PRESENT {
-                return j % 2 == 1;
+                return j % words::LENGTH_WORDS != 0;
             }
             if j == words::RATIO {
                 return true;

@@ -2,20 +2,23 @@
 // rectangle. Then document 01's rows 12 and 13, whose numbers it must write. tools/samples/boxes.py made the input and says how a
 // box stands in it.
 ghost use mathlib.Core.Path.{_≡_};
-ghost use Prim.Native.Nat.{_<_};
 ghost use lib.ListN.{length};
+ghost use Rattle.test_oof_box.specs.Box.{boxWords};
 use libc::STDOUT_FILENO;
+use replay::BOX_WORDS;
 
 mod replay;
 mod rows;
 
+const BOX_BYTES: usize = 4 * BOX_WORDS;
+
 // The words of a box, from bytes.
-fn words_of(bytes: &[u8; 508]) -> [u32; 127]
-    ensures { λ r. ⌜ 127 ≡ length r ⌝ }
+fn words_of(bytes: &[u8; BOX_BYTES]) -> [u32; BOX_WORDS]
+    ensures { λ r. ⌜ boxWords ≡ length r ⌝ }
 {
-    let mut words = [0; 127];
+    let mut words = [0; BOX_WORDS];
     let mut i: usize = 0;
-    while i < 127 {
+    while i < BOX_WORDS {
         words[i] = word(
             bytes[4 * i],
             bytes[4 * i + 1],
@@ -43,7 +46,7 @@ fn counted(n: u64, so: bool) -> u64 {
     n
 }
 
-fn is_replayed(full: bool, bytes: &[u8; 508]) -> bool {
+fn is_replayed(full: bool, bytes: &[u8; BOX_BYTES]) -> bool {
     if full {
         let words = words_of(bytes);
         return replay::agrees(&words);
@@ -53,12 +56,12 @@ fn is_replayed(full: bool, bytes: &[u8; 508]) -> bool {
 
 // How many of n boxes there are, and how many of them agree.
 fn replay_all(n: u64) {
-    let mut bytes = [0; 508];
+    let mut bytes = [0; BOX_BYTES];
     let mut there: u64 = 0;
     let mut agree: u64 = 0;
     let mut i: u64 = 0;
     while i < n {
-        let full = io::read_full(0, &mut bytes) == 508;
+        let full = io::read_full(0, &mut bytes) == BOX_BYTES;
         there = counted(there, full);
         agree = counted(agree, is_replayed(full, &bytes));
         i += 1;

@@ -1,5 +1,8 @@
 // One box against its recorded run.
+ghost use mathlib.Core.Path.{_≡_};
 ghost use Prim.Native.Nat.{_+_, _≤_};
+ghost use lib.ListN.{length};
+ghost use Rattle.test_oof_box.specs.Box.{boxWords};
 use geometry::MaybeSize;
 use geometry::Point;
 use geometry::Rect;
@@ -19,34 +22,67 @@ use style::OverflowPoint;
 use style::available_space::AvailableSize;
 use style::available_space::AvailableSpace;
 use style_record::decode;
+use style_record::words::STYLE_WORDS;
 use tree::layout::Layout;
+use tree::layout::OofCandidate;
 use tree::layout::OofPositioningArea;
 use tree_record::candidate;
+use tree_record::candidate::CANDIDATE_WORDS;
 use tree_record::layout;
+use tree_record::layout::LAYOUT_WORDS;
 use util::bits;
 use util::math::MaybeF32;
 
-fn container_of(w: &[u32; 127]) -> ContainingBlock {
+// Where the parts of a box's record stand, behind its style.
+const AREA: usize = STYLE_WORDS;
+
+const FINISH: usize = AREA + 8;
+
+const STAGES: usize = FINISH + 4;
+
+const CANDIDATE: usize = STAGES + 1;
+
+// The replies: to the question for keywords, to that of step 6, to the layout.
+const KEYWORD: usize = CANDIDATE + CANDIDATE_WORDS;
+
+const FILL: usize = KEYWORD + 2;
+
+const OVERFLOW: usize = FILL + 2;
+
+const LAYOUT: usize = OVERFLOW + 4;
+
+// Three questions of four words.
+const QUESTIONS: usize = LAYOUT + LAYOUT_WORDS;
+
+pub const BOX_WORDS: usize = QUESTIONS + 12;
+
+fn container_of(w: &[u32; BOX_WORDS]) -> ContainingBlock {
     let size = Size {
-        width: bits::from_word(w[57]),
-        height: bits::from_word(w[58]),
+        width: bits::from_word(w[AREA]),
+        height: bits::from_word(w[AREA + 1]),
     };
     let offset = Point {
-        x: bits::from_word(w[59]),
-        y: bits::from_word(w[60]),
+        x: bits::from_word(w[AREA + 2]),
+        y: bits::from_word(w[AREA + 3]),
     };
     let overflow = OverflowPoint {
-        x: Overflow::from_code(w[63]),
-        y: Overflow::from_code(w[64]),
+        x: Overflow::from_code(w[AREA + 6]),
+        y: Overflow::from_code(w[AREA + 7]),
     };
     ContainingBlock {
         area: OofPositioningArea {
             size: size,
             offset: offset,
         },
-        direction: Direction::from_code(w[61]),
+        direction: Direction::from_code(w[AREA + 4]),
         overflow: overflow,
     }
+}
+
+fn candidate_of(w: &[u32]) -> OofCandidate
+    requires { ⌜ length (now w) ≡ boxWords ⌝ }
+{
+    candidate::candidate_at(&w[CANDIDATE..], 0)
 }
 
 // ---- questions in words, as the recorded ones
@@ -139,8 +175,8 @@ fn plain(w: u32) -> u32 {
 }
 
 // Whether the question is the one recorded at word `at`, with stage and kind.
-fn is_recorded(asked: Asked, stage: u32, w: &[u32; 127], at: usize) -> bool
-    requires { ⌜ at + 4 ≤ 127 ⌝ }
+fn is_recorded(asked: Asked, stage: u32, w: &[u32; BOX_WORDS], at: usize) -> bool
+    requires { ⌜ at + 4 ≤ boxWords ⌝ }
 {
     let now = asked.stage;
     let question = asked.question;
@@ -165,8 +201,8 @@ fn is_recorded(asked: Asked, stage: u32, w: &[u32; 127], at: usize) -> bool
 
 // ---- replies
 
-fn size_at(w: &[u32; 127], at: usize) -> Size
-    requires { ⌜ at + 2 ≤ 127 ⌝ }
+fn size_at(w: &[u32; BOX_WORDS], at: usize) -> Size
+    requires { ⌜ at + 2 ≤ boxWords ⌝ }
 {
     Size {
         width: bits::from_word(w[at]),
@@ -174,45 +210,45 @@ fn size_at(w: &[u32; 127], at: usize) -> Size
     }
 }
 
-fn overflow_of(w: &[u32; 127]) -> Rect {
+fn overflow_of(w: &[u32; BOX_WORDS]) -> Rect {
     Rect {
-        left: bits::from_word(w[88]),
-        right: bits::from_word(w[89]),
-        top: bits::from_word(w[90]),
-        bottom: bits::from_word(w[91]),
+        left: bits::from_word(w[OVERFLOW]),
+        right: bits::from_word(w[OVERFLOW + 1]),
+        top: bits::from_word(w[OVERFLOW + 2]),
+        bottom: bits::from_word(w[OVERFLOW + 3]),
     }
 }
 
-fn reply_to(stage: Stage, w: &[u32; 127]) -> Reply {
+fn reply_to(stage: Stage, w: &[u32; BOX_WORDS]) -> Reply {
     match stage {
-        Stage::KeywordBoth => Reply::Both(size_at(w, 84)),
-        Stage::KeywordWidth => Reply::Width(bits::from_word(w[84])),
-        Stage::KeywordHeight => Reply::Height(bits::from_word(w[84])),
-        Stage::Fill => Reply::Both(size_at(w, 86)),
+        Stage::KeywordBoth => Reply::Both(size_at(w, KEYWORD)),
+        Stage::KeywordWidth => Reply::Width(bits::from_word(w[KEYWORD])),
+        Stage::KeywordHeight => Reply::Height(bits::from_word(w[KEYWORD])),
+        Stage::Fill => Reply::Both(size_at(w, FILL)),
         Stage::LayOut => Reply::LaidOut(overflow_of(w)),
     }
 }
 
 // ---- what is found
 
-fn is_finish(finish: Rect, w: &[u32; 127]) -> bool {
-    if !same(bits::to_word(finish.left), w[65]) {
+fn is_finish(finish: Rect, w: &[u32; BOX_WORDS]) -> bool {
+    if !same(bits::to_word(finish.left), w[FINISH]) {
         return false;
     }
-    if !same(bits::to_word(finish.right), w[66]) {
+    if !same(bits::to_word(finish.right), w[FINISH + 1]) {
         return false;
     }
-    if !same(bits::to_word(finish.top), w[67]) {
+    if !same(bits::to_word(finish.top), w[FINISH + 2]) {
         return false;
     }
-    same(bits::to_word(finish.bottom), w[68])
+    same(bits::to_word(finish.bottom), w[FINISH + 3])
 }
 
-fn is_layout(laid: Layout, w: &[u32; 127]) -> bool {
+fn is_layout(laid: Layout, w: &[u32; BOX_WORDS]) -> bool {
     let words = layout::layout_words(laid);
     let mut i: usize = 0;
-    while i < 23 {
-        if !same(words[i], w[92 + i]) {
+    while i < LAYOUT_WORDS {
+        if !same(words[i], w[LAYOUT + i]) {
             return false;
         }
         i += 1;
@@ -221,24 +257,24 @@ fn is_layout(laid: Layout, w: &[u32; 127]) -> bool {
 }
 
 // The layout's words, and the finish rectangle of a run of one box.
-fn is_found(found: OofBoxLayout, w: &[u32; 127]) -> bool {
+fn is_found(found: OofBoxLayout, w: &[u32; BOX_WORDS]) -> bool {
     let laid = found.layout;
     let added = found.contribution;
     is_layout(laid, w) && is_finish(Rect::ZERO.union(added), w)
 }
 
 // Whether a box asks, lays out and contributes what was recorded.
-pub(crate) fn agrees(w: &[u32; 127]) -> bool {
+pub(crate) fn agrees(w: &[u32; BOX_WORDS]) -> bool {
     let style = decode::style_at(w, 0);
-    let candidate = candidate::candidate_at(w, 5);
+    let candidate = candidate_of(w);
     let container = container_of(w);
     let mut replies = Replies::NONE;
-    let mut path = w[69];
+    let mut path = w[STAGES];
     let mut i: usize = 0;
     while i < 3 {
         let asked = dialogue::next_question(container, style, candidate, replies);
         let stage = asked.stage;
-        if !is_recorded(asked, path % 8, w, 115 + 4 * i) {
+        if !is_recorded(asked, path % 8, w, QUESTIONS + 4 * i) {
             return false;
         }
         match replies.take(stage, reply_to(stage, w)) {

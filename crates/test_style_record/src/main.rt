@@ -2,12 +2,32 @@
 // list, each time in another item, so that every item has its turn. What the check finds is printed, and held to the file
 // stdout, which a script wrote from a model of its own (tools/samples).
 ghost use mathlib.Core.Path.{_≡_};
+ghost use Prim.Native.Nat.{_*_};
 ghost use lib.ListN.{length};
+ghost use Rattle.style_record.specs.Record.{styleWords};
 use style_record::check;
 use style_record::check::TableCheck;
+use style_record::words;
+use style_record::words::STYLE_WORDS;
+
+const ITEMS: usize = 1024;
+
+const TABLE: usize = ITEMS * STYLE_WORDS;
+
+// Where the last item begins.
+const LAST: usize = TABLE - STYLE_WORDS;
+
+const INSET_VALUE: usize = words::INSET + 1;
+
+// Tags of lengths that are not the first of their field.
+const INSET_RIGHT: usize = words::INSET + words::LENGTH_WORDS;
+
+const PADDING_TOP: usize = words::PADDING + 2 * words::LENGTH_WORDS;
+
+const CODE_COUNT: usize = 24;
 
 // Codes that are in some lists and outside others; 257 and 261 have the low bytes of tags.
-const CODES: [u32; 24] = [
+const CODES: [u32; CODE_COUNT] = [
     0,
     1,
     2,
@@ -34,16 +54,32 @@ const CODES: [u32; 24] = [
     4294967295,
 ];
 
+const TAG_COUNT: usize = 10;
+
 // Two tags that every field takes, then auto, then those of sizes only.
-const TAGS: [u32; 10] = [1, 5, 3, 11, 15, 27, 35, 43, 59, 75];
+const TAGS: [u32; TAG_COUNT] = [1, 5, 3, 11, 15, 27, 35, 43, 59, 75];
 
 // How many codes each word after the lengths has, and how many words a float.
-const COUNTS: [u64; 13] = [2, 4294967296, 2, 4, 2, 11, 3, 11, 3, 4, 4, 4294967296, 256];
+const COUNTS: [u64; words::CODE_WORDS] = [
+    2,
+    4294967296,
+    2,
+    4,
+    2,
+    11,
+    3,
+    11,
+    3,
+    4,
+    4,
+    4294967296,
+    256,
+];
 
-fn zeros() -> [u32; 58368]
-    ensures { λ r. ⌜ 58368 ≡ length r ⌝ }
+fn zeros() -> [u32; TABLE]
+    ensures { λ r. ⌜ 1024 * styleWords ≡ length r ⌝ }
 {
-    [0; 58368]
+    [0; TABLE]
 }
 
 // The next of a fixed sequence.
@@ -60,29 +96,29 @@ fn tag(d: u64, n: u64) -> u32 {
     if n == 0 {
         return 0;
     }
-    let i = d / 65536 % n;
-    if i < 10 {
-        return TAGS[i as usize];
+    let i = (d / 65536 % n) as usize;
+    if i < TAG_COUNT {
+        return TAGS[i];
     }
     0
 }
 
 // A word that breaks no rule as word k of a record, by a draw.
 fn sample(k: usize, d: u64) -> u32 {
-    if k < 44 {
-        if k % 2 == 1 {
+    if k < words::RATIO_PRESENT {
+        if k % words::LENGTH_WORDS != 0 {
             return low(d);
         }
-        if k < 16 {
+        if k < words::PADDING {
             return tag(d, 3);
         }
-        if k < 32 {
+        if k < words::SIZE {
             return tag(d, 2);
         }
         return tag(d, 10);
     }
-    if k < 57 {
-        let n = COUNTS[k - 44];
+    if k < STYLE_WORDS {
+        let n = COUNTS[k - words::RATIO_PRESENT];
         if n == 0 {
             return 0;
         }
@@ -96,7 +132,7 @@ fn fill(table: &mut [u32]) {
     let mut i: usize = 0;
     while i < table.len() {
         state = draw(state);
-        table[i] = sample(i % 57, state);
+        table[i] = sample(i % STYLE_WORDS, state);
         i += 1;
     }
 }
@@ -139,11 +175,11 @@ fn both_replaced(table: &mut [u32], place: usize, word: u32, other: usize, code:
 // Word k of an item by the code at j, and the item's word `other` by a code of its own. Each k and j have an item of their
 // own.
 fn one(table: &mut [u32], k: usize, j: usize, other: usize, code: u32) {
-    if k < 57 {
-        if other < 57 {
-            if j < 24 {
-                let item = (24 * k + j) * 37 % 1024;
-                both_replaced(table, 57 * item + k, CODES[j], 57 * item + other, code);
+    if k < STYLE_WORDS {
+        if other < STYLE_WORDS {
+            if j < CODE_COUNT {
+                let at = STYLE_WORDS * ((CODE_COUNT * k + j) * 37 % ITEMS);
+                both_replaced(table, at + k, CODES[j], at + other, code);
             }
         }
     }
@@ -152,7 +188,7 @@ fn one(table: &mut [u32], k: usize, j: usize, other: usize, code: u32) {
 // Word k by every code.
 fn row(table: &mut [u32], k: usize, other: usize, code: u32) {
     let mut j: usize = 0;
-    while j < 24 {
+    while j < CODE_COUNT {
         one(table, k, j, other, code);
         j += 1;
     }
@@ -162,8 +198,8 @@ fn row(table: &mut [u32], k: usize, other: usize, code: u32) {
 // Every word by every code. The other word is a float, which no code breaks.
 fn rows(table: &mut [u32]) {
     let mut k: usize = 0;
-    while k < 57 {
-        row(table, k, 1, 4290772993);
+    while k < STYLE_WORDS {
+        row(table, k, INSET_VALUE, 4290772993);
         k += 1;
     }
 }
@@ -175,38 +211,54 @@ fn part(table: &[u32], n: usize) {
     }
 }
 
+// Safeties under an absent keyword, then under a keyword that is none.
+fn safeties(table: &mut [u32]) {
+    row(table, words::JUSTIFY_SAFETY, words::JUSTIFY, 10);
+    row(table, words::ALIGN_SAFETY, words::ALIGN, 10);
+    row(table, words::JUSTIFY_SAFETY, words::JUSTIFY, 11);
+}
+
+// Two words of one item, and of two items: the first in record order.
+fn pairs(table: &mut [u32]) {
+    row(table, PADDING_TOP, words::CONTAIN, 256);
+    row(table, words::CONTAIN, PADDING_TOP, 3);
+    let late = 900 * STYLE_WORDS + INSET_RIGHT;
+    let early = 30 * STYLE_WORDS + words::CONTAIN;
+    both_replaced(table, late, 0, early, 256);
+    both_replaced(table, early, 256, late, 0);
+    io::write_all(1, b"\n");
+}
+
 fn main() {
     let mut table = zeros();
     fill(&mut table);
     report(&table);
     io::write_all(1, b"\n");
     rows(&mut table);
-    // safeties under an absent keyword, then under a keyword that is none
-    row(&mut table, 50, 49, 10);
-    row(&mut table, 52, 51, 10);
-    row(&mut table, 50, 49, 11);
-    // two words of one item, and of two items: the first in record order
-    row(&mut table, 20, 56, 256);
-    row(&mut table, 56, 20, 3);
-    both_replaced(&mut table, 57 * 900 + 2, 0, 57 * 30 + 56, 256);
-    both_replaced(&mut table, 57 * 30 + 56, 256, 57 * 900 + 2, 0);
-    io::write_all(1, b"\n");
+    safeties(&mut table);
+    pairs(&mut table);
     // item and word, not a place in the table; a safety behind keyword 9; a NaN for a ratio; the first item before the first word
-    replaced(&mut table, 57, 2);
-    both_replaced(&mut table, 50, 3, 49, 9);
-    both_replaced(&mut table, 44, 1, 45, 2143289344);
-    both_replaced(&mut table, 56, 256, 57, 2);
+    replaced(&mut table, STYLE_WORDS, 2);
+    both_replaced(&mut table, words::JUSTIFY_SAFETY, 3, words::JUSTIFY, 9);
+    both_replaced(
+        &mut table,
+        words::RATIO_PRESENT,
+        1,
+        words::RATIO,
+        2143289344,
+    );
+    both_replaced(&mut table, words::CONTAIN, 256, STYLE_WORDS, 2);
     io::write_all(1, b"\n");
     // a trailing part of a record is not looked at
-    let before = table[57];
-    table[57] = 2;
-    part(&table, 58);
-    table[57] = before;
-    table[58311] = 2;
-    part(&table, 58368);
-    part(&table, 58367);
-    part(&table, 58312);
-    part(&table, 56);
+    let before = table[STYLE_WORDS];
+    table[STYLE_WORDS] = 2;
+    part(&table, STYLE_WORDS + 1);
+    table[STYLE_WORDS] = before;
+    table[LAST] = 2;
+    part(&table, TABLE);
+    part(&table, TABLE - 1);
+    part(&table, LAST + 1);
+    part(&table, STYLE_WORDS - 1);
     part(&table, 0);
     io::write_all(1, b"\n");
 }

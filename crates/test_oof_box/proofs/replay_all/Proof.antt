@@ -1,7 +1,8 @@
 -- Generated skeleton (tools/proof/write-skeletons), answers by hand.
-use Prim.Native.Nat.{_≤_, _-_}
+use Prim.Native.Nat.{_≤_, _-_, _*_}
 use mathlib.Core.Path.{_≡_}
 use lib.ListN.{length}
+use Rattle.test_oof_box.specs.Box.{boxWords}
 use borrow.Author.Needs.{needs}
 use Rattle.test_oof_box.proofs.replay_all.Statement.{statement}
 use Rattle.test_oof_box.proofs.replay_all.Tie as tie
@@ -13,7 +14,7 @@ use Rattle.test_oof_box.proofs.is_replayed.Reads as is-replayed-reads
 use Rattle.test_oof_box.proofs.print_count.Reads as print-count-reads
 
 abbrev Inv-loop : tie.InvT-loop
-Inv-loop n bytes₀ there₀ agree₀ i₀ t7 t8 bytes there agree i = (i ≤ n) × (508 ≡ length bytes)
+Inv-loop n bytes₀ there₀ agree₀ i₀ t7 t8 bytes there agree i = (i ≤ n) × (4 * boxWords ≡ length bytes)
 
 abbrev μ-loop : tie.MeasureT-loop
 μ-loop n bytes₀ there₀ agree₀ i₀ t7 t8 bytes there agree i = n - i

@@ -2,6 +2,7 @@
 use Prim.Native.Nat.{_≤_, _-_}
 use mathlib.Core.Path.{_≡_, refl}
 use lib.ListN.{length, length-set}
+use Rattle.test_oof_box.specs.Box.{boxWords}
 use borrow.Author.Needs.{needs}
 use Rattle.test_oof_box.proofs.words_of.Statement.{statement}
 use Rattle.test_oof_box.proofs.words_of.Tie as tie
@@ -10,10 +11,10 @@ use Rattle.test_oof_box.proofs.words_of.Lts as lts
 use Rattle.test_oof_box.proofs.word.Reads as word-reads
 
 abbrev Inv-loop : tie.InvT-loop
-Inv-loop bytes words₀ i₀ words i = (i ≤ 127) × (127 ≡ length words)
+Inv-loop bytes words₀ i₀ words i = (i ≤ boxWords) × (boxWords ≡ length words)
 
 abbrev μ-loop : tie.MeasureT-loop
-μ-loop bytes words₀ i₀ words i = 127 - i
+μ-loop bytes words₀ i₀ words i = boxWords - i
 
 loop-holds : tie.Need-loop-holds Inv-loop μ-loop
 loop-holds c = (search needs, refl)

@@ -2,6 +2,7 @@
 use lib.ListN.{length}
 use mathlib.Core.Path.{_≡_, refl, _∙_}
 use Prim.Native.Nat.{_≤_, _-_}
+use Rattle.style_record.specs.Record.{styleWords}
 use borrow.Author.Needs.{needs}
 use Rattle.test_style_record.proofs.rows.Statement.{statement}
 use Rattle.test_style_record.proofs.rows.Tie as tie
@@ -10,10 +11,10 @@ use Rattle.test_style_record.proofs.rows.Lts as lts
 use Rattle.test_style_record.proofs.row.Reads as row-reads
 
 abbrev Inv-loop : tie.InvT-loop
-Inv-loop table₀ k₀ table k = (k ≤ 57) × (length table ≡ length table₀)
+Inv-loop table₀ k₀ table k = (k ≤ styleWords) × (length table ≡ length table₀)
 
 abbrev μ-loop : tie.MeasureT-loop
-μ-loop table₀ k₀ table k = 57 - k
+μ-loop table₀ k₀ table k = styleWords - k
 
 loop-holds : tie.Need-loop-holds Inv-loop μ-loop
 loop-holds c = (search needs, refl)

@@ -13,7 +13,7 @@ use Rattle.test_oof_box.proofs.replay.is_found.Reads as is-found-reads
 use Rattle.test_oof_box.proofs.replay.is_recorded.Reads as is-recorded-reads
 use Rattle.test_oof_box.proofs.replay.reply_to.Reads as reply-to-reads
 use Rattle.style_record.proofs.decode.style_at.Reads as style-at-reads
-use Rattle.tree_record.proofs.candidate.candidate_at.Reads as candidate-at-reads
+use Rattle.test_oof_box.proofs.replay.candidate_of.Reads as candidate-of-reads
 
 abbrev Inv-loop : tie.InvT-loop
 Inv-loop w style candidate container replies₀ path₀ i₀ replies path i = i ≤ 3
@@ -24,8 +24,8 @@ abbrev μ-loop : tie.MeasureT-loop
 style-at-requires : tie.Need-style-at-requires Inv-loop μ-loop
 style-at-requires c κs = search needs
 
-candidate-at-requires : tie.Need-candidate-at-requires Inv-loop μ-loop
-candidate-at-requires c κs = search needs
+candidate-of-requires : tie.Need-candidate-of-requires Inv-loop μ-loop
+candidate-of-requires c κs = search needs
 
 container-of-requires : tie.Need-container-of-requires Inv-loop μ-loop
 container-of-requires c κs = search needs
@@ -100,7 +100,7 @@ agrees-spec =
     Inv-loop
     μ-loop
     style-at-requires
-    candidate-at-requires
+    candidate-of-requires
     container-of-requires
     element-copy-out-path
     loop-holds

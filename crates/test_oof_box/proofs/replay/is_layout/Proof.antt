@@ -1,5 +1,6 @@
 -- Generated skeleton (tools/proof/write-skeletons), answers by hand.
 use Prim.Native.Nat.{_≤_, _-_}
+use Rattle.tree_record.specs.Layout.{layoutWidth}
 use borrow.Author.Needs.{needs}
 use Rattle.test_oof_box.proofs.replay.is_layout.Statement.{statement}
 use Rattle.test_oof_box.proofs.replay.is_layout.Tie as tie
@@ -9,10 +10,10 @@ use Rattle.test_oof_box.proofs.replay.same.Reads as same-reads
 use Rattle.tree_record.proofs.layout.layout_words.Reads as layout-words-reads
 
 abbrev Inv-loop : tie.InvT-loop
-Inv-loop w words i₀ i = i ≤ 23
+Inv-loop w words i₀ i = i ≤ layoutWidth
 
 abbrev μ-loop : tie.MeasureT-loop
-μ-loop w words i₀ i = 23 - i
+μ-loop w words i₀ i = layoutWidth - i
 
 layout-words-requires : tie.Need-layout-words-requires Inv-loop μ-loop
 layout-words-requires c κs = search needs
