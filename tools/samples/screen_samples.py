@@ -9,10 +9,10 @@ root = os.path.join(os.path.dirname(os.path.abspath(__file__)), '..', '..', 'cra
 # ---- the format: c is a code, e a float in eighths
 
 FIRST = 'eeee' + 'cccccc'
-STYLE = 'ce' * 22 + 'ce' + 'ccccccccc' + 'e' + 'c'
+STYLE = 'cee' * 22 + 'ce' + 'ccccccccc' + 'e' + 'c'
 REPLY = 'eeeeee'
 CANDIDATE = 'ccc' + 'eeccc' * 2 + 'c'
-assert (len(FIRST), len(STYLE), len(REPLY), len(CANDIDATE)) == (10, 57, 6, 14)
+assert (len(FIRST), len(STYLE), len(REPLY), len(CANDIDATE)) == (10, 79, 6, 14)
 
 
 def bits(x):
@@ -129,10 +129,10 @@ def lines(*rows):
 
 
 def example_style():
-    auto, zero = [3, 0], [1, 0]
-    inset = [1, 800] + [1, 800] + [1, 160] + auto
+    auto, zero = [3, 0, 0], [1, 0, 0]
+    inset = [1, 800, 0] + [1, 800, 0] + [1, 160, 0] + auto
     margin = auto + auto + zero + zero
-    size = [1, 1600] + [1, 800]
+    size = [1, 1600, 0] + [1, 800, 0]
     return inset + margin + zero * 4 + zero * 4 + size + auto * 4 + [0] * 13
 
 
@@ -154,10 +154,10 @@ good = screen()
 samples = {
     'example': good,
     'all-different': screen(
-        [-8, 16, -24, 32, 5, 6, 7, 8, 1, 1], [41 * j - 900 if STYLE[j] == 'e' else 37 * j + 1 for j in range(57)], [100, -200, 300, -400, 500, -600],
+        [-8, 16, -24, 32, 5, 6, 7, 8, 1, 1], [41 * j - 900 if STYLE[j] == 'e' else 37 * j + 1 for j in range(len(STYLE))], [100, -200, 300, -400, 500, -600],
         [11, 12, 13, -14, 15, 16, 17, 18, -19, 20, 21, 22, 23, 24]),
     'two-of-each': lines(
-        [800, 480, 8, -8, 1, 2, 3, 0, 2, 2], list(range(57)) + [1, 2, 3, 4, 5, 6], list(range(100, 157)) + [-1, -2, -3, -4, -5, -6],
+        [800, 480, 8, -8, 1, 2, 3, 0, 2, 2], list(range(len(STYLE))) + [1, 2, 3, 4, 5, 6], list(range(100, 100 + len(STYLE))) + [-1, -2, -3, -4, -5, -6],
         list(range(14)), list(range(14, 28))),
     'none-of-either': lines([800, 480, 0, 0, 0, 0, 0, 0, 0, 0]),
     'float-largest': screen(put(put(HEADER, 0, 9999999), 1, -9999999)),
@@ -168,6 +168,12 @@ samples = {
     'code-eleven-digits': screen(candidate=put(CAND, 1, b'99999999999')),
     'code-minus-one': screen(put(HEADER, 4, -1)),
     'float-in-tag': screen(style=put(example_style(), 0, -1)),
+    'float-in-second-tag': screen(style=put(example_style(), 3, -1)),
+    'sum': screen(style=[129, 4, -96] + example_style()[3:]),
+    'second-largest': screen(style=put(put(example_style(), 2, 9999999), 65, -9999999)),
+    'second-over': screen(style=put(example_style(), 2, 10000000)),
+    'second-half': screen(style=put(example_style(), 65, b'0.5')),
+    'two-words-a-length': screen(style=[n for j, n in enumerate(example_style()) if j >= 66 or j % 3 < 2]),
     'code-minus-zero': screen(put(HEADER, 4, b'-0')),
     'code-plus': screen(put(HEADER, 4, b'+1')),
     'float-minus-zero': screen(put(put(HEADER, 2, b'-0'), 3, b'+0')),

@@ -47,7 +47,7 @@ ScreenExactly = (text : List ℕ) → (isScreen text ≡ true) ↔ IsScreen text
 
 -- the bytes of the three lines and of the longest screen, in numbers
 abbrev pub BytesInNumbers : Type 0
-BytesInNumbers = (FIRST-BYTES ≡ 111) × (ITEM-BYTES ≡ 694) × (CANDIDATE-BYTES ≡ 155) × (MAX-BYTES ≡ 128623)
+BytesInNumbers = (FIRST-BYTES ≡ 111) × (ITEM-BYTES ≡ 936) × (CANDIDATE-BYTES ≡ 155) × (MAX-BYTES ≡ 159599)
 
 -- the bytes of a screen follow from its counts
 abbrev pub ScreenSize : Type 0

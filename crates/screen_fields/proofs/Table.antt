@@ -6,14 +6,14 @@ use mathlib.Core.Bool.{Bool, true, false, cond, not}
 use mathlib.Core.List.{List, [], _∷_}
 use lib.Dec.{T, ltb, leb, eqb}
 use lib.ListN.{length, getD}
-use Rattle.style_record.specs.Record.{lengthWords, afterLengths, styleWords}
+use Rattle.style_record.specs.Record.{lengthWords, afterLengths, ratioWord, scrollbarWord, styleWords, kindOf, lengthField, lengthKinds, codeKinds}
 use Rattle.tree_record.specs.Candidate.{candidateWidth, layerWord}
 use Rattle.screen_fields.specs.declared.format.Kind.{Kind}
 use Rattle.screen_fields.specs.declared.format.Kind.the-variants.{Code, Eighths}
 use Rattle.screen_fields.specs.declared.format.Line.{Line}
 use Rattle.screen_fields.specs.declared.format.Line.the-variants.{First, Item, Candidate}
 use Rattle.screen_fields.specs.Format.{isFloat, headerWidth, firstFields, styleFields, replyWidth, replyFields, candidateFields, fieldsOf, bytesOf, FIRST-BYTES, ITEM-BYTES, CANDIDATE-BYTES}
-use Rattle.screen_fields.specs.Laws.{CandidateLine, BytesByWidths}
+use Rattle.screen_fields.specs.Laws.{CandidateLine, itemHoldsFloat, itemFloat, ItemLine, BytesByWidths}
 use Rattle.screen_fields.proofs.Text.{apart}
 
 -- the test that the code makes
@@ -21,7 +21,7 @@ unfoldable pub isFloatAt : Line → ℕ → Bool
 isFloatAt First j = ltb j 4
 isFloatAt Item j =
     cond (ltb j afterLengths) (not (eqb (j % lengthWords) 0))
-    (cond (eqb j (afterLengths + 1)) true (cond (eqb j (afterLengths + 11)) true (leb styleWords j)))
+    (cond (eqb j ratioWord) true (cond (eqb j scrollbarWord) true (leb styleWords j)))
 isFloatAt Candidate j = cond (ltb j 3) false (cond (eqb j layerWord) false (ltb ((j - 3) % 5) 2))
 
 abbrev same : Bool → Bool → Bool
@@ -65,8 +65,12 @@ tested First = tt
 tested Item = tt
 tested Candidate = tt
 
+-- a test that tells the floats of a line, field by field
+told : (f : ℕ → Bool) (line : Line) → T (every f 0 (fieldsOf line)) → (j : ℕ) → j < length (fieldsOf line) → f j ≡ isFloat (getD (fieldsOf line) j Code)
+told f line t j h = subst (λ (m : ℕ). f m ≡ isFloat (getD (fieldsOf line) j Code)) (zero-add j) (from f (fieldsOf line) 0 t j h)
+
 pub float-at : (line : Line) (j : ℕ) → j < length (fieldsOf line) → isFloatAt line j ≡ isFloat (getD (fieldsOf line) j Code)
-float-at line j h = subst (λ (m : ℕ). isFloatAt line m ≡ isFloat (getD (fieldsOf line) j Code)) (zero-add j) (from (isFloatAt line) (fieldsOf line) 0 (tested line) j h)
+float-at line = told (isFloatAt line) line (tested line)
 
 pub float-is : (k : Kind) → isFloat k ≡ true → Eighths ≡ k
 unfolding isFloat
@@ -109,6 +113,10 @@ candidate-bytes = rw candidate-width refl
 pub candidate-line : CandidateLine
 unfolding fieldsOf candidateFields isFloat
 candidate-line = (refl, λ n. refl)
+
+pub item-line : ItemLine
+unfolding fieldsOf styleFields replyFields isFloat kindOf lengthField lengthKinds codeKinds
+item-line = (refl, λ j h. sym (told itemHoldsFloat Item tt j h), λ j h. sym (told itemFloat Item tt j h))
 
 pub bytes-by-widths : BytesByWidths
 bytes-by-widths = (first-bytes, item-bytes, candidate-bytes)

@@ -30,9 +30,9 @@ headerWidth = 10
 unfoldable pub firstFields : List Kind
 firstFields = replicate 4 Eighths ++ replicate 6 Code
 
--- a length: tag, value
+-- a length: tag, value, second value; the values are floats whatever the tag
 abbrev pub lengthFields : List Kind
-lengthFields = Code ∷ Eighths ∷ []
+lengthFields = Code ∷ Eighths ∷ Eighths ∷ []
 
 -- a style: the lengths; ratio present, ratio; box sizing, flags, direction, justify, its safety, align, its safety, overflow x, overflow y;
 -- scrollbar width, contain

@@ -1,14 +1,16 @@
 -- What the definitions of this crate mean, as statements. `proofs/Laws.antt` and `proofs/Spelled.antt` prove each, under its name in small
 -- letters. Assumes nothing.
-use Prim.Native.Nat.{ℕ, _+_, _-_, _*_, _<_, _≤_}
+use Prim.Native.Nat.{ℕ, _+_, _-_, _*_, _%_, _<_, _≤_}
 use mathlib.Core.Path.{_≡_}
-use mathlib.Core.Bool.{Bool, true, false, _&&_}
+use mathlib.Core.Bool.{Bool, true, false, cond, not, _&&_, _||_}
 use mathlib.Core.List.{List, [], _∷_, _++_, map}
-use lib.ListN.{length, replicate}
+use lib.Dec.{ltb, leb, eqb}
+use lib.ListN.{length, replicate, getD}
 use lib.Ieee.{Float, ofBits, toBits, binary32}
 use Rattle.util.specs.declared.eighths.Count.the-variants.{Whole}
 use Rattle.util.specs.Eighths.{eighths, countOf}
 use Rattle.records.specs.Records as records
+use Rattle.style_record.specs.Record as style
 use Rattle.tree_record.specs.Candidate.{candidateKinds}
 use Rattle.boxlist_lines.specs.declared.Ink.the-variants.{Digits}
 use Rattle.boxlist_lines.specs.Column.{cells, countInk, eighthsText, codeText}
@@ -123,6 +125,31 @@ holdsFloat records.float = true
 -- is a float, else a code
 abbrev pub CandidateLine : Type 0
 CandidateLine = (length (fieldsOf Candidate) ≡ 14) × ((n : ℕ) → map isFloat (fieldsOf Candidate) ≡ map holdsFloat (candidateKinds n))
+
+-- a word of a style is a float
+abbrev pub styleHoldsFloat : style.Kind → Bool
+styleHoldsFloat (style.tag field) = false
+styleHoldsFloat style.number = true
+styleHoldsFloat (style.upTo last) = false
+styleHoldsFloat style.ratio = true
+styleHoldsFloat style.keyword = false
+styleHoldsFloat style.safety = false
+styleHoldsFloat style.contain = false
+
+-- a field of an item line is one: a style's words by their kinds; the replies, all of them
+abbrev pub itemHoldsFloat : ℕ → Bool
+itemHoldsFloat j = cond (ltb j style.styleWords) (styleHoldsFloat (style.kindOf j)) true
+
+-- the same by numbers: the two values of each length, the ratio, the scrollbar width, the replies
+abbrev pub itemFloat : ℕ → Bool
+itemFloat j = (ltb j 66 && not (eqb (j % 3) 0)) || (eqb j 67 || (eqb j 77 || leb 79 j))
+
+-- request #105, "its line in the screen file 85 fields": a float in eighths exactly there, whatever the tag, else a code
+abbrev pub ItemLine : Type 0
+ItemLine =
+    (length (fieldsOf Item) ≡ 85)
+    × ((j : ℕ) → j < 85 → isFloat (getD (fieldsOf Item) j Code) ≡ itemHoldsFloat j)
+    × ((j : ℕ) → j < 85 → isFloat (getD (fieldsOf Item) j Code) ≡ itemFloat j)
 
 -- the bytes of each line, by the records' widths
 abbrev pub BytesByWidths : Type 0

@@ -24,9 +24,9 @@ const INSET_RIGHT: usize = words::INSET + words::LENGTH_WORDS;
 
 const PADDING_TOP: usize = words::PADDING + 2 * words::LENGTH_WORDS;
 
-const CODE_COUNT: usize = 24;
+const CODE_COUNT: usize = 28;
 
-// Codes that are in some lists and outside others; 257 and 261 have the low bytes of tags.
+// Codes that are in some lists and outside others; 257, 261 and 385 have the low bytes of tags.
 const CODES: [u32; CODE_COUNT] = [
     0,
     1,
@@ -45,19 +45,23 @@ const CODES: [u32; CODE_COUNT] = [
     59,
     75,
     76,
+    128,
+    129,
+    130,
     255,
     256,
     257,
     259,
     261,
+    385,
     2147483653,
     4294967295,
 ];
 
-const TAG_COUNT: usize = 10;
+const TAG_COUNT: usize = 11;
 
-// Two tags that every field takes, then auto, then those of sizes only.
-const TAGS: [u32; TAG_COUNT] = [1, 5, 3, 11, 15, 27, 35, 43, 59, 75];
+// Three tags that every field takes, then auto, then those of sizes only.
+const TAGS: [u32; TAG_COUNT] = [1, 5, 129, 3, 11, 15, 27, 35, 43, 59, 75];
 
 // How many codes each word after the lengths has, and how many words a float.
 const COUNTS: [u64; words::CODE_WORDS] = [
@@ -110,12 +114,12 @@ fn sample(k: usize, d: u64) -> u32 {
             return low(d);
         }
         if k < words::PADDING {
-            return tag(d, 3);
+            return tag(d, 4);
         }
         if k < words::SIZE {
-            return tag(d, 2);
+            return tag(d, 3);
         }
-        return tag(d, 10);
+        return tag(d, 11);
     }
     if k < STYLE_WORDS {
         let n = COUNTS[k - words::RATIO_PRESENT];
@@ -172,8 +176,7 @@ fn both_replaced(table: &mut [u32], place: usize, word: u32, other: usize, code:
     }
 }
 
-// Word k of an item by the code at j, and the item's word `other` by a code of its own. Each k and j have an item of their
-// own.
+// Word k of an item by the code at j, and the item's word `other` by a code of its own. The item goes by k and j.
 fn one(table: &mut [u32], k: usize, j: usize, other: usize, code: u32) {
     if k < STYLE_WORDS {
         if other < STYLE_WORDS {
