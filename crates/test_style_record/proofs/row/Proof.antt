@@ -1,7 +1,7 @@
 -- Generated skeleton (tools/proof/write-skeletons), answers by hand.
 use lib.ListN.{length}
 use mathlib.Core.Path.{_≡_, refl, _∙_}
-use Prim.Native.Nat.{_≤_, _-_}
+use Prim.Native.Nat.{ℕ, _≤_, _-_}
 use borrow.Author.Needs.{needs}
 use Rattle.test_style_record.proofs.row.Statement.{statement}
 use Rattle.test_style_record.proofs.row.Tie as tie
@@ -10,11 +10,15 @@ use Rattle.test_style_record.proofs.row.Lts as lts
 use Rattle.io.proofs.write_all.Reads as write-all-reads
 use Rattle.test_style_record.proofs.one.Reads as one-reads
 
+-- how many codes replace a word
+abbrev codeCount : ℕ
+codeCount = 28
+
 abbrev Inv-loop : tie.InvT-loop
-Inv-loop table₀ k other code j₀ t6 table j = (j ≤ 24) × (length table ≡ length table₀)
+Inv-loop table₀ k other code j₀ t6 table j = (j ≤ codeCount) × (length table ≡ length table₀)
 
 abbrev μ-loop : tie.MeasureT-loop
-μ-loop table₀ k other code j₀ t6 table j = 24 - j
+μ-loop table₀ k other code j₀ t6 table j = codeCount - j
 
 loop-holds : tie.Need-loop-holds Inv-loop μ-loop
 loop-holds c = (search needs, refl)
