@@ -16,7 +16,7 @@ use Rattle.mirror_run.specs.Runs.{Message, runNext, imageNext, AllFair, 
 abbrev pub Mirror : Type 0
 Mirror =
     (o : Opening) (candidates : List ℕ) (lent lent' : Lent) (soFar later : List Message)
-    -- whole quarter pixels, a width that isn't 0, no percentage, no ratio
+    -- whole quarter pixels, a width that isn't 0, no percentage, no sum, no ratio
     → QuarterArea (o .area) → QuarterTable (lent .styles) → QuarterCandidates candidates
     -- the image's slices are as long; but for its styles they may hold any words
     → lent' .styles ≡ imageStyles (lent .styles) → extentsOf lent ≡ extentsOf lent'

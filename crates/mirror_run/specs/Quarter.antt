@@ -1,5 +1,5 @@
--- What demand 3 asks of a run: whole quarter pixels of size 4,096 at most (`Quarter`), an area whose width isn't 0, no percentage and no
--- ratio. The mirror puts to use only what bears on x, since along y both runs have the same words; whole pixels, both (pixels_laws), and no
+-- What demand 3 asks of a run: whole quarter pixels of size 4,096 at most (`Quarter`), an area whose width isn't 0, no percentage, no sum
+-- and no ratio. The mirror puts to use only what bears on x, since along y both runs have the same words; whole pixels, both (pixels_laws), and no
 -- width that isn't 0. Assumes nothing.
 use Prim.Native.Nat.{ℕ, _+_, _*_, _/_, _<_}
 use mathlib.Core.Path.{_≡_}

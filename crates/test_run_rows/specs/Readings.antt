@@ -286,6 +286,10 @@ withoutBoxes =
 
 -- ---- [3], of lengths and styles
 
+-- 57 style words and so many words for layouts
+unfoldable pub lending57 : ℕ → Lent
+lending57 words = record { styles = replicate 57 1; layouts = replicate words unused; working = replicate candidateWidth unused; unclaimed = [] }
+
 unfoldable pub styles : List Bool
 styles =
     -- 257 as a tag is `broken`; keyword 10 with safety 7, and keyword 9
@@ -297,6 +301,14 @@ styles =
     ∷ laysOut boxAsked (opening absolute (over (set box ratioWord nan) 1 1))
     -- an item that nobody names
     ∷ refuses 3 (opening absolute (over (box ++ broken) 1 1))
+    -- request #105: 57 words, as a style had before it, are no table, and one item's layout doesn't make them one
+    ∷ refuses 2 (opening absolute (lending57 0))
+    ∷ refuses 2 (opening absolute (lending57 layoutWidth))
+    -- a sum, 129, is a tag of padding; 385 and the Rust's own 4 are none; second values are any words
+    ∷ laysOut boxAsked (opening absolute (over (written box (tagWord 8) (129 ∷ 0 ∷ 0 ∷ [])) 1 1))
+    ∷ refuses 3 (opening absolute (over (set box (tagWord 8) 385) 1 1))
+    ∷ refuses 3 (opening absolute (over (set box (tagWord 8) 4) 1 1))
+    ∷ laysOut boxAsked (opening absolute (over (set (set box (tagWord 8 + 2) nan) (tagWord 16 + 2) (px 7)) 1 1))
     ∷ []
 
 -- ---- 8: [4]
