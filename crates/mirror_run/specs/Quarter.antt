@@ -1,6 +1,6 @@
--- What demand 3 asks of a run: whole quarter pixels of size 4,096 at most (`Quarter`), an area whose width isn't 0, no percentage, no sum
--- and no ratio. The mirror puts to use only what bears on x, since along y both runs have the same words; whole pixels, both (pixels_laws), and no
--- width that isn't 0. Assumes nothing.
+-- What demand 3 asks of a run: whole quarter pixels of size 4,096 at most (`Quarter`), an area whose width isn't 0, no percentage, by
+-- request #105 no sum with one, and no ratio. The mirror puts to use only what bears on x, since along y both runs have the same words;
+-- whole pixels, both (pixels_laws), and no width that isn't 0. Assumes nothing.
 use Prim.Native.Nat.{ℕ, _+_, _*_, _/_, _<_}
 use mathlib.Core.Path.{_≡_}
 use mathlib.Core.List.{List}

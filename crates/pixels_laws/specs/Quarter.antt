@@ -1,6 +1,6 @@
 -- Whole quarter pixels of size 4,096 at most, along both axes, for one box: of what demand 3 asks of a style and of replies
 -- (mirror_run/specs/Quarter.antt) as much as bears on pixel edges, so no scrollbar width; of a reply's overflow what S asks. A length is one
--- by its tag, so that neither a percentage nor a sum stands. Assumes nothing.
+-- by its tag, so that no percentage and no sum stands. Assumes nothing.
 use mathlib.Core.Path.{_≡_}
 use Rattle.util.specs.declared.math.MaybeF32.the-variants.{None}
 use Rattle.style.specs.declared.Style.{Style}
