@@ -6,4 +6,4 @@ use Rattle.style.specs.Rows.{SumRows}
 
 pub sum-rows : SumRows
 unfolding add mul sum round units odd size span climb ofBits ofFields byTag resolved
-sum-rows f = (refl, refl, refl, refl, refl, refl)
+sum-rows f = (refl, refl, refl, refl, refl, refl, refl, refl)

@@ -2,7 +2,7 @@
 use Prim.Native.Nat.{ℕ, zero, suc, _+_, _*_, _/_, _%_, _<_, _≤_}
 use native.Mathlib.Omega.{arith}
 use native.Mathlib.Nat.{mul-zero, mul-one}
-use mathlib.Core.Path.{_≡_, refl, sym, _∙_}
+use mathlib.Core.Path.{_≡_, refl, sym, ap, _∙_}
 use mathlib.Core.Bool.{Bool, true, false, cond, _||_}
 use lib.Dec.{eqb}
 use lib.Ieee.{Float}
@@ -21,10 +21,10 @@ use Rattle.style.specs.declared.alignment.AlignItemsKeyword.{AlignItemsK
 use Rattle.style.specs.declared.alignment.AlignItemsKeyword.the-variants as keyword
 use Rattle.style.specs.declared.alignment.AlignmentSafety.{AlignmentSafety}
 use Rattle.style.specs.declared.alignment.AlignmentSafety.the-variants.{Default, Unsafe, Safe}
-use Rattle.style.specs.Resolve.{byTag, withoutKeyword, resolved, isAllowed, takes}
+use Rattle.style.specs.Resolve.{byTag, withoutKeyword, resolved, isAllowed, takes, valueOf, maybeResolved}
 use Rattle.style.specs.Values.{isSelfRelative, keywordRelative, selfRelative}
 use Rattle.style.specs.Codes.{sizingCode, overflowCode, directionCode, safetyCode, keywordCode, bitsCode, sizingOf, overflowOf, directionOf, safetyOf, keywordOf, bit0, bit1}
-use Rattle.style.specs.Laws.{AdmissionIsOfTheTag, TakesItsTags, tagsOf, among, PercentInEveryField, SumInEveryField, SecondIsOfSums, SizingCodes, OverflowCodes, DirectionCodes, SafetyCodes, KeywordCodes, BitsCodes, SelfRelativeIsResolved}
+use Rattle.style.specs.Laws.{AdmissionIsOfTheTag, TakesItsTags, tagsOf, among, PercentInEveryField, SumInEveryField, SumIsANumber, SecondIsOfSums, SizingCodes, OverflowCodes, DirectionCodes, SafetyCodes, KeywordCodes, BitsCodes, SelfRelativeIsResolved}
 
 -- ---- tags
 
@@ -72,6 +72,10 @@ percent-in-every-field f l basis e = rw e refl
 pub sum-in-every-field : SumInEveryField
 unfolding resolved byTag
 sum-in-every-field f l basis e = rw e refl
+
+pub sum-is-a-number : SumIsANumber
+unfolding maybeResolved
+sum-is-a-number f l basis e = ap valueOf (sum-in-every-field f l basis e)
 
 pub second-is-of-sums : SecondIsOfSums
 unfolding resolved byTag

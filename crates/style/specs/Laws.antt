@@ -6,6 +6,7 @@ use mathlib.Core.List.{List, [], _∷_}
 use lib.Dec.{eqb}
 use lib.Ieee.{Float}
 use Rattle.util.specs.Number.{_⊕_, _⊗_}
+use Rattle.util.specs.declared.math.MaybeF32.the-variants.{Some}
 use Rattle.style.specs.declared.compact_length.CompactLength.{CompactLength}
 use Rattle.style.specs.declared.resolve.Field.{Field}
 use Rattle.style.specs.declared.resolve.Field.the-variants as field
@@ -16,7 +17,7 @@ use Rattle.style.specs.declared.Direction.{Direction}
 use Rattle.style.specs.declared.alignment.AlignItemsKeyword.{AlignItemsKeyword}
 use Rattle.style.specs.declared.alignment.AlignmentSafety.{AlignmentSafety}
 use Rattle.style.specs.declared.alignment.AlignItems.{AlignItems}
-use Rattle.style.specs.Resolve.{resolved, isAllowed, takes}
+use Rattle.style.specs.Resolve.{resolved, isAllowed, takes, maybeResolved}
 use Rattle.style.specs.Values.{isSelfRelative, selfRelative}
 use Rattle.style.specs.Codes.{sizingCode, overflowCode, directionCode, safetyCode, keywordCode, bitsCode, sizingOf, overflowOf, directionOf, safetyOf, keywordOf, bit0, bit1}
 
@@ -41,7 +42,8 @@ among (x ∷ xs) n = eqb n x || among xs n
 abbrev pub TakesItsTags : Type 0
 TakesItsTags = (f : Field) (tag : ℕ) → takes f tag ≡ among (tagsOf f) tag
 
--- ---- percentages and sums: in every field a number of pixels, no keyword
+-- ---- percentages and sums: in every kind of field a number of pixels, no keyword. That each of a style's 22 lengths is resolved as its kind,
+-- and against which basis, the laws of a box say (oof_box_laws/specs/Resolved.antt)
 
 abbrev pub PercentInEveryField : Type 0
 PercentInEveryField = (f : Field) (l : CompactLength) (basis : Float) → l .tag ≡ 5 → resolved f l basis ≡ Length (basis ⊗ l .value)
@@ -49,6 +51,10 @@ PercentInEveryField = (f : Field) (l : CompactLength) (basis : Float) → l .tag
 -- a percentage and a length: the same product, rounded, plus the second value, rounded
 abbrev pub SumInEveryField : Type 0
 SumInEveryField = (f : Field) (l : CompactLength) (basis : Float) → l .tag ≡ 129 → resolved f l basis ≡ Length ((basis ⊗ l .value) ⊕ l .second)
+
+-- so whoever asks for a number has it
+abbrev pub SumIsANumber : Type 0
+SumIsANumber = (f : Field) (l : CompactLength) (basis : Float) → l .tag ≡ 129 → maybeResolved f l basis ≡ Some ((basis ⊗ l .value) ⊕ l .second)
 
 -- under every other tag the second value has no say
 abbrev pub SecondIsOfSums : Type 0

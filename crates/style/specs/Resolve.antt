@@ -59,7 +59,8 @@ byTag f tag value second basis =
     (cond (eqb tag 129) (Length ((basis ⊗ value) ⊕ second))
     (fromSize f (inSize tag value basis)))))
 
--- what a length comes to in a field, percentages being taken of the basis
+-- what a length comes to in a field, percentages and sums being taken of the basis. There is always one: the area's width or height, of any
+-- bits
 unfoldable pub resolved : Field → CompactLength → Float → Resolved
 resolved f length basis = byTag f (length .tag) (length .value) (length .second) basis
 

@@ -14,14 +14,16 @@ sumIn f basis value second = resolved f (record { tag = 129; value = value; seco
 abbrev pub SumRows : Type 0
 SumRows =
     (f : Field)
-    -- half of 800 less 12: 388
+    -- half of 800 less 12: 388; half of 10 less 12: -7, since nothing raises it to 0
     → (sumIn f (ofBits binary32 0x4448_0000) (ofBits binary32 0x3F00_0000) (ofBits binary32 0xC140_0000) ≡ Length (ofBits binary32 0x43C2_0000))
+    × (sumIn f (ofBits binary32 0x4120_0000) (ofBits binary32 0x3F00_0000) (ofBits binary32 0xC140_0000) ≡ Length (ofBits binary32 0xC0E0_0000))
     -- a tenth of 10 less 1: 0, for the product is rounded first, to 1. Rounded once, it would be 1.5 × 10⁻⁸
     × (sumIn f (ofBits binary32 0x4120_0000) (ofBits binary32 0x3DCC_CCCD) (ofBits binary32 0xBF80_0000) ≡ Length 0f)
     -- the whole of 2²⁴ and 1: the sum is rounded too, to 2²⁴
     × (sumIn f (ofBits binary32 0x4B80_0000) (ofBits binary32 0x3F80_0000) (ofBits binary32 0x3F80_0000) ≡ Length (ofBits binary32 0x4B80_0000))
-    -- nothing of an infinite basis, and 12: no number, as nothing of it is; not 12, and not absent
+    -- nothing of an infinite basis, and 12: NaN, as nothing of it is; not 12, and not absent. So is half of a NaN basis and 12
     × (sumIn f (ofBits binary32 0x7F80_0000) 0f (ofBits binary32 0x4140_0000) ≡ Length (ofBits binary32 0x7FC0_0000))
-    -- half of 800 and an infinite second value: infinite; less the infinite basis: no number
+    × (sumIn f (ofBits binary32 0x7FC0_0000) (ofBits binary32 0x3F00_0000) (ofBits binary32 0x4140_0000) ≡ Length (ofBits binary32 0x7FC0_0000))
+    -- half of 800 and an infinite second value: infinite; half of an infinite basis less infinity: NaN
     × (sumIn f (ofBits binary32 0x4448_0000) (ofBits binary32 0x3F00_0000) (ofBits binary32 0x7F80_0000) ≡ Length (ofBits binary32 0x7F80_0000))
     × (sumIn f (ofBits binary32 0x7F80_0000) (ofBits binary32 0x3F00_0000) (ofBits binary32 0xFF80_0000) ≡ Length (ofBits binary32 0x7FC0_0000))

@@ -1,4 +1,5 @@
-// util/resolve.rs: what a length comes to. One match on the tag, `resolve`, decides which fields take it and what it comes to there.
+// util/resolve.rs: what a length comes to. One match on the tag, `resolve`, decides which fields take it and what it comes to there; the tags
+// that only sizes take are an inner match of it, `in_size`.
 ghost use mathlib.Core.Path.{_≡_};
 ghost use Rattle.style.specs.Resolve.{autoIn, inSize, withoutKeyword, fromSize, resolved, isAllowed, takes, valueOf, maybeResolved, resolvedRect, resolvedSize};
 use crate::compact_length::CompactLength;
@@ -114,9 +115,8 @@ fn in_size(length: CompactLength, basis: f32) -> Resolved
     }
 }
 
-// What a length comes to in a field, percentages being taken of the basis. 129 is a sum of a percentage and a length, in every field. The
-// tags that only sizes take are a match of their own: so small, this one is put by the compiler into each caller, which keeps only the part
-// of the answer that it wants.
+// What a length comes to in a field, percentages and sums being taken of the basis. 129 is a sum of a percentage and a length, in every field.
+// So small, this match is put by the compiler into each caller, which keeps only the part of the answer that it wants (bench/README.md).
 pub fn resolve(field: Field, length: CompactLength, basis: f32) -> Resolved
     ensures { λ r. ⌜ r ≡ resolved field length basis ⌝ }
 {
@@ -131,7 +131,7 @@ pub fn resolve(field: Field, length: CompactLength, basis: f32) -> Resolved
 }
 
 impl Field {
-    // Whether the field takes a tag, that is whether `resolve` allows it, whatever the value and the basis.
+    // Whether the field takes a tag, that is whether `resolve` allows it, whatever the values and the basis.
     pub fn takes(self, tag: u32) -> bool
         ensures { λ r. ⌜ r ≡ takes self tag ⌝ }
     {

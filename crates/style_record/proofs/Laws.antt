@@ -112,8 +112,8 @@ some-is-found s i k p q e = go (checked s) (table-is s) refl
 -- ---- the decoding
 
 pub each-word-at-its-index : EachWordAtItsIndex
-unfolding styleOf rectAt sizeAt lengthAt ratioAt alignAt overflowAt
-each-word-at-its-index r =
+unfolding styleAt styleOf rectAt sizeAt lengthAt ratioAt alignAt overflowAt
+each-word-at-its-index s i =
     record {
       inset = record { left = refl; right = refl; top = refl; bottom = refl };
       margin = record { left = refl; right = refl; top = refl; bottom = refl };

@@ -1,4 +1,4 @@
--- Refusal 3: which word of which item breaks a rule, and which is the first (document 01, "Tags"; table of refusals). Whole words are
+-- Refusal 3: which word of which item breaks a rule, and which is the first (document 01, "Tags"; table of refusals; request #105). Whole words are
 -- compared: 257 is no tag 1. Assumes nothing.
 use Prim.Native.Nat.{ℕ, zero, suc, _+_, _-_}
 use mathlib.Core.Bool.{Bool, false, cond, not}

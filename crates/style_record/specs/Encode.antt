@@ -1,4 +1,5 @@
--- A style written as a record: the words in document 01's order. Assumes nothing.
+-- A style written as a record: the words in document 01's order, each length with its second value behind its value (request #105). Assumes
+-- nothing.
 use Prim.Native.Nat.{ℕ, zero, suc, _+_, _-_, _%_}
 use mathlib.Core.Bool.{cond}
 use mathlib.Core.List.{List, [], _∷_, _++_}

@@ -165,10 +165,11 @@ pub record WordsOf (r : ℕ → ℕ) (y : Style) : Type 0 where
   pub scrollbar : y .scrollbar ≡ ofBits binary32 (r 77)
   pub contain : y .contain ≡ containOf (r 78)
 
+-- of item i of a table, whose first word is word 79 i
 abbrev pub EachWordAtItsIndex : Type 0
-EachWordAtItsIndex = (r : ℕ → ℕ) → WordsOf r (styleOf r)
+EachWordAtItsIndex = (s : List ℕ) (i : ℕ) → WordsOf (λ k. getD s (79 * i + k) 0) (styleAt s i)
 
--- ---- the decoding, word for word: `encoded` has document 01's words in their order, which is to be read there, and decoding is its inverse. So no word is
+-- ---- the decoding, word for word: `encoded` has document 01's words in their order, with second values, and decoding is its inverse. So no word is
 -- dropped, none is read as another's, and the words that decoding passes over are those that `kept` names.
 
 -- an item that breaks no rule, decoded and written again

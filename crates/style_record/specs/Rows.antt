@@ -6,14 +6,14 @@ use lib.ListN.{replicate, set, take}
 use Rattle.style_record.specs.Check.{checked}
 use Rattle.style_record.specs.declared.check.TableCheck.the-variants.{Good, Bad}
 
--- so many lengths of 0 pixels
-abbrev pixels : ℕ → List ℕ
-pixels zero = []
-pixels (suc n) = 1 ∷ 0 ∷ 0 ∷ pixels n
+-- so many lengths with a tag, their values 0
+abbrev tagged : ℕ → ℕ → List ℕ
+tagged t zero = []
+tagged t (suc n) = t ∷ 0 ∷ 0 ∷ tagged t n
 
--- an item of which no word breaks a rule: 22 such lengths, then zeros
+-- an item of which no word breaks a rule: 22 lengths of 0 pixels, then zeros
 abbrev plain : List ℕ
-plain = pixels 22 ++ replicate 13 0
+plain = tagged 1 22 ++ replicate 13 0
 
 -- a table with another word k
 abbrev put : ℕ → ℕ → List ℕ → List ℕ
@@ -55,22 +55,17 @@ TagRows =
     × (checked (put 2 nan (put 65 0xFFFF_FFFF plain)) ≡ Good)
     × (checked (put 1 2 (put 2 2 (put 46 2 (put 47 2 plain)))) ≡ Good)
 
--- so many lengths with a tag
-abbrev tagged : ℕ → ℕ → List ℕ
-tagged t zero = []
-tagged t (suc n) = t ∷ 0 ∷ 0 ∷ tagged t n
-
 -- request #105's sums: 129 in every length, the whole word
 abbrev pub SumTagRows : Type 0
 SumTagRows =
     (checked (tagged 129 22 ++ replicate 13 0) ≡ Good)
-    -- its low byte alone is none, nor is a number beside it
+    -- 385, whose low byte is 129, is none, nor is a number beside it
     × (checked (put 0 385 plain) ≡ Bad 0 0)
     × (checked (put 24 385 plain) ≡ Bad 0 24)
     × (checked (put 48 385 plain) ≡ Bad 0 48)
     × (checked (put 63 128 plain) ≡ Bad 0 63)
     × (checked (put 63 130 plain) ≡ Bad 0 63)
-    -- the Rust's own tags for it, 4 for a sum and 6 for fit-content of one, are none here
+    -- the Rust's own tags for it (style/compact_length.rs), 4 for a sum and 6 for fit-content of one, are none here
     × (checked (put 0 4 plain) ≡ Bad 0 0)
     × (checked (put 24 4 plain) ≡ Bad 0 24)
     × (checked (put 48 4 plain) ≡ Bad 0 48)
