@@ -1,7 +1,7 @@
 -- The laws of `specs/Laws.antt`. Assumes nothing.
 use Prim.Native.Nat.{ℕ, zero, suc, _+_, _*_, _/_, _%_, _<_}
 use native.Mathlib.Omega.{arith}
-use mathlib.Core.Path.{_≡_, refl, sym, ap, _∙_}
+use mathlib.Core.Path.{_≡_, refl, sym, ap, _∙_, subst}
 use mathlib.Core.Bool.{Bool, true, false}
 use lib.Dec.{eqb, ltb}
 use lib.ListN.{length, getD, List·getD-eq-default}
@@ -9,9 +9,11 @@ use lib.Seq.{ext-getD}
 use borrow.Author.Tests.{ltb-true, ltb-false, le-ltb, eqb-true, eqb-false, ne-eqb}
 use Rattle.records.specs.Records.{recordAt}
 use Rattle.tree_record.specs.Candidate.{candidateWidth}
-use Rattle.style_record.specs.Record.{directionWord, styleWords}
+use Rattle.style_record.specs.Record.{directionWord, styleWords, tagWord, item}
+use Rattle.style_record.specs.Decode.{lengthAt}
+use Rattle.mirror_box.specs.Quarter.{ruleOf, Keeps}
 use Rattle.mirror_run.specs.Image.{eachRecord, otherDirection, counterpart, imageStyle, imageStyles, imageCandidates}
-use Rattle.mirror_run.specs.Laws.{ImageIsAsLong, PartStays, StylesTwice, StylesPass, StylesDecode, CandidatesPass, CandidatesDecode}
+use Rattle.mirror_run.specs.Laws.{ImageIsAsLong, PartStays, StylesTwice, StylesPass, StylesDecode, PercentagesLeftOut, CandidatesPass, CandidatesDecode}
 use Rattle.mirror_run.proofs.Words.{listed-word, each-length, each-word}
 use Rattle.mirror_run.proofs.Counterpart.{counterpart-there, counterpart-twice, moved}
 use Rattle.mirror_run.proofs.Styles as styles
@@ -82,6 +84,13 @@ styles-pass ws = styles.same-check ws
 
 pub styles-decode : StylesDecode
 styles-decode ws i e h = styles.image-style ws e i h
+
+pub percentages-left-out : PercentagesLeftOut
+unfolding lengthAt
+percentages-left-out ws i l quarters h k = (left-out 5, left-out 15, left-out 129)
+  where
+    left-out : (tag : ℕ) → item ws i (tagWord l) ≡ tag → Keeps (ruleOf tag) (lengthAt (item ws i) (tagWord l) .value)
+    left-out tag e = subst (λ (t : ℕ). Keeps (ruleOf t) (lengthAt (item ws i) (tagWord l) .value)) e (quarters i h .each l k)
 
 -- ---- candidates
 

@@ -1,5 +1,5 @@
 pub mod Image
-pub mod Laws
 pub mod Quarter
+pub mod Laws
 pub mod Runs
 pub mod Mirror

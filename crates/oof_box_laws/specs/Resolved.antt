@@ -3,9 +3,10 @@
 -- css-sizing-3, css-sizing-4 #aspect-ratio, css-box-4. `proofs/` proves each, under its name in small letters. Assumes nothing.
 use mathlib.Core.Path.{_≡_}
 use mathlib.Core.Logic.{_⊎_}
-use mathlib.Core.Bool.{Bool, true, false}
+use mathlib.Core.Bool.{Bool, true, false, cond}
+use lib.Dec.{eqb}
 use lib.Ieee.{Float}
-use Rattle.util.specs.Number.{_⊕_, _⊗_, _⊘_}
+use Rattle.util.specs.Number.{_⊕_, _⊗_, _⊘_, 0f}
 use Rattle.util.specs.Order.{larger}
 use Rattle.util.specs.Maybe.{clamped}
 use Rattle.util.specs.declared.math.MaybeF32.{MaybeF32}
@@ -22,6 +23,7 @@ use Rattle.style.specs.declared.Style.{Style}
 use Rattle.style.specs.declared.alignment.AlignItemsKeyword.{AlignItemsKeyword}
 use Rattle.style.specs.declared.alignment.AlignItemsKeyword.the-variants as keyword
 use Rattle.style.specs.declared.compact_length.CompactLength.{CompactLength}
+use Rattle.style.specs.declared.compact_length.LengthRect.{LengthRect}
 use Rattle.style.specs.declared.compact_length.LengthSize.{LengthSize}
 use Rattle.tree.specs.declared.layout.OofCandidate.{OofCandidate}
 use Rattle.oof_axis.specs.declared.OofAlignment.{OofAlignment}
@@ -29,6 +31,7 @@ use Rattle.oof_axis.specs.declared.OofAlignment.the-variants as align
 use Rattle.oof_resolve.specs.Resolved.{resolvedBox}
 use Rattle.oof_resolve.specs.declared.ContainingBlock.{ContainingBlock}
 use Rattle.oof_resolve.specs.declared.ResolvedBox.{ResolvedBox}
+use Rattle.oof_box.specs.Box.{placed}
 
 -- ---- lengths, by tag
 
@@ -40,8 +43,9 @@ IsAuto l = l .tag ≡ 3
 abbrev pub IsAutoSize : CompactLength → Type 0
 IsAutoSize l = (l .tag ≡ 3) ⊎ (l .tag ≡ 35)
 
--- what a length comes to: pixels are themselves, a percentage is of the basis, a sum is a percentage and its second value. The second
--- value of the other two may be any
+-- what a length comes to: pixels are themselves, a percentage is of the basis, a sum is that percentage plus the second value, each operation
+-- rounded once and no range kept (css-values-4 #calc-range would raise a negative sum to 0 in padding, border and sizes). The second value of
+-- the other two may be any
 pub data Comes (basis : Float) : CompactLength → Float → Type 0 where
   asPixels : {x any : Float} → Comes basis (record { tag = 1; value = x; second = any }) x
   asPercent : {x any : Float} → Comes basis (record { tag = 5; value = x; second = any }) (basis ⊗ x)
@@ -207,3 +211,42 @@ abbrev pub RatioCompletes : Type 0
 RatioCompletes =
     (container : ContainingBlock) (style : Style) (candidate : OofCandidate) (r x : Float) → style .ratio ≡ Some r
     → RatioOf (container .area .size) r x style (resolvedBox container style candidate)
+
+-- ---- second values: a length that is no sum may have any (request #105, "Other tags ignore the second value")
+
+abbrev pub withoutSecond : CompactLength → CompactLength
+withoutSecond l = record { tag = l .tag; value = l .value; second = cond (eqb (l .tag) 129) (l .second) 0f }
+
+abbrev pub rectWithoutSeconds : LengthRect → LengthRect
+rectWithoutSeconds r =
+    record { left = withoutSecond (r .left); right = withoutSecond (r .right); top = withoutSecond (r .top); bottom = withoutSecond (r .bottom) }
+
+abbrev pub sizeWithoutSeconds : LengthSize → LengthSize
+sizeWithoutSeconds s = record { width = withoutSecond (s .width); height = withoutSecond (s .height) }
+
+-- a style with 0 for the second value of every length that is no sum
+abbrev pub withoutSeconds : Style → Style
+withoutSeconds style =
+    record {
+      inset = rectWithoutSeconds (style .inset);
+      margin = rectWithoutSeconds (style .margin);
+      padding = rectWithoutSeconds (style .padding);
+      border = rectWithoutSeconds (style .border);
+      size = sizeWithoutSeconds (style .size);
+      min = sizeWithoutSeconds (style .min);
+      max = sizeWithoutSeconds (style .max);
+      ratio = style .ratio;
+      sizing = style .sizing;
+      replaced = style .replaced;
+      table = style .table;
+      direction = style .direction;
+      justify = style .justify;
+      align = style .align;
+      overflow = style .overflow;
+      scrollbar = style .scrollbar;
+      contain = style .contain;
+    }
+
+-- the whole dialogue is the same with it, whatever the host replies: questions, layout, contribution
+abbrev pub SecondValuesUnread : Type 0
+SecondValuesUnread = (container : ContainingBlock) (style : Style) (candidate : OofCandidate) → placed container (withoutSeconds style) candidate ≡ placed container style candidate

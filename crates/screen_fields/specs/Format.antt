@@ -1,5 +1,5 @@
 -- The screen file: lines of fields of equal width, a line feed after each line (document 01, "Program `boxlist`"; request #104: "Candidate
--- lines of the screen file have 14 fields"). Assumes nothing.
+-- lines of the screen file have 14 fields"; request #105: a style's "line in the screen file 85 fields"). Assumes nothing.
 use Prim.Native.Nat.{ℕ, zero, suc, _+_, _*_}
 use mathlib.Core.Bool.{Bool, true, false}
 use mathlib.Core.List.{List, [], _∷_, _++_}

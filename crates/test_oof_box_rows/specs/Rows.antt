@@ -1,7 +1,7 @@
 -- Document 01's rows: 10 to 13 through the definition of one box, and with 1 to 9 (specs/AxisRows.antt) the row set, which is one test; and
 -- rows for request #105's sums.
 -- Block size 100, margins 0, left-to-right unless said. Each box has a height, so that it asks nothing but to be laid out, unless its width
--- is auto. Assumes nothing.
+-- is auto or it is said. Assumes nothing.
 use Prim.Native.Nat.{ℕ}
 use mathlib.Core.Bool.{Bool, true, false, _&&_}
 use mathlib.Core.List.{List, [], _∷_, _++_}
@@ -184,9 +184,60 @@ asksHeight w (ask (MeasureWidth m) next) = false
 asksHeight w (ask (MeasureHeight m) next) = is (m .known .width) w
 asksHeight w (ask (LayOut l) next) = false
 
+-- the first question is to measure the width, the height being known
+unfoldable pub asksWidth : ℕ → Talk Placed → Bool
+asksWidth h (done p) = false
+asksWidth h (ask (MeasureBoth m) next) = false
+asksWidth h (ask (MeasureWidth m) next) = is (m .known .height) h
+asksWidth h (ask (MeasureHeight m) next) = false
+asksWidth h (ask (LayOut l) next) = false
+
+abbrev pub minContent : CompactLength
+minContent = record { tag = 11; value = 0f; second = 0f }
+
+-- width min-content, height half less 12
+unfoldable pub halfHigh : Style
+halfHigh = boxOf auto auto (record { width = minContent; height = halfLess 12 }) auto auto (length 0f)
+
+-- half less 12 in the left and top inset, 40 wide and 10 high
+unfoldable pub halfDown : Style
+halfDown =
+    record {
+      inset = record { left = halfLess 12; right = auto; top = halfLess 12; bottom = auto };
+      margin = sides (length 0f) (length 0f) (length 0f);
+      padding = sides (length 0f) (length 0f) (length 0f);
+      border = sides (length 0f) (length 0f) (length 0f);
+      size = tenHigh (length (px 40));
+      min = record { width = auto; height = auto };
+      max = record { width = auto; height = auto };
+      ratio = None;
+      sizing = BorderBox;
+      replaced = false;
+      table = false;
+      direction = Ltr;
+      justify = record { keyword = Normal; safety = Default };
+      align = record { keyword = Normal; safety = Default };
+      overflow = record { x = Visible; y = Visible };
+      scrollbar = 0f;
+      contain = record { layout = false; paint = false };
+    }
+
+-- an area 200 wide and 100 high
+unfoldable pub wideArea : ContainingBlock
+wideArea =
+    record {
+      area = record { size = record { width = px 200; height = px 100 }; offset = zeroPoint };
+      direction = Ltr;
+      overflow = record { x = Visible; y = Visible };
+    }
+
+unfoldable pub standsIn : ContainingBlock → Style → ℕ → ℕ → Bool
+standsIn container style x y =
+    let at = outcome 0 0 (placed container style candidate) .outcome .layout .location in eq (at .x) (px x) && eq (at .y) (px y)
+
 -- width half less 12, height min-content, max width as given
 unfoldable pub halfWide : CompactLength → Style
-halfWide max = boxOf auto auto (record { width = halfLess 12; height = record { tag = 11; value = 0f; second = 0f } }) auto max (length 0f)
+halfWide max = boxOf auto auto (record { width = halfLess 12; height = minContent }) auto max (length 0f)
 
 unfoldable pub sumRows : List Bool
 sumRows =
@@ -202,6 +253,9 @@ sumRows =
     -- it is a number, no keyword: the height alone is measured, the width being the sum, clamped
     ∷ asksHeight 38 (placed (containerOf Ltr Visible) (halfWide auto) candidate)
     ∷ asksHeight 30 (placed (containerOf Ltr Visible) (halfWide (length (px 30))) candidate)
+    ∷ asksWidth 38 (placed (containerOf Ltr Visible) halfHigh candidate)
+    -- each inset by its own axis: half of 200 less 12, half of 100 less 12
+    ∷ standsIn wideArea halfDown 88 38
     ∷ []
 
 -- the row set: 1 to 11 are the starred ones

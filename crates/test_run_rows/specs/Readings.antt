@@ -198,6 +198,10 @@ all (b ∷ bs) = b && all bs
 unfoldable pub refusedOpening : Outcome
 refusedOpening = opening absolute (over broken 1 1)
 
+-- 57 style words and so many words for layouts
+unfoldable pub lending57 : ℕ → Lent
+lending57 words = record { styles = replicate 57 1; layouts = replicate words unused; working = replicate candidateWidth unused; unclaimed = [] }
+
 -- one word more than an item has
 unfoldable pub oneMore : Lent
 oneMore = over (box ++ (0 ∷ [])) 1 1
@@ -215,6 +219,9 @@ lengthsKept =
     ∷ counts (0 ∷ 0 ∷ 0 ∷ 0 ∷ []) refusedOpening
     ∷ unwritten (over broken 1 1) refusedOpening
     ∷ refuses 6 (next broken refusedOpening (surfacing []))
+    -- 57 words, as a style had before request #105, are no table, and one item's layout doesn't make them one
+    ∷ refuses 2 (opening absolute (lending57 0))
+    ∷ refuses 2 (opening absolute (lending57 layoutWidth))
     -- one style word more, then one item
     ∷ refuses 2 (opening absolute oneMore)
     ∷ refuses 2 (reply (opening absolute oneMore .step .state) (over box 1 1) (surfacing []))
@@ -286,10 +293,6 @@ withoutBoxes =
 
 -- ---- [3], of lengths and styles
 
--- 57 style words and so many words for layouts
-unfoldable pub lending57 : ℕ → Lent
-lending57 words = record { styles = replicate 57 1; layouts = replicate words unused; working = replicate candidateWidth unused; unclaimed = [] }
-
 unfoldable pub styles : List Bool
 styles =
     -- 257 as a tag is `broken`; keyword 10 with safety 7, and keyword 9
@@ -301,13 +304,12 @@ styles =
     ∷ laysOut boxAsked (opening absolute (over (set box ratioWord nan) 1 1))
     -- an item that nobody names
     ∷ refuses 3 (opening absolute (over (box ++ broken) 1 1))
-    -- request #105: 57 words, as a style had before it, are no table, and one item's layout doesn't make them one
-    ∷ refuses 2 (opening absolute (lending57 0))
-    ∷ refuses 2 (opening absolute (lending57 layoutWidth))
-    -- a sum, 129, is a tag of padding; 385 and the Rust's own 4 are none; second values are any words
+    -- request #105: a sum, 129: half the area less 12 wide; in padding; 385 and the Rust's own 4 (style/compact_length.rs) are none
+    ∷ laysOut (0 ∷ px 38 ∷ px 20 ∷ px 100 ∷ px 100 ∷ []) (opening absolute (over (written box (tagWord 16) (129 ∷ 1056964608 ∷ minus 12 ∷ [])) 1 1))
     ∷ laysOut boxAsked (opening absolute (over (written box (tagWord 8) (129 ∷ 0 ∷ 0 ∷ [])) 1 1))
     ∷ refuses 3 (opening absolute (over (set box (tagWord 8) 385) 1 1))
     ∷ refuses 3 (opening absolute (over (set box (tagWord 8) 4) 1 1))
+    -- the second value of any other tag may be any word
     ∷ laysOut boxAsked (opening absolute (over (set (set box (tagWord 8 + 2) nan) (tagWord 16 + 2) (px 7)) 1 1))
     ∷ []
 
