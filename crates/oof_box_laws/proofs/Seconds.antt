@@ -1,12 +1,12 @@
 -- A second value has no say but in a sum, in the whole dialogue of a box. Assumes nothing.
-use mathlib.Core.Path.{_≡_, refl, ap}
+use mathlib.Core.Path.{_≡_, refl}
 use mathlib.Core.Bool.{Bool, true, false, cond}
 use lib.Dec.{eqb}
 use lib.Ieee.{Float}
 use borrow.Author.Tests.{eqb-false}
 use Rattle.util.specs.Number.{0f}
 use Rattle.geometry.specs.declared.Size.{Size}
-use Rattle.style.specs.Resolve.{resolved, valueOf, maybeResolved, resolvedRect, resolvedSize}
+use Rattle.style.specs.Resolve.{resolved, maybeResolved, resolvedRect, resolvedSize}
 use Rattle.style.proofs.Laws.{second-is-of-sums}
 use Rattle.style.specs.declared.Style.{Style}
 use Rattle.style.specs.declared.compact_length.CompactLength.{CompactLength}
@@ -60,5 +60,4 @@ module _ (container : ContainingBlock) (style : Style) (candidate : OofCandidate
 pub second-values-unread : SecondValuesUnread
 unfolding placed sizeKeywords keywordsOf keywordSizes stretchRatio stretched layoutOf boxLayout
 second-values-unread container style candidate =
-    rw same-box container style candidate
-    (rw (same-keyword (style .size .width) _ _, same-keyword (style .size .height) _ _) refl)
+    rw (same-box container style candidate) (rw (same-keyword (style .size .width) _ _, same-keyword (style .size .height) _ _) refl)
