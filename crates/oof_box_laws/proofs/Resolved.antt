@@ -2,16 +2,19 @@
 use mathlib.Core.Path.{_≡_, refl, sym, ap, ap₂, _∙_}
 use mathlib.Core.Logic.{_⊎_, inl, inr}
 use mathlib.Core.Bool.{Bool, true, false, cond}
-use lib.Ieee.{Float}
+use lib.Ieee.{Float, binary32}
+use lib.Ieee.Fits.{mul-fits}
 use Rattle.util.specs.Number.{_⊕_, _⊗_, _⊘_}
 use Rattle.util.specs.Order.{larger}
 use Rattle.util.specs.Maybe.{orElse, orZero, unwrapOr, map, mapAdd, mapLarger, mapClamped, clamped}
 use Rattle.util.proofs.Laws.{larger-is-one}
+use Rattle.util_exact.proofs.Nothing.{nothing-added}
 use Rattle.geometry.specs.Geometry.{zeroSize, definite, firstSize, addedSize, raisedSize, clampedSize, rectOrZero, completed, withRatio}
 use Rattle.geometry.specs.declared.MaybeSize.{MaybeSize}
 use Rattle.geometry.specs.declared.Size.{Size}
 use Rattle.util.specs.declared.math.MaybeF32.{MaybeF32}
 use Rattle.util.specs.declared.math.MaybeF32.the-variants.{None, Some}
+use Rattle.style.proofs.Laws.{percent-in-every-field, sum-in-every-field}
 use Rattle.style.specs.Resolve.{byTag, resolved, maybeResolved, resolvedRect, resolvedSize}
 use Rattle.style.specs.Values.{isContentBox, isScrollContainer, differs, keywordRelative, selfRelative}
 use Rattle.style.specs.declared.BoxSizing.{BoxSizing}
@@ -25,12 +28,22 @@ use Rattle.style.specs.declared.compact_length.CompactLength.{CompactLength}
 use Rattle.style.specs.declared.compact_length.LengthSize.{LengthSize}
 use Rattle.style.specs.declared.resolve.Field.{Field}
 use Rattle.style.specs.declared.resolve.Field.the-variants as field
+use Rattle.style.specs.declared.resolve.Resolved.the-variants.{Length}
 use Rattle.style.specs.declared.alignment.AlignItemsKeyword.the-variants as keyword
 use Rattle.oof_axis.specs.Axis.{fromResolved}
 use Rattle.oof_axis.specs.declared.OofAlignment.the-variants as align
 use Rattle.oof_resolve.specs.Resolved.{ofWidth, ofEachAxis, lessOffset, horizontal, vertical, paddingOrBorder, styleSize, minSize, resolvedBox}
 use Rattle.oof_box.specs.Box.{_by_}
-use Rattle.oof_box_laws.specs.Resolved.{IsAuto, IsAutoSize, ScrollsBy, AxesOfTheBlock, AutoSidesAreNone, AlignedBy, AlignmentOfTheStyle, Comes, asPixels, asPercent, asSum, paddingBorderOf, leftOut, SizesOfItsBox, AutoIsNoSize, RatioCompletes, PercentagesOfTheWidth, InsetsOfTheirAxis}
+use Rattle.oof_box_laws.specs.Resolved.{IsAuto, IsAutoSize, ScrollsBy, AxesOfTheBlock, AutoSidesAreNone, AlignedBy, AlignmentOfTheStyle, Comes, asPixels, asPercent, asSum, SumWithNothing, paddingBorderOf, leftOut, SizesOfItsBox, AutoIsNoSize, RatioCompletes, PercentagesOfTheWidth, InsetsOfTheirAxis}
+
+-- ---- lengths, by tag
+
+pub sum-with-nothing : SumWithNothing
+sum-with-nothing f l basis e z =
+    let product = basis ⊗ l .value in
+    sum-in-every-field f l basis e
+    ∙ ap Length (ap (λ (y : Float). product ⊕ y) z ∙ nothing-added product (mul-fits binary32 basis (l .value)))
+    ∙ sym (percent-in-every-field f (record { tag = 5; value = l .value; second = l .second }) basis refl)
 
 -- ---- axes
 

@@ -11,9 +11,11 @@ use Rattle.util.specs.Order.{larger}
 use Rattle.util.specs.Maybe.{clamped}
 use Rattle.util.specs.declared.math.MaybeF32.{MaybeF32}
 use Rattle.util.specs.declared.math.MaybeF32.the-variants.{None, Some}
+use Rattle.util_exact.specs.Value.{−0f}
 use Rattle.geometry.specs.Geometry.{zeroSize, absentSize, definite, rectSum, sums, countedFrom}
 use Rattle.geometry.specs.declared.MaybeSize.{MaybeSize}
 use Rattle.geometry.specs.declared.Size.{Size}
+use Rattle.style.specs.Resolve.{resolved}
 use Rattle.style.specs.declared.BoxSizing.{BoxSizing}
 use Rattle.style.specs.declared.BoxSizing.the-variants.{BorderBox, ContentBox}
 use Rattle.style.specs.declared.Direction.the-variants.{Ltr, Rtl}
@@ -25,6 +27,7 @@ use Rattle.style.specs.declared.alignment.AlignItemsKeyword.the-variants as key
 use Rattle.style.specs.declared.compact_length.CompactLength.{CompactLength}
 use Rattle.style.specs.declared.compact_length.LengthRect.{LengthRect}
 use Rattle.style.specs.declared.compact_length.LengthSize.{LengthSize}
+use Rattle.style.specs.declared.resolve.Field.{Field}
 use Rattle.tree.specs.declared.layout.OofCandidate.{OofCandidate}
 use Rattle.oof_axis.specs.declared.OofAlignment.{OofAlignment}
 use Rattle.oof_axis.specs.declared.OofAlignment.the-variants as align
@@ -50,6 +53,12 @@ pub data Comes (basis : Float) : CompactLength → Float → Type 0 where
   asPixels : {x any : Float} → Comes basis (record { tag = 1; value = x; second = any }) x
   asPercent : {x any : Float} → Comes basis (record { tag = 5; value = x; second = any }) (basis ⊗ x)
   asSum : {x y : Float} → Comes basis (record { tag = 129; value = x; second = y }) (basis ⊗ x ⊕ y)
+
+-- a sum with a second value of -0 is its percentage: in every field and of every basis, bit for bit
+abbrev pub SumWithNothing : Type 0
+SumWithNothing =
+    (f : Field) (l : CompactLength) (basis : Float) → l .tag ≡ 129 → l .second ≡ −0f
+    → resolved f l basis ≡ resolved f (record { tag = 5; value = l .value; second = l .second }) basis
 
 -- ---- the two axes
 

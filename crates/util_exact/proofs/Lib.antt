@@ -10,5 +10,6 @@ pub mod Infinite
 pub mod Quarters
 pub mod Same
 pub mod Commute
+pub mod Nothing
 pub mod AddUp
 pub mod Laws

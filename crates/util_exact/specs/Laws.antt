@@ -1,10 +1,12 @@
--- What the definitions of this crate mean, as statements. `proofs/Laws.antt` proves each, under its name in small letters. Assumes nothing.
+-- What the definitions of this crate mean, as statements. `proofs/` proves each, under its name in small letters. Assumes nothing.
 use mathlib.Core.Path.{_≡_}
 use mathlib.Core.Bool.{false}
 use mathlib.Core.List.{List}
-use lib.Ieee.{Float, isNan}
+use lib.Dec.{T}
+use lib.Ieee.{Float, isNan, fits, binary32}
+use Rattle.util.specs.Number.{_⊕_}
 use Rattle.util_exact.specs.Integer.{N, EqN}
-use Rattle.util_exact.specs.Value.{_≐_, Sixteenths, AddUp}
+use Rattle.util_exact.specs.Value.{_≐_, −0f, Sixteenths, AddUp}
 
 -- a float is one number of sixteenths at most, and a NaN is none
 abbrev pub OneInteger : Type 0
@@ -20,3 +22,7 @@ EqualIsSame = (x y : Float) (a b : N) → Sixteenths x a → Sixteenths y b → 
 -- what numbers add up to is one number
 abbrev pub OneTotal : Type 0
 OneTotal = (xs : List Float) (t u : Float) → AddUp xs t → AddUp xs u → t ≐ u
+
+-- -0 is the number that adds nothing: every f32 plus -0 is that f32, bit for bit (plus +0 it isn't: -0 becomes +0)
+abbrev pub NothingAdded : Type 0
+NothingAdded = (x : Float) → T (fits binary32 x) → x ⊕ −0f ≡ x

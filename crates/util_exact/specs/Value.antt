@@ -3,7 +3,7 @@ use mathlib.Core.Path.{_≡_}
 use mathlib.Core.List.{List, [], _∷_}
 use mathlib.Core.Bool.{Bool, true, false}
 use Prim.Native.Nat.{ℕ, _+_, _≤_}
-use lib.Ieee.{Float, eq}
+use lib.Ieee.{Float, eq, ofBits, binary32}
 use lib.Ieee.Exact.{HasValue}
 use Rattle.util.specs.declared.math.MaybeF32.{MaybeF32}
 use Rattle.util.specs.declared.math.MaybeF32.the-variants.{None, Some}
@@ -13,6 +13,9 @@ use Rattle.util_exact.specs.Integer.{N, zeroN, addN, EqN}
 infix 50 _≐_
 abbrev pub _≐_ : Float → Float → Type 0
 x ≐ y = eq x y ≡ true
+
+abbrev pub −0f : Float
+−0f = ofBits binary32 0x8000_0000
 
 -- z with a sign is the integer a
 abbrev pub Signed : Bool → ℕ → N → Type 0
