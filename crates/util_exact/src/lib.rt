@@ -1,1 +1,1 @@
-// Exact floats as integers: definitions and lemmas for the mirror theorem. There is no code here.
+// Exact floats as integers, for the mirror theorem, and a float plus -0: definitions and lemmas. There is no code here.
