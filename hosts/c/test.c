@@ -1640,17 +1640,15 @@ static void second_values(void)
     }
 }
 
-/* records of 57 words, as they were before sums, are no table */
-static void records_of_57(void)
+/* a record of 57 words, as it was before sums, is no table */
+static void record_of_57(void)
 {
-    for (size_t items = 1; items < OOF_STYLE_WORDS; items++) {
-        words w = box_at(100, 40, 100, 40), before = w;
-        MUST(oof_open(w.width, w.height, w.x, w.y, w.direction, OOF_CLAIMS_ABSOLUTE, OOF_OVERFLOW_VISIBLE, OOF_OVERFLOW_VISIBLE,
-                      table, 57 * items, w.candidates, 0, w.layouts, OOF_LAYOUT_WORDS, w.working, ROOM * OOF_CANDIDATE_WORDS,
-                      w.unclaimed, ROOM * OOF_CANDIDATE_WORDS, w.state, w.answer) == OOF_BAD_EXTENT);
-        memcpy(before.state, w.state, sizeof w.state);
-        MUST(same(&before, &w));
-    }
+    words w = box_at(100, 40, 100, 40), before = w;
+    MUST(oof_open(w.width, w.height, w.x, w.y, w.direction, OOF_CLAIMS_ABSOLUTE, OOF_OVERFLOW_VISIBLE, OOF_OVERFLOW_VISIBLE, table,
+                  57, w.candidates, 0, w.layouts, OOF_LAYOUT_WORDS, w.working, ROOM * OOF_CANDIDATE_WORDS, w.unclaimed,
+                  ROOM * OOF_CANDIDATE_WORDS, w.state, w.answer) == OOF_BAD_EXTENT);
+    memcpy(before.state, w.state, sizeof w.state);
+    MUST(same(&before, &w));
 }
 
 /* any bits, floats of some pixels more often than others */
@@ -1701,7 +1699,7 @@ static void of_sums(void)
     sums_by_two_roundings();
     sums_are_no_keywords();
     second_values();
-    records_of_57();
+    record_of_57();
     random_sums();
 }
 

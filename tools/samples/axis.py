@@ -25,7 +25,7 @@ def length(style, i, basis):
     tag, value, second = style[LENGTH * i:][:LENGTH]
     if tag == 3: return AUTO
     if tag == 1: return plain(value)
-    # a product of two floats is exact as a double, so it is rounded once; a sum of two is rounded to a double first, to no other float
+    # a product of two floats is exact as a double, so it is rounded once; of a sum of two, rounding to a double first changes no float
     product = bits(f32(value) * f32(basis))
     return plain(bits(f32(product) + f32(second)) if tag == SUM else product)
 

@@ -17,7 +17,7 @@ unfoldable pub otherDirection : Direction → Direction
 otherDirection Ltr = Rtl
 otherDirection Rtl = Ltr
 
--- left and right exchanged: of lengths, tag and value together
+-- left and right exchanged: of lengths, all that they hold together
 unfoldable pub exchangedLengths : LengthRect → LengthRect
 exchangedLengths r = record { left = r .right; right = r .left; top = r .top; bottom = r .bottom }
 

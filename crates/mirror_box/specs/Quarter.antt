@@ -1,5 +1,5 @@
 -- What the mirror law asks of a box, of its containing block and of the host's replies: whole quarter pixels of size 4,096 at most, no
--- percentage, no ratio, a width that isn't 0 (demand 3). Only what bears on x is asked: along y both runs have the same words, whatever
+-- percentage, no sum, no ratio, a width that isn't 0 (demand 3). Only what bears on x is asked: along y both runs have the same words, whatever
 -- these are. Assumes nothing.
 use Prim.Native.Nat.{ℕ}
 use mathlib.Core.Path.{_≡_}

@@ -92,7 +92,7 @@ AxesOfTheBlock = (container : ContainingBlock) (style : Style) (candidate : OofC
 
 -- ---- insets, margins, padding and border. Left and top are the start of their axis, right and bottom the end.
 
--- margins, padding and border are their pixels; percentages, top and bottom too, are of the area's width (border by document 01: CSS
+-- margins, padding and border are their pixels; percentages and sums, top and bottom too, are of the area's width (border by document 01: CSS
 -- borders take none)
 pub record OfTheWidth (w x : Float) (style : Style) (box : ResolvedBox) : Type 0 where
   pub marginLeft : Comes w (style .margin .left) x → box .horizontal .margin .start ≡ Some x
@@ -112,7 +112,7 @@ abbrev pub PercentagesOfTheWidth : Type 0
 PercentagesOfTheWidth =
     (container : ContainingBlock) (style : Style) (candidate : OofCandidate) (x : Float) → OfTheWidth (container .area .size .width) x style (resolvedBox container style candidate)
 
--- insets are their pixels; percentages are of their own axis
+-- insets are their pixels; percentages and sums are of their own axis
 pub record OfTheirAxis (area : Size) (x : Float) (style : Style) (box : ResolvedBox) : Type 0 where
   pub left : Comes (area .width) (style .inset .left) x → box .horizontal .inset .start ≡ Some x
   pub right : Comes (area .width) (style .inset .right) x → box .horizontal .inset .end ≡ Some x
@@ -180,7 +180,7 @@ leftOut ContentBox paddingBorder = paddingBorder
 abbrev pub toBorderBox : Style → ResolvedBox → Size
 toBorderBox style box = leftOut (style .sizing) (paddingBorderOf box)
 
--- Size, min and max take percentages of their own axis. Lengths are of the content box where the box sizing says so: padding plus border is
+-- Size, min and max take percentages and sums of their own axis. Lengths are of the content box where the box sizing says so: padding plus border is
 -- added. Min is at least padding plus border, and the size is clamped. A ratio changes no side that is given.
 pub record OfItsBox (area : Size) (x : Float) (style : Style) (box : ResolvedBox) : Type 0 where
   pub maxWidth : Comes (area .width) (style .max .width) x → box .max .width ≡ Some (x ⊕ toBorderBox style box .width)

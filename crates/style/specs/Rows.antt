@@ -3,8 +3,10 @@ use mathlib.Core.Path.{_≡_}
 use lib.Ieee.{Float, ofBits, binary32}
 use Rattle.util.specs.Number.{0f}
 use Rattle.style.specs.declared.resolve.Field.{Field}
+use Rattle.style.specs.declared.resolve.Field.the-variants as field
+use Rattle.style.specs.declared.resolve.SizingKeyword.the-variants as keyword
 use Rattle.style.specs.declared.resolve.Resolved.{Resolved}
-use Rattle.style.specs.declared.resolve.Resolved.the-variants.{Length}
+use Rattle.style.specs.declared.resolve.Resolved.the-variants.{Length, Keyword}
 use Rattle.style.specs.Resolve.{resolved}
 
 -- what a sum comes to: basis × value + second value
@@ -27,3 +29,11 @@ SumRows =
     -- half of 800 and an infinite second value: infinite; half of an infinite basis less infinity: NaN
     × (sumIn f (ofBits binary32 0x4448_0000) (ofBits binary32 0x3F00_0000) (ofBits binary32 0x7F80_0000) ≡ Length (ofBits binary32 0x7F80_0000))
     × (sumIn f (ofBits binary32 0x7F80_0000) (ofBits binary32 0x3F00_0000) (ofBits binary32 0xFF80_0000) ≡ Length (ofBits binary32 0x7FC0_0000))
+
+-- the limits of fit-content have no second value: half of 800 stays 400, and 100 stays 100, with a second value of 7
+abbrev pub LimitRows : Type 0
+LimitRows =
+    (resolved field.Size (record { tag = 15; value = ofBits binary32 0x3F00_0000; second = ofBits binary32 0x40E0_0000 }) (ofBits binary32 0x4448_0000)
+    ≡ Keyword (keyword.FitContentLimit (ofBits binary32 0x43C8_0000)))
+    × (resolved field.Size (record { tag = 43; value = ofBits binary32 0x42C8_0000; second = ofBits binary32 0x40E0_0000 }) (ofBits binary32 0x4448_0000)
+    ≡ Keyword (keyword.FitContentLimit (ofBits binary32 0x42C8_0000)))

@@ -3,7 +3,7 @@
 -- Block size 100, margins 0, left-to-right unless said. Each box has a height, so that it asks nothing but to be laid out, unless its width
 -- is auto or it is said. Assumes nothing.
 use Prim.Native.Nat.{ℕ}
-use mathlib.Core.Bool.{Bool, true, false, _&&_}
+use mathlib.Core.Bool.{Bool, true, false, not, _&&_}
 use mathlib.Core.List.{List, [], _∷_, _++_}
 use lib.Ieee.{Float, nan, eq, neg, ofBits, binary32}
 use Rattle.util.specs.Number.{0f}
@@ -48,11 +48,11 @@ sides left right others = record { left = left; right = right; top = others; bot
 abbrev pub tenHigh : CompactLength → LengthSize
 tenHigh width = record { width = width; height = length (px 10) }
 
--- a box by its left and right inset, its size, min and max width and its left padding; all else auto or 0
-unfoldable pub boxOf : CompactLength → CompactLength → LengthSize → CompactLength → CompactLength → CompactLength → Style
-boxOf left right size min max padding =
+-- a box by its insets, its size, min and max width and its left padding; all else auto or 0
+unfoldable pub boxIn : LengthRect → LengthSize → CompactLength → CompactLength → CompactLength → Style
+boxIn inset size min max padding =
     record {
-      inset = sides left right auto;
+      inset = inset;
       margin = sides (length 0f) (length 0f) (length 0f);
       padding = sides padding (length 0f) (length 0f);
       border = sides (length 0f) (length 0f) (length 0f);
@@ -71,13 +71,21 @@ boxOf left right size min max padding =
       contain = record { layout = false; paint = false };
     }
 
-unfoldable pub containerOf : Direction → Overflow → ContainingBlock
-containerOf direction overflow =
+-- top and bottom inset auto
+abbrev pub boxOf : CompactLength → CompactLength → LengthSize → CompactLength → CompactLength → CompactLength → Style
+boxOf left right size min max padding = boxIn (sides left right auto) size min max padding
+
+-- an area so wide, and 100 high
+unfoldable pub areaOf : ℕ → Direction → Overflow → ContainingBlock
+areaOf width direction overflow =
     record {
-      area = record { size = record { width = px 100; height = px 100 }; offset = zeroPoint };
+      area = record { size = record { width = px width; height = px 100 }; offset = zeroPoint };
       direction = direction;
       overflow = record { x = overflow; y = overflow };
     }
+
+abbrev pub containerOf : Direction → Overflow → ContainingBlock
+containerOf direction overflow = areaOf 100 direction overflow
 
 abbrev pub atStart : AxisStaticPosition
 atStart = record { area = 0f to 0f; align = record { keyword = Start; safety = Default; fallback = Start } }
@@ -173,24 +181,17 @@ overflowRows =
 abbrev pub halfLess : ℕ → CompactLength
 halfLess n = record { tag = 129; value = ofBits binary32 0x3F00_0000; second = neg (px n) }
 
-unfoldable pub standsAt : Style → ℕ → Bool
-standsAt style x = eq (outcome 0 0 (placed (containerOf Ltr Visible) style candidate) .outcome .layout .location .x) (px x)
+unfoldable pub standsIn : ContainingBlock → Style → ℕ → ℕ → Bool
+standsIn container style x y =
+    let at = outcome 0 0 (placed container style candidate) .outcome .layout .location in eq (at .x) (px x) && eq (at .y) (px y)
 
--- the first question is to measure the height, the width being known
-unfoldable pub asksHeight : ℕ → Talk Placed → Bool
-asksHeight w (done p) = false
-asksHeight w (ask (MeasureBoth m) next) = false
-asksHeight w (ask (MeasureWidth m) next) = false
-asksHeight w (ask (MeasureHeight m) next) = is (m .known .width) w
-asksHeight w (ask (LayOut l) next) = false
-
--- the first question is to measure the width, the height being known
-unfoldable pub asksWidth : ℕ → Talk Placed → Bool
-asksWidth h (done p) = false
-asksWidth h (ask (MeasureBoth m) next) = false
-asksWidth h (ask (MeasureWidth m) next) = is (m .known .height) h
-asksWidth h (ask (MeasureHeight m) next) = false
-asksWidth h (ask (LayOut l) next) = false
+-- the first question is to measure the width, or else the height, so much being known of the other side
+unfoldable pub asks : Bool → ℕ → Talk Placed → Bool
+asks wide n (done p) = false
+asks wide n (ask (MeasureBoth m) next) = false
+asks wide n (ask (MeasureWidth m) next) = wide && is (m .known .height) n
+asks wide n (ask (MeasureHeight m) next) = not wide && is (m .known .width) n
+asks wide n (ask (LayOut l) next) = false
 
 abbrev pub minContent : CompactLength
 minContent = record { tag = 11; value = 0f; second = 0f }
@@ -199,41 +200,10 @@ minContent = record { tag = 11; value = 0f; second = 0f }
 unfoldable pub halfHigh : Style
 halfHigh = boxOf auto auto (record { width = minContent; height = halfLess 12 }) auto auto (length 0f)
 
--- half less 12 in the left and top inset, 40 wide and 10 high
+-- half less 12 in the left and top inset
 unfoldable pub halfDown : Style
 halfDown =
-    record {
-      inset = record { left = halfLess 12; right = auto; top = halfLess 12; bottom = auto };
-      margin = sides (length 0f) (length 0f) (length 0f);
-      padding = sides (length 0f) (length 0f) (length 0f);
-      border = sides (length 0f) (length 0f) (length 0f);
-      size = tenHigh (length (px 40));
-      min = record { width = auto; height = auto };
-      max = record { width = auto; height = auto };
-      ratio = None;
-      sizing = BorderBox;
-      replaced = false;
-      table = false;
-      direction = Ltr;
-      justify = record { keyword = Normal; safety = Default };
-      align = record { keyword = Normal; safety = Default };
-      overflow = record { x = Visible; y = Visible };
-      scrollbar = 0f;
-      contain = record { layout = false; paint = false };
-    }
-
--- an area 200 wide and 100 high
-unfoldable pub wideArea : ContainingBlock
-wideArea =
-    record {
-      area = record { size = record { width = px 200; height = px 100 }; offset = zeroPoint };
-      direction = Ltr;
-      overflow = record { x = Visible; y = Visible };
-    }
-
-unfoldable pub standsIn : ContainingBlock → Style → ℕ → ℕ → Bool
-standsIn container style x y =
-    let at = outcome 0 0 (placed container style candidate) .outcome .layout .location in eq (at .x) (px x) && eq (at .y) (px y)
+    boxIn (record { left = halfLess 12; right = auto; top = halfLess 12; bottom = auto }) (tenHigh (length (px 40))) auto auto (length 0f)
 
 -- width half less 12, height min-content, max width as given
 unfoldable pub halfWide : CompactLength → Style
@@ -248,17 +218,17 @@ sumRows =
     -- padding: the least width
     ∷ hasMin (boxOf auto auto (tenHigh auto) auto auto (halfLess 12)) 38
     -- left inset; right inset, 40 wide
-    ∷ standsAt (boxOf (halfLess 12) auto (tenHigh (length (px 40))) auto auto (length 0f)) 38
-    ∷ standsAt (boxOf auto (halfLess 12) (tenHigh (length (px 40))) auto auto (length 0f)) 22
-    -- it is a number, no keyword: the height alone is measured, the width being the sum, clamped
-    ∷ asksHeight 38 (placed (containerOf Ltr Visible) (halfWide auto) candidate)
-    ∷ asksHeight 30 (placed (containerOf Ltr Visible) (halfWide (length (px 30))) candidate)
-    ∷ asksWidth 38 (placed (containerOf Ltr Visible) halfHigh candidate)
+    ∷ standsIn (containerOf Ltr Visible) (boxOf (halfLess 12) auto (tenHigh (length (px 40))) auto auto (length 0f)) 38 0
+    ∷ standsIn (containerOf Ltr Visible) (boxOf auto (halfLess 12) (tenHigh (length (px 40))) auto auto (length 0f)) 22 0
+    -- it is a number, no keyword: the other side alone is measured, this one being the sum, clamped
+    ∷ asks false 38 (placed (containerOf Ltr Visible) (halfWide auto) candidate)
+    ∷ asks false 30 (placed (containerOf Ltr Visible) (halfWide (length (px 30))) candidate)
+    ∷ asks true 38 (placed (containerOf Ltr Visible) halfHigh candidate)
     -- each inset by its own axis: half of 200 less 12, half of 100 less 12
-    ∷ standsIn wideArea halfDown 88 38
+    ∷ standsIn (areaOf 200 Ltr Visible) halfDown 88 38
     ∷ []
 
--- the row set: 1 to 11 are the starred ones
+-- the row set: 1 to 11 are the starred ones; last, those of sums
 unfoldable pub rows : List Bool
 rows = axisRows ++ boxRows ++ overflowRows ++ sumRows
 

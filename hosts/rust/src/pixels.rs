@@ -25,7 +25,7 @@ impl Layout {
     ///
     /// Location, size and offset must be whole eighths of a pixel, of at most 9,999,999 eighths (1,249,999.875 pixels) in size;
     /// nothing else is read. Otherwise [`Refusal::NotInEighths`]. A run whose area, lengths, scrollbar widths, static areas and replies
-    /// are whole quarter pixels of at most 4,096, without percentage and ratio and without surfaced boxes that are claimed, has no box
+    /// are whole quarter pixels of at most 4,096, without percentage, sum and ratio and without surfaced boxes that are claimed, has no box
     /// that is refused. But a centered box whose free space is an odd count of eighths stands half an eighth off: in an area of 800 at 0, with
     /// left and right inset 0, auto margins and width 100.125, x is 349.9375.
     ///

@@ -252,6 +252,6 @@ fn unfinished() {
     assert_eq!(closed.reach(0), Err(Refusal::BadExtent));
     let mut ragged = Words::finished();
     ragged.styles.push(0);
-    ragged.state[state::LENGTHS] = 58;
+    ragged.state[state::LENGTHS] = u32::try_from(ragged.styles.len()).unwrap();
     assert_eq!(ragged.reach(0), Err(Refusal::BadExtent));
 }
