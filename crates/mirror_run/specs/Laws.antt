@@ -1,5 +1,5 @@
 -- What the mirror image of words means, as statements. `proofs/Laws.antt` proves each, under its name in small letters. Assumes nothing.
-use Prim.Native.Nat.{ℕ, _/_, _≤_, _<_}
+use Prim.Native.Nat.{ℕ, _*_, _/_, _≤_, _<_}
 use mathlib.Core.Path.{_≡_}
 use mathlib.Core.Logic.{_≢_}
 use mathlib.Core.Bool.{true, false}
@@ -8,7 +8,7 @@ use lib.ListN.{length, getD}
 use Rattle.records.specs.Records.{recordAt, goodRecords}
 use Rattle.tree.specs.declared.layout.OofPositioningArea.{OofPositioningArea}
 use Rattle.tree_record.specs.Candidate.{candidateWidth, candidateKinds, candidateOf}
-use Rattle.style_record.specs.Record.{lengths, tagWord, item, items}
+use Rattle.style_record.specs.Record.{item, items}
 use Rattle.style_record.specs.Decode.{styleAt}
 use Rattle.run.specs.Refusals.{badStyle}
 use Rattle.mirror_box.specs.Image as box
@@ -34,7 +34,7 @@ StylesTwice = (styles : List ℕ) → imageStyles (imageStyles styles) ≡ style
 abbrev pub StylesPass : Type 0
 StylesPass = (styles : List ℕ) → badStyle (imageStyles styles) ≡ badStyle styles
 
--- then each item of the image is the image of the item: left and right lengths exchanged whole, with tag, value and second value
+-- then each item of the image is the image of the item (mirror_box/specs/Image.antt: left and right lengths exchanged whole)
 abbrev pub StylesDecode : Type 0
 StylesDecode =
     (styles : List ℕ) (i : ℕ) → badStyle styles ≡ false → i < items styles
@@ -43,8 +43,8 @@ StylesDecode =
 -- where the mirror's hypotheses hold, no length of the table is a percentage, a fit-content percentage or a sum
 abbrev pub PercentagesLeftOut : Type 0
 PercentagesLeftOut =
-    (styles : List ℕ) (i l : ℕ) → QuarterTable styles → i < items styles → l < lengths
-    → (item styles i (tagWord l) ≢ 5) × (item styles i (tagWord l) ≢ 15) × (item styles i (tagWord l) ≢ 129)
+    (styles : List ℕ) (i l : ℕ) → QuarterTable styles → i < items styles → l < 22
+    → (item styles i (3 * l) ≢ 5) × (item styles i (3 * l) ≢ 15) × (item styles i (3 * l) ≢ 129)
 
 -- ---- candidates, n being the number of items
 

@@ -52,9 +52,9 @@ IsAutoSize l = (l .tag ≡ 3) ⊎ (l .tag ≡ 35)
 pub data Comes (basis : Float) : CompactLength → Float → Type 0 where
   asPixels : {x any : Float} → Comes basis (record { tag = 1; value = x; second = any }) x
   asPercent : {x any : Float} → Comes basis (record { tag = 5; value = x; second = any }) (basis ⊗ x)
-  asSum : {x y : Float} → Comes basis (record { tag = 129; value = x; second = y }) (basis ⊗ x ⊕ y)
+  asSum : {x y : Float} → Comes basis (record { tag = 129; value = x; second = y }) ((basis ⊗ x) ⊕ y)
 
--- a sum with a second value of -0 is its percentage: in every field and of every basis, bit for bit
+-- a sum with a second value of -0 is its percentage: in every field and of every basis, a zero's sign included
 abbrev pub SumWithNothing : Type 0
 SumWithNothing =
     (f : Field) (l : CompactLength) (basis : Float) → l .tag ≡ 129 → l .second ≡ −0f

@@ -136,7 +136,7 @@ styleHoldsFloat style.keyword = false
 styleHoldsFloat style.safety = false
 styleHoldsFloat style.contain = false
 
--- a field of an item line is one: a style's words by their kinds; the replies, all of them
+-- a field of an item line is a float: a style's words by their kinds; the replies, all of them
 abbrev pub itemHoldsFloat : ℕ → Bool
 itemHoldsFloat j = cond (ltb j style.styleWords) (styleHoldsFloat (style.kindOf j)) true
 
@@ -144,7 +144,7 @@ itemHoldsFloat j = cond (ltb j style.styleWords) (styleHoldsFloat (style.kindOf 
 abbrev pub itemFloat : ℕ → Bool
 itemFloat j = (ltb j 66 && not (eqb (j % 3) 0)) || (eqb j 67 || (eqb j 77 || leb 79 j))
 
--- request #105, "its line in the screen file 85 fields": a float in eighths exactly there, whatever the tag, else a code
+-- request #105, "its line in the screen file 85 fields": a float in eighths exactly where these two say, whatever the tag, else a code
 abbrev pub ItemLine : Type 0
 ItemLine =
     (length (fieldsOf Item) ≡ 85)

@@ -42,8 +42,9 @@ among (x ∷ xs) n = eqb n x || among xs n
 abbrev pub TakesItsTags : Type 0
 TakesItsTags = (f : Field) (tag : ℕ) → takes f tag ≡ among (tagsOf f) tag
 
--- ---- percentages and sums: in every kind of field a number of pixels, no keyword. That each of a style's 22 lengths is resolved as its kind,
--- and against which basis, the laws of a box say (oof_box_laws/specs/Resolved.antt)
+-- ---- percentages and sums: in every kind of field a number of pixels, which may be NaN, and no keyword. Against which basis each of a
+-- style's 22 lengths is taken, the laws of a box say (oof_box_laws/specs/Resolved.antt). A basis is never missing; a NaN one counts as with
+-- tag 5
 
 abbrev pub PercentInEveryField : Type 0
 PercentInEveryField = (f : Field) (l : CompactLength) (basis : Float) → l .tag ≡ 5 → resolved f l basis ≡ Length (basis ⊗ l .value)

@@ -65,7 +65,7 @@ SumTagRows =
     × (checked (put 48 385 plain) ≡ Bad 0 48)
     × (checked (put 63 128 plain) ≡ Bad 0 63)
     × (checked (put 63 130 plain) ≡ Bad 0 63)
-    -- the Rust's own tags for it (style/compact_length.rs), 4 for a sum and 6 for fit-content of one, are none here
+    -- the Rust's own tags (style/compact_length.rs), 4 for a sum and 6 for fit-content of one, are none here
     × (checked (put 0 4 plain) ≡ Bad 0 0)
     × (checked (put 24 4 plain) ≡ Bad 0 24)
     × (checked (put 48 4 plain) ≡ Bad 0 48)

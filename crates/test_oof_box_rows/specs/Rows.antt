@@ -175,7 +175,7 @@ overflowRows =
     ∷ adds (containerOf Ltr Scroll) (outside 40) 50 0 (neg (px 40)) (px 10) (px 10)
     ∷ []
 
--- ---- request #105: a sum of a percentage and a length, the area being 100 by 100
+-- ---- request #105: a sum of a percentage and a length, the area being 100 by 100 unless said
 
 -- half the area less so many pixels
 abbrev pub halfLess : ℕ → CompactLength

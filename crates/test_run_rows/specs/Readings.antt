@@ -304,9 +304,9 @@ styles =
     ∷ laysOut boxAsked (opening absolute (over (set box ratioWord nan) 1 1))
     -- an item that nobody names
     ∷ refuses 3 (opening absolute (over (box ++ broken) 1 1))
-    -- request #105: a sum, 129: half the area less 12 wide; in padding; 385 and the Rust's own 4 (style/compact_length.rs) are none
+    -- request #105: a sum, 129: half the area less 12 wide; a padding of as much, which is the least width; 385 and the Rust's own 4 (style/compact_length.rs) are none
     ∷ laysOut (0 ∷ px 38 ∷ px 20 ∷ px 100 ∷ px 100 ∷ []) (opening absolute (over (written box (tagWord 16) (129 ∷ 1056964608 ∷ minus 12 ∷ [])) 1 1))
-    ∷ laysOut boxAsked (opening absolute (over (written box (tagWord 8) (129 ∷ 0 ∷ 0 ∷ [])) 1 1))
+    ∷ laysOut (0 ∷ px 38 ∷ px 20 ∷ px 100 ∷ px 100 ∷ []) (opening absolute (over (written box (tagWord 8) (129 ∷ 1056964608 ∷ minus 12 ∷ [])) 1 1))
     ∷ refuses 3 (opening absolute (over (set box (tagWord 8) 385) 1 1))
     ∷ refuses 3 (opening absolute (over (set box (tagWord 8) 4) 1 1))
     -- the second value of any other tag may be any word

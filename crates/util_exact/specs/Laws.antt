@@ -23,6 +23,6 @@ EqualIsSame = (x y : Float) (a b : N) → Sixteenths x a → Sixteenths y b → 
 abbrev pub OneTotal : Type 0
 OneTotal = (xs : List Float) (t u : Float) → AddUp xs t → AddUp xs u → t ≐ u
 
--- -0 is the number that adds nothing: every f32 plus -0 is that f32, bit for bit (plus +0 it isn't: -0 becomes +0)
+-- -0 is the number that adds nothing: every f32 plus -0 is that f32, a zero's sign included (+0 won't do: -0 plus +0 is +0)
 abbrev pub NothingAdded : Type 0
 NothingAdded = (x : Float) → T (fits binary32 x) → x ⊕ −0f ≡ x
