@@ -33,8 +33,6 @@ PICTURES = {
     "docs/layers.svg": ("Boxes that overlap, in the order in which they are drawn", {0: "reel A", 1: "reel B", 2: "note", 3: "alarm", 4: "mark"}, ["screens/layers"]),
     "docs/sums.svg": ("Labels that stand half the area less 12 px from an edge, and other sums",
                       {0: "column", 1: "column", 2: "label", 3: "from the right", 4: "min", 5: "max", 6: "note", 7: "mark"}, ["screens/sums"]),
-    "docs/anchor.svg": ("Labels that stretch from their anchors to the panel's edge, and their Arabic mirror image",
-                        {0: "start", 1: "end", 2: "center", 3: "fit-content", 4: "margins", 5: "down", 6: "both"}, ["screens/anchor", "screens/anchor-arabic"]),
     "docs/scrolled.svg": ("Panels that scroll, and one that clips across", {}, ["screens/scrolled", "screens/scrolled-arabic", "screens/clipped", "screens/sixteenth"]),
 }
 

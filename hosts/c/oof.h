@@ -151,14 +151,6 @@ enum {
 /* tags of lengths. Insets and margins take px, auto, percent and sum; padding and border px, percent and sum; the sizes all.
  * Percentages and sums are taken of a basis: of the area's height for top and bottom insets, height, min height and max height,
  * of its width for every other length.
- * Of the tags that only sizes take, content is auto, and the others are size keywords. A keyword in min or max is none.
- *   - OOF_TAG_STRETCH is the stretch size: the block less both margins, auto ones as 0, and at least 0; min and max clamp it. The
- *     block is what the insets leave of the area, nothing where they cross. Without insets it runs from the anchor, the candidate's
- *     edge, to the far edge of the area, or from a center as far to both sides as the nearer edge is. A label with its start edge at
- *     40 in an area of 100 is 60 wide and ends with the area.
- *   - OOF_TAG_FIT_CONTENT is measured in that size, the two other fit-content tags in their value.
- *   - A question for the width alone carries the stretch size of the height, known or not; one for the height alone that of the
- *     width, where no width is known.
  * OOF_TAG_SUM is the sum of a percentage and a length: basis * value, rounded, plus the second value, rounded; the two float
  * operations are never fused. A percentage is a factor: "half the area less 12 px" is value 0.5, second value -12.
  *   - Any length may be a sum, padding and border, min and max too.

@@ -263,24 +263,6 @@ def stretched_box_is_the_block(D, a, z):
     if not aligned(a) or f <= 0: return None
     p, m, l, b = view(D, a, f)
     return p - m[0] == l[0] and p + f + m[1] == l[1]
-def stretched_box_is_its_block(D, a, z):
-    f, l = D.stretch_fit(a), D.block(a)
-    if f <= 0 or l[1] <= l[0]: return None
-    p, m = D.placement(a, f)
-    return p - m[0] == l[0] and p + f + m[1] == l[1]
-# twice the anchor: the static position's edge, or the middle of its area
-def twice_anchor(a): return sum(a.area) if a.key == 'Center' else 2 * a.area[a.key == 'End']
-def static_block_inside(D, a, z):
-    if a.inset != (None, None) or not 0 <= twice_anchor(a) <= 2 * a.size: return None
-    l = D.block(a)
-    return 0 <= l[0] and l[1] <= a.size
-# the stretch size of a size keyword (request #106), and the Rust's
-def less_margins(a, x): return max(x - zero(a.margin[0]) - zero(a.margin[1]), 0)
-def keyword_room(D, a): l = D.block(a); return less_margins(a, l[1] - l[0])
-def stretch_size_is_stretch_fit(D, a, z): return keyword_room(D, a) == D.stretch_fit(a)
-def stretch_size_as_the_rust(D, a, z):
-    if None in a.inset or a.size - a.inset[1] < a.inset[0]: return None
-    return keyword_room(D, a) == less_margins(a, a.size - a.inset[0] - a.inset[1])
 
 def named(fs): return {''.join(w.capitalize() for w in f.__name__.split('_')): f for f in fs}
 
@@ -290,8 +272,7 @@ OF_FLOATS = named((start_inset_held, end_inset_held, start_inset_block, end_inse
     overflow_is_reachable, static_edge_held, static_safe_at_start, stretches_between_insets, stretch_fit_is_a_size))
 OF_QUARTERS = named((end_inset_exact, auto_margins_fill, fits_inside, same_size_is_the_block, center_is_even, end_at_end, safe_keeps_start,
     static_safe_keeps_start, overflow_covers, overflow_stays_within, overflow_keeps_start, overflow_moves_no_more, overflow_stops_at_start,
-    overflow_stops_at_end, too_large_at_start, block_around_static_center, stretch_fits, stretched_box_is_the_block,
-    stretched_box_is_its_block, static_block_inside, stretch_size_is_stretch_fit, stretch_size_as_the_rust))
+    overflow_stops_at_end, too_large_at_start, block_around_static_center, stretch_fits, stretched_box_is_the_block))
 LAWS = {**OF_FLOATS, **OF_QUARTERS}
 
 

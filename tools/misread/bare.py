@@ -4,7 +4,7 @@ import re
 import shutil
 
 CRATES = ('oof_common', 'oof_resolve', 'oof_place', 'oof_box')
-ROWS = {'rows 1 to 9': 'axisRows', 'rows 10 and 11': 'boxRows', 'rows 12 and 13': 'overflowRows', 'rows of stretch': 'stretchRows'}
+ROWS = {'rows 1 to 9': 'axisRows', 'rows 10 and 11': 'boxRows', 'rows 12 and 13': 'overflowRows'}
 
 
 def without_functions(text):
@@ -16,7 +16,7 @@ def without_functions(text):
 
 
 def make_bare(copy):
-    """Takes the code and its proofs from a copy of the repository, and the samples from the rows, which become a test for each list of ROWS."""
+    """Takes the code and its proofs from a copy of the repository, and the samples from the rows, which become three tests."""
     for crate in CRATES:
         shutil.rmtree(os.path.join(copy, 'crates', crate, 'proofs'))
         for folder, _, files in os.walk(os.path.join(copy, 'crates', crate, 'src')):

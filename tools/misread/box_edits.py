@@ -3,7 +3,6 @@ of the misreading; then the crates whose code is proved anew, and (file, old, ne
 RESOLVED, RESOLVE = 'oof_resolve/specs/Resolved.antt', 'oof_resolve/src/lib.rt'
 PLACING, PLACE = 'oof_place/specs/Placing.antt', 'oof_place/src/lib.rt'
 OVERFLOW, OVERFLOWS = 'oof_common/specs/ScrollableOverflow.antt', 'oof_common/src/scrollable_overflow.rt'
-KEYWORD, KEYWORDS = 'oof_common/specs/SizingKeyword.antt', 'oof_common/src/sizing_keyword.rt'
 BOX, CUT, SIZING, DIALOGUE = 'oof_box/specs/Box.antt', 'oof_box/specs/Cut.antt', 'oof_box/src/sizing.rt', 'oof_box/src/dialogue.rt'
 R, P, C, B = ['oof_resolve'], ['oof_place'], ['oof_common'], ['oof_box']
 
@@ -86,43 +85,6 @@ EDITS = [
     ('stretched: the other axis\' stretch-fit size', R, [
         (RESOLVED, 'record { width = stretchFit x; height = stretchFit y }', 'record { width = stretchFit y; height = stretchFit x }'),
         (RESOLVE, 'width: horizontal.stretch_fit_size(),\n        height: vertical.stretch_fit_size(),', 'width: vertical.stretch_fit_size(),\n        height: horizontal.stretch_fit_size(),')]),
-    # ---- step 4: size keywords, as of request #106
-    ('stretch keyword: the area less its insets', B, [
-        (BOX, 'use Rattle·util.specs.Order.{larger}', 'use Rattle·util.specs.Number.{_⊖_}\nuse Rattle·util.specs.Order.{larger}'),
-        (BOX, 'absoluteStretch (span (block a)) (a .margin)', 'absoluteStretch (a .size ⊖ orZero (a .inset .start) ⊖ orZero (a .inset .end)) (a .margin)'),
-        (SIZING, '    let block = axis.inset_modified_containing_block_size();\n',
-            '    let inset = axis.inset;\n    let from = inset.start;\n    let to = inset.end;\n    let block = axis.size - from.unwrap_or(0.0) - to.unwrap_or(0.0);\n')]),
-    ('stretch keyword: the block only where no inset is given', B, [
-        (BOX, 'use Rattle·util.specs.Order.{larger}', 'use Rattle·util.specs.Number.{_⊖_}\nuse Rattle·util.specs.Order.{larger}'),
-        (BOX, 'absoluteStretch (span (block a)) (a .margin)',
-            'absoluteStretch (cond (present (a .inset .start) || present (a .inset .end)) (a .size ⊖ orZero (a .inset .start) ⊖ orZero (a .inset .end)) (span (block a))) (a .margin)'),
-        (SIZING, """    let block = axis.inset_modified_containing_block_size();
-    sizing_keyword::absolute_stretch_size(block, margin)
-""", """    let inset = axis.inset;
-    let from = inset.start;
-    let to = inset.end;
-    if from.is_none() && to.is_none() {
-        let block = axis.inset_modified_containing_block_size();
-        return sizing_keyword::absolute_stretch_size(block, margin);
-    }
-    let left = axis.size - from.unwrap_or(0.0) - to.unwrap_or(0.0);
-    sizing_keyword::absolute_stretch_size(left, margin)
-""")]),
-    ('stretch keyword: margins left out', C, [
-        (KEYWORD, 'larger (blockSize ⊖ orZero (margin .start) ⊖ orZero (margin .end)) 0f', 'larger blockSize 0f'),
-        (KEYWORDS, """    let before = margin.start;
-    let after = margin.end;
-    let free = block - before.unwrap_or(0.0) - after.unwrap_or(0.0);
-    sys::f32_max(free, 0.0)
-""", '    sys::f32_max(block, 0.0)\n')]),
-    ('stretch keyword: below 0', C, [
-        (KEYWORD, 'larger (blockSize ⊖ orZero (margin .start) ⊖ orZero (margin .end)) 0f', 'blockSize ⊖ orZero (margin .start) ⊖ orZero (margin .end)'),
-        (KEYWORDS, '    let free = block - before.unwrap_or(0.0) - after.unwrap_or(0.0);\n    sys::f32_max(free, 0.0)\n', '    block - before.unwrap_or(0.0) - after.unwrap_or(0.0)\n')]),
-    ('the other side\'s space: the room of the side asked for', B, [
-        (BOX, 'space = spaceX and Definite (stretch .height)', 'space = spaceX and Definite (stretch .width)'),
-        (BOX, 'Definite (unwrapOr (known .width) (stretch .width))', 'Definite (unwrapOr (known .width) (stretch .height))'),
-        (DIALOGUE, 'height: AvailableSpace::Definite(stretch.height),', 'height: AvailableSpace::Definite(stretch.width),'),
-        (DIALOGUE, 'AvailableSpace::Definite(width.unwrap_or(stretch.width))', 'AvailableSpace::Definite(width.unwrap_or(stretch.height))')]),
     # ---- step 5: stretch
     ('table: normal stretches', B, [
         (BOX, 'let plain = not (style .replaced) && not (style .table) in', 'let plain = not (style .replaced) && not (style .replaced) in'),

@@ -145,7 +145,7 @@ def tried(root, copy, again, module, name, crates, edits):
 
 def laws_of_a_box(root):
     """The statements of oof_box_laws, by the names of their proofs."""
-    texts = [open(os.path.join(root, 'crates/oof_box_laws/specs', f)).read() for f in ('Laws.antt', 'Resolved.antt', 'Keywords.antt')]
+    texts = [open(os.path.join(root, 'crates/oof_box_laws/specs', f)).read() for f in ('Laws.antt', 'Resolved.antt')]
     names = re.findall(r'(?m)^abbrev pub (\w+) : Type 0$', ''.join(texts))
     return {re.sub(r'(?<!^)(?=[A-Z])', '-', n).lower(): n for n in names}
 
@@ -177,7 +177,7 @@ def tried_box(root, copy, bare_copy, name, crates, edits):
     for file in files:
         for to in (copy, bare_copy) if '/specs/' in file else (copy,): shutil.copy(os.path.join(root, 'crates', file), os.path.join(to, 'crates', file))
     changed = dict(box.MISREADINGS)[name]
-    rows = [r for row, holds in box.ROWS.items() if not holds(changed()) for r in bare.ROWS if row.split()[-1] in r.split()]
+    rows = [next(r for r in bare.ROWS if row[-2:] in r) for row, holds in box.ROWS.items() if not holds(changed())]
     false = [r for r in refused if r in rows] + false_on_model(box, changed, refused)
     said = f'refused by {", ".join(false) or "NOTHING THAT IS FALSE"}' + (' (false on the model)' if false else '')
     if len(refused) > len(false): said += f', and with it {", ".join(r for r in refused if r not in false)}'

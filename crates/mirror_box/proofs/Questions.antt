@@ -2,7 +2,6 @@
 use mathlib.Core.Path.{◌≡◌, refl, ap, subst}
 use mathlib.Core.Bool.{Bool, ◌||◌}
 use Prim.Native.Nat.{ℕ}
-use lib.Dec.{lit≤}
 use Rattle.util.specs.declared.math.MaybeF32.{MaybeF32}
 use Rattle.geometry.specs.declared.MaybeSize.{MaybeSize}
 use Rattle.geometry.specs.declared.Size.{Size}
@@ -23,10 +22,10 @@ use Rattle.util_exact.proofs.Same.{MaybeSame, given, unwrap_same}
 use Rattle.mirror_box.specs.Image.{image_style}
 use Rattle.mirror_box.specs.Quarter.{QuarterStyle, QuarterReplies}
 use Rattle.mirror_box.specs.Mirrored.{none, measure_both, measure_width, measure_height, lay_out, SameAsked}
-use Rattle.mirror_box.proofs.Bounds.{fit_bound}
-use Rattle.mirror_box.proofs.Shared.{SpaceSame, space, SizeShared, KnownShared, widen_known, size_told, known_told, space_told, both_present_lem}
+use Rattle.mirror_box.proofs.Bounds.{size_bound}
+use Rattle.mirror_box.proofs.Shared.{SpaceSame, space, SizeShared, KnownShared, size_told, known_told, space_told, both_present_lem}
 use Rattle.mirror_box.proofs.Resolve.{BoxShared}
-use Rattle.mirror_box.proofs.Keywords.{KeywordSame, noKeyword, exact, measure, KeywordsShared, stretch_size_lem}
+use Rattle.mirror_box.proofs.Keywords.{KeywordSame, noKeyword, exact, measure, KeywordsShared, stretch_size}
 use Rattle.mirror_box.proofs.Stretch.{stretched-by, final-size}
 
 data QuestionSame : KeywordQuestion → KeywordQuestion → Type 0 where
@@ -36,7 +35,7 @@ data QuestionSame : KeywordQuestion → KeywordQuestion → Type 0 where
 -- ---- step 4
 
 module _ {node node' : ℕ} (n : node ≡ node') where
-  both-asked : {s s' : AvailableSpace} (t : AvailableSpace) → SpaceSame fit_bound s s' → QuestionSame (both_asked node s t) (both_asked node' s' t)
+  both-asked : {s s' : AvailableSpace} (t : AvailableSpace) → SpaceSame size_bound s s' → QuestionSame (both_asked node s t) (both_asked node' s' t)
   both-asked t h =
       asked
       (record {
@@ -46,8 +45,8 @@ module _ {node node' : ℕ} (n : node ≡ node') where
             (record { node = n; known = record { width = none; height = refl }; space = space_told (record { width = h; height = refl }) });
       })
 
-  module _ {known known' : MaybeSize} (k : KnownShared fit_bound known known') {stretch stretch' : Size} (s : SizeShared fit_bound stretch stretch') where
-    width-asked : {a a' : AvailableSpace} → SpaceSame fit_bound a a' → QuestionSame (width_asked node a known stretch) (width_asked node' a' known' stretch')
+  module _ {known known' : MaybeSize} (k : KnownShared size_bound known known') {stretch stretch' : Size} (s : SizeShared size_bound stretch stretch') where
+    width-asked : {a a' : AvailableSpace} → SpaceSame size_bound a a' → QuestionSame (width_asked node a known stretch) (width_asked node' a' known' stretch')
     width-asked h =
         asked
         (record {
@@ -55,7 +54,7 @@ module _ {node node' : ℕ} (n : node ≡ node') where
           question = measure_width (record { node = n; known = known_told k; space = space_told (record { width = h; height = ap Definite s.height }) });
         })
 
-    height-asked : {w w' : MaybeF32} (down : AvailableSpace) → MaybeSame 4 fit_bound w w' → QuestionSame (height_asked node w down known stretch) (height_asked node' w' down known' stretch')
+    height-asked : {w w' : MaybeF32} (down : AvailableSpace) → MaybeSame 4 size_bound w w' → QuestionSame (height_asked node w down known stretch) (height_asked node' w' down known' stretch')
     height-asked down h =
         asked
         (record {
@@ -106,4 +105,4 @@ module _ (style : Style) (hs : QuarterStyle style) (box box' : ResolvedBox) (h :
   unfolding asked_of
   asked-of =
       pick SameAsked {t = is_first r.keyword r.fill} refl
-      (or_later_lem (keyword-asked-by n (widen_known (lit≤ tt) h.size) (stretch_size_lem box box' h) k.width k.height) size-asked) size-asked
+      (or_later_lem (keyword-asked-by n h.size (stretch_size box box' h) k.width k.height) size-asked) size-asked

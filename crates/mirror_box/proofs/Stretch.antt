@@ -103,7 +103,7 @@ module _ (style : Style) (hs : QuarterStyle style) (box box' : ResolvedBox) (h :
     -- steps 4 and 5
     pub stretched-by : StretchedShared (stretched_by style box keywords r) (stretched_by (image_style style) box' keywords' r)
     unfolding stretched_by
-    stretched-by = stretched-shared _ _ (known_shared style hs box box' h r.keyword q.keyword _ _ hk)
+    stretched-by = stretched-shared _ _ (widen_known (lit≤ tt) (known_shared style hs box box' h r.keyword q.keyword _ _ hk))
 
     -- step 6
     pub final-size : {at at' : Stretched} → StretchedShared at at' → SizeShared fit_bound (final_size box at (measured_size r.fill)) (final_size box' at' (measured_size r.fill))

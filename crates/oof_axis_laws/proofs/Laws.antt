@@ -1,12 +1,12 @@
 -- The laws of `specs/Laws.antt`, by the integers of an axis. Assumes nothing.
 use mathlib.Core.Path.{◌≡◌, refl, sym, ap, subst, ◌∙◌}
 use mathlib.Core.List.{List, [], ◌∷◌}
-use mathlib.Core.Bool.{Bool, true, false, true≢false, cond, not, ◌&&◌}
+use mathlib.Core.Bool.{Bool, true, false, cond, not, ◌&&◌}
 use Prim.Native.Nat.{ℕ, ◌+◌, ◌*◌, ◌≤◌, ◌<◌}
 use native.Mathlib.Omega.{arith}
 use lib.Dec.{ltb→lt}
 use lib.Ieee.{Float, lt, le}
-use Rattle.util.specs.Number.{◌⊖◌, 0f}
+use Rattle.util.specs.Number.{0f}
 use Rattle.util.specs.Maybe.{present, or_zero}
 use Rattle.util.specs.declared.math.MaybeF32.{MaybeF32}
 use Rattle.util.specs.declared.math.MaybeF32.TheVariants.{None, Some}
@@ -14,13 +14,13 @@ use Rattle.geometry.specs.Geometry.{◌to◌, span}
 use Rattle.style.specs.declared.alignment.AlignmentSafety.{AlignmentSafety}
 use Rattle.style.specs.declared.alignment.AlignmentSafety.TheVariants.{Unsafe, Safe}
 use Rattle.tree.specs.declared.layout.AxisStaticEdge.{AxisStaticEdge}
-use Rattle.tree.specs.declared.layout.AxisStaticEdge.TheVariants.{Start, Center, End}
+use Rattle.tree.specs.declared.layout.AxisStaticEdge.TheVariants.{Center}
 use Rattle.oof_axis.specs.declared.OofAlignment.{OofAlignment}
 use Rattle.oof_axis.specs.declared.OofAlignment.TheVariants as align
 use Rattle.oof_axis.specs.declared.OofAxis.{OofAxis}
 use Rattle.oof_axis.specs.Axis.{block, stretch_fit, placement}
 use Rattle.util_exact.specs.Integer.{N, zero_n, add_n, EqN}
-use Rattle.util_exact.proofs.Integers.{Multiple, sub_n, max_n, lt_n, le_n, add_mult, sub_mult, even_of, half_twice}
+use Rattle.util_exact.proofs.Integers.{Multiple, sub_n, lt_n, le_n, add_mult, sub_mult, even_of, half_twice}
 use mathlib.Core.Logic.{◌⊎◌, inl, inr}
 use borrow.Author.Tests.{le-leb}
 use Rattle.util_exact.specs.Value.{◌≐◌, Total}
@@ -39,8 +39,8 @@ use Rattle.mirror_axis.proofs.FlipMargins.{margins_fill}
 use Rattle.mirror_axis.proofs.Law.{numbers, axis_exact}
 use Rattle.oof_axis.specs.Laws.{NoInset, TwoInsets, Aligned, Overflows, margin_box}
 use Rattle.oof_axis.proofs.Laws.{not_normal}
-use Rattle.oof_axis_laws.specs.Laws.{Whole, LeN, ◌=Σ◌, ◌≤Σ◌, BeginsAt, BeginsFrom, BeginsBy, EndsAt, EndsFrom, EndsBy, EndInsetExact, AutoMarginsFill, FitsInside, SameSizeIsTheBlock, CenterIsEven, AtTheEnd, EndAtEnd, StartKept, SafeKeepsStart, StaticSafeKeepsStart, OverflowCovers, bounds, OverflowStaysWithin, OverflowKeepsStart, with_safety, OverflowMovesNoMore, OverflowStopsAtStart, OverflowStopsAtEnd, TooLargeAtStart, AroundStaticCenter, BlockAroundStaticCenter, StretchIs, StretchFits, StretchedBoxIsTheBlock, StretchedBoxIsItsBlock, StaticPositionInside, StaticBlockInside, stretch_size, StretchSizeIsStretchFit, rust_stretch_size, StretchSizeAsTheRust}
-use Rattle.oof_axis_laws.proofs.Numbers.{Sum, nil, ◌and◌, equal_sums, at_most_sums, at_most, above, below, not_below, Middle, align_inside, fits_told, safe_keeps, limited_covers, limited_within, limited_start, limited_told, limited_low, limited_high, limited_large, overflow_self, static_keeps, around, static_fills, static_told, start_inside, end_inside}
+use Rattle.oof_axis_laws.specs.Laws.{Whole, LeN, ◌=Σ◌, ◌≤Σ◌, BeginsAt, BeginsFrom, BeginsBy, EndsAt, EndsFrom, EndsBy, EndInsetExact, AutoMarginsFill, FitsInside, SameSizeIsTheBlock, CenterIsEven, AtTheEnd, EndAtEnd, StartKept, SafeKeepsStart, StaticSafeKeepsStart, OverflowCovers, bounds, OverflowStaysWithin, OverflowKeepsStart, with_safety, OverflowMovesNoMore, OverflowStopsAtStart, OverflowStopsAtEnd, TooLargeAtStart, AroundStaticCenter, BlockAroundStaticCenter, StretchIs, StretchFits, StretchedBoxIsTheBlock}
+use Rattle.oof_axis_laws.proofs.Numbers.{Sum, nil, ◌and◌, equal_sums, at_most_sums, at_most, above, below, not_below, Middle, align_inside, fits_told, safe_keeps, limited_covers, limited_within, limited_start, limited_told, limited_low, limited_high, limited_large, overflow_self, static_keeps, around}
 
 -- ---- the integers of a placed box: block, size, margins, and where the margin box begins
 
@@ -183,14 +183,11 @@ module _ (L A S : ℕ) (room : 10 * L + 6 * A + S < 16777216) (a : OofAxis) (α 
       (begins_at (aligned g) line.start (rw e (omega (arith, v, i.0, i.1))), ends_at (aligned g) line.end (rw e (omega (arith, v, i.0, i.1))))
 
   -- a stretched box is as large as the block
-  as-the-block : size ≐ stretch_fit a → lt 0f size ≡ true → EqN (box_n u μ) (span_n ℓ)
-  as-the-block q e =
+  stretched-at : Aligned a → size ≐ stretch_fit a → lt 0f size ≡ true → BeginsAt a size (block a).start × EndsAt a size (block a).end
+  stretched-at g q e =
       let v = same_integer hu (stretch-exact L A (omega arith) a α h) q in
       let p = below zero_n u (sym (lt_exact (zero_exact {g = 4} {b = 0}) hu) ∙ e) in
-      omega (arith, v, p)
-
-  stretched-at : Aligned a → size ≐ stretch_fit a → lt 0f size ≡ true → BeginsAt a size (block a).start × EndsAt a size (block a).end
-  stretched-at g q e = same-size-at g (same_number box (span_of L A S room line) (as-the-block q e))
+      same-size-at g (same_number box (span_of L A S room line) (omega (arith, v, p)))
 
   center-at : Aligned a → a.alignment ≡ align.Center → le (margin_box a size) (span (block a)) ≡ true
       → (placement a size).position ∷ (placement a size).position ∷ size ∷ (placement a size).margin.end ∷ [] =Σ (block a).start ∷ (block a).end ∷ (placement a size).margin.start ∷ []
@@ -326,76 +323,6 @@ module _ (L A S : ℕ) (room : 10 * L + 6 * A + S < 16777216) (a : OofAxis) (α 
       let e = ap (λ (s : AlignmentSafety). static_place_n s (shape a) area ℓ (box_n u μ)) s ∙ ap (λ (l : LineN). static_place_n Safe (shape a) area l (box_n u μ)) (static-line n) in
       (λ r. begins_from (unset n) line.start (rw (e, static-line n) (i.0 r)), λ r. ends_by (unset n) line.end (rw (e, static-line n) (i.1 r)))
 
-  -- ---- a stretched box, by its insets
-
-  absent-is : (m : MaybeF32) → present m ≡ false → m ≡ None
-  unfolding present
-  absent-is None e = refl
-  absent-is (Some x) e = absurd (true≢false e)
-
-  -- one inset: at its edge
-  at-start-inset : present a.inset.start ≡ true → present a.inset.end ≡ false → EqN (box_n u μ) (span_n ℓ) → BeginsAt a size (block a).start × EndsAt a size (block a).end
-  at-start-inset p q v =
-      let s = stands μ ℓ.start (rw (p, q) refl) (rw (p, q) refl) in
-      (begins_at s line.start (omega arith), ends_at s line.end (omega (arith, v)))
-
-  at-end-inset : present a.inset.start ≡ false → present a.inset.end ≡ true → EqN (box_n u μ) (span_n ℓ) → BeginsAt a size (block a).start × EndsAt a size (block a).end
-  at-end-inset p q v =
-      let m : margins_n (shape a) α u ≡ μ = rw p refl in
-      let at : place_n (shape a) α u ≡ sub_n (sub_n ℓ.end u) μ.end = rw (p, q) refl in
-      let ms = subst (λ (m : LineN). Exact 2 bound (placement a size).margin.start m.start) m any-margins.start in
-      let me = subst (λ (m : LineN). Exact 2 bound (placement a size).margin.end m.end) m any-margins.end in
-      let place = place-exact L A S room a α h hu in
-      (equal_sums (place and nil) (line.start and ms and nil) (rw at (omega (arith, v))), equal_sums (place and hu and me and nil) (line.end and nil) (rw at (omega arith)))
-
-  -- none: at the static position
-  at_static : NoInset a → EqN (box_n u μ) (span_n ℓ) → lt_n zero_n (span_n ℓ) ≡ true → BeginsAt a size (block a).start × EndsAt a size (block a).end
-  at_static n v p =
-      let s = unset n in
-      let l = static-line n in
-      let told = static_told a.place.align.safety (shape a) area ℓ (box_n u μ) (omega (arith, v)) in
-      let f = static_fills (end_of a.reversed) a.place.align.keyword area α.size (box_n u μ) static-middle static-even (subst (λ (l : LineN). EqN (box_n u μ) (span_n l)) l v) (subst (λ (l : LineN). lt_n zero_n (span_n l) ≡ true) l p) in
-      let e : EqN s.at ℓ.start = rw (told, l) f in
-      (begins_at s line.start e, ends_at s line.end (omega (arith, e, v)))
-
-  own-block-at : size ≐ stretch_fit a → lt 0f size ≡ true → lt 0f (span (block a)) ≡ true → BeginsAt a size (block a).start × EndsAt a size (block a).end
-  own-block-at q e s = by-insets (present a.inset.start) (present a.inset.end) refl refl
-    where
-      v : EqN (box_n u μ) (span_n ℓ)
-      v = as-the-block q e
-
-      two : TwoInsets a → (b c : Bool) → present a.margin.start ≡ b → present a.margin.end ≡ c → BeginsAt a size (block a).start × EndsAt a size (block a).end
-      two i true true m n = stretched-at (record { insets = i; marginStart = m; marginEnd = n }) q e
-      two i true false m n = auto-at i (rw (m, n) refl)
-      two i false c m n = auto-at i (rw m refl)
-
-      by-insets : (b c : Bool) → present a.inset.start ≡ b → present a.inset.end ≡ c → BeginsAt a size (block a).start × EndsAt a size (block a).end
-      by-insets true true i j = two (record { start = i; end = j }) (present a.margin.start) (present a.margin.end) refl refl
-      by-insets true false i j = at-start-inset i j v
-      by-insets false true i j = at-end-inset i j v
-      by-insets false false i j =
-          at_static (record { start = absent-is a.inset.start i; end = absent-is a.inset.end j }) v (sym (lt_exact (zero_exact {g = 4} {b = 0}) (span_of L A S room line)) ∙ s)
-
-  -- ---- the stretch size of a size keyword
-
-  abbrev stretchSizeN : N
-  stretchSizeN = max_n (sub_n (sub_n (span_n ℓ) μ.start) μ.end) zero_n
-
-  pub stretch-size-exact : Exact 4 (6 * L + 4 * A + L + L) (stretch_size a) stretchSizeN
-  stretch-size-exact = larger_exact (sub_exact (sub_exact (span-exact L A (omega arith) a α h) given_start (omega arith)) given_end (omega arith)) zero_exact
-
-  stretch-size-is-fit-at : stretch_size a ≐ stretch_fit a
-  stretch-size-is-fit-at = same_number stretch-size-exact (stretch-exact L A (omega arith) a α h) (omega arith)
-
-  as-the-rust-at : TwoInsets a → lt (a.size ⊖ or_zero a.inset.end) (or_zero a.inset.start) ≡ false → stretch_size a ≐ rust_stretch_size a
-  as-the-rust-at i f =
-      let s = or_zero_exact a.inset.start α.inset.start h.insetStart in
-      let e = or_zero_exact a.inset.end α.inset.end h.insetEnd in
-      let t : lt_n (sub_n α.size α.inset.end) α.inset.start ≡ false = rw (i.start, i.end) at (sym (lt_exact (sub_exact h.size e (omega arith)) s) ∙ f) in
-      let l : ℓ ≡ α.inset.start toN sub_n α.size α.inset.end = rw (i.start, i.end, t) refl in
-      let less = sub_exact (sub_exact (sub_exact (sub_exact h.size s (omega arith)) e (omega arith)) given_start (omega arith)) given_end (omega arith) in
-      same_number stretch-size-exact (larger_exact less zero_exact) (rw (l, i.start, i.end) (omega arith))
-
 -- what the sums say of the integers
 total_is : {xs : List Float} {t : N} → Sum xs t → (u : N) → Total xs u → EqN t u
 total_is nil u k = omega (arith, k)
@@ -489,32 +416,6 @@ module _ (L A S : ℕ) (room : 10 * L + 6 * A + S < 16777216) (a : OofAxis) (α 
       touch r e (inl t) = inl (same_number (line L A S room a α h hu).start (zero_exact {g = 4} {b = 0}) (rw e t))
       touch r e (inr t) = inr (same_number (line L A S room a α h hu).end h.size (rw e t))
 
-  -- ---- the block of an anchor in the area
-
-  static-inside-at : NoInset a → StaticPositionInside a → (0f ∷ [] ≤Σ (block a).start ∷ []) × ((block a).end ∷ [] ≤Σ a.size ∷ [])
-  static-inside-at n i = go a.place.align.keyword refl
-    where
-      zero : Exact 4 0 0f zero_n
-      zero = zero_exact
-
-      by : (k : AxisStaticEdge) → a.place.align.keyword ≡ k → let l = repaired_n (end_of a.reversed) (static_n k α.area α.size) in LeN zero_n l.start × LeN l.end α.size
-          → (0f ∷ [] ≤Σ (block a).start ∷ []) × ((block a).end ∷ [] ≤Σ a.size ∷ [])
-      by k q t =
-          let l = line L A S room a α h hu in
-          let e = static-line L A S room a α h hu n ∙ ap (λ (k : AxisStaticEdge). repaired_n (end_of a.reversed) (static_n k α.area α.size)) q in
-          (at_most_sums (zero and nil) (l.start and nil) (rw e (omega (arith, t.0))), at_most_sums (l.end and nil) (h.size and nil) (rw e (omega (arith, t.1))))
-
-      go : (k : AxisStaticEdge) → a.place.align.keyword ≡ k → (0f ∷ [] ≤Σ (block a).start ∷ []) × ((block a).end ∷ [] ≤Σ a.size ∷ [])
-      go Start q =
-          let low = at_most_of (zero and nil) (h.area.start and nil) (i.start q).0 in
-          let high = at_most_of (h.area.start and nil) (h.size and nil) (i.start q).1 in
-          by Start q (start_inside (end_of a.reversed) α.area.start α.size (omega (arith, low)) (omega (arith, high)))
-      go Center q = let c = around-at n q (i.center q).0 (i.center q).1 in (c.inStart, c.inEnd)
-      go End q =
-          let low = at_most_of (zero and nil) (h.area.end and nil) (i.end q).0 in
-          let high = at_most_of (h.area.end and nil) (h.size and nil) (i.end q).1 in
-          by End q (end_inside (end_of a.reversed) α.area.end α.size (omega (arith, low)) (omega (arith, high)))
-
   -- ---- the stretch-fit size
 
   stretch-at : StretchIs a
@@ -597,15 +498,3 @@ same_size_is_the_block = whole same-size-at
 
 pub stretched_box_is_the_block : StretchedBoxIsTheBlock
 stretched_box_is_the_block = whole stretched-at
-
-pub stretched_box_is_its_block : StretchedBoxIsItsBlock
-stretched_box_is_its_block = whole own-block-at
-
-pub static_block_inside : StaticBlockInside
-static_block_inside = whole static-inside-at
-
-pub stretch_size_is_stretch_fit : StretchSizeIsStretchFit
-stretch_size_is_stretch_fit = whole stretch-size-is-fit-at
-
-pub stretch_size_as_the_rust : StretchSizeAsTheRust
-stretch_size_as_the_rust = whole as-the-rust-at

@@ -17,7 +17,7 @@ use Rattle.util_exact.specs.Integer.{N, zero_n, add_n, EqN}
 use Rattle.util_exact.specs.Value.{Total}
 use Rattle.util_exact.proofs.Integers.{Multiple, sub_n, dbl_n, half_n, max_n, min_n, mag_n, lt_n, le_n, half_twice}
 use Rattle.util_exact.proofs.Exact.{Exact, sixteenths}
-use Rattle.mirror_axis.proofs.Model.{LineN, ◌toN◌, span_n, Shape, start_of, end_of, align_n, centered_n, static_n, closed_n, repaired_n, limit_n, limited_n, self_n, static_place_n}
+use Rattle.mirror_axis.proofs.Model.{LineN, ◌toN◌, span_n, Shape, start_of, end_of, align_n, centered_n, static_n, closed_n, repaired_n, limit_n, limited_n, self_n}
 use Rattle.oof_axis_laws.specs.Laws.{LeN, ◌=Σ◌, ◌≤Σ◌}
 
 -- ---- sums
@@ -254,40 +254,6 @@ static_keeps r k area ω v e m p = go (lt_n (static_n k area ω).end (static_n k
     go false r = kept_if area v k (static_n k area ω) r (λ f. static_inside k area ω v e m f)
     go true false = closed (static_n k area ω).start false
     go true true = closed (static_n k area ω).end true
-
--- one as large as that block stands on it, where the block has a size
-squeezed : (l : LineN) (v q : N) → EqN v (span_n l) → LeN l.start q → LeN (add_n q v) l.end → EqN q l.start
-squeezed l v q e i j = omega arith
-
-no_size : (x : N) → lt_n zero_n (span_n (x toN x)) ≡ true → ⊥
-no_size x p = absurd (omega (arith, ltb-true (0 + (span_n (x toN x)).n) ((span_n (x toN x)).p + 0) p))
-
-pub static_fills : (w k : AxisStaticEdge) (area : LineN) (ω v : N) → Middle area v → Multiple 2 (add_n area.start area.end)
-    → let l = repaired_n w (static_n k area ω) in EqN v (span_n l) → lt_n zero_n (span_n l) ≡ true → EqN (align_n area v k) l.start
-static_fills w k area ω v e m f p = go w (lt_n (static_n k area ω).end (static_n k area ω).start) f p
-  where
-    at-most-span : (l : LineN) → EqN v (span_n l) → LeN v (span_n l)
-    at-most-span l f = omega (arith, f)
-
-    go : (w : AxisStaticEdge) (t : Bool)
-        → let l = cond t (closed_n w (static_n k area ω)) (static_n k area ω) in EqN v (span_n l) → lt_n zero_n (span_n l) ≡ true → EqN (align_n area v k) l.start
-    go w false f p = let i = static_inside k area ω v e m (at-most-span (static_n k area ω) f) in squeezed (static_n k area ω) v (align_n area v k) f i.0 i.1
-    go Start true f p = absurd (no_size (static_n k area ω).end p)
-    go Center true f p = absurd (no_size (static_n k area ω).start p)
-    go End true f p = absurd (no_size (static_n k area ω).start p)
-
--- one that fits the block stands as told in the static area
-pub static_told : (s : AlignmentSafety) (σ : Shape) (area l : LineN) (v : N) → LeN v (span_n l) → static_place_n s σ area l v ≡ align_n area v σ.keyword
-static_told Default σ area l v f = refl
-static_told Unsafe σ area l v f = refl
-static_told Safe σ area l v f = rw (le-ltb ((span_n l).p + v.n) (v.p + (span_n l).n) f) refl
-
--- the block of an edge that lies in the area lies in the area
-pub start_inside : (w : AxisStaticEdge) (x ω : N) → LeN zero_n x → LeN x ω → let l = repaired_n w (x toN ω) in LeN zero_n l.start × LeN l.end ω
-start_inside w x ω i j = rw (le-ltb (ω.p + x.n) (x.p + ω.n) j) (i, omega arith)
-
-pub end_inside : (w : AxisStaticEdge) (x ω : N) → LeN zero_n x → LeN x ω → let l = repaired_n w (zero_n toN x) in LeN zero_n l.start × LeN l.end ω
-end_inside w x ω i j = rw (le-ltb (x.p + 0) (0 + x.n) i) (omega arith, j)
 
 -- the block around a static center that lies in the area: even on both sides, in the area, up to one of its edges
 pub around : (w : AxisStaticEdge) (area : LineN) (ω : N) → Multiple 2 (add_n area.start area.end) → LeN zero_n (add_n area.start area.end) → LeN (add_n area.start area.end) (add_n ω ω)

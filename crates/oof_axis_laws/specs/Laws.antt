@@ -4,7 +4,7 @@
 -- `proofs/Laws.antt` proves each, under its name in small letters. Assumes nothing.
 use Rattle.std.specs.Prelude.{◌≡◌, ◌⊎◌, List, [], ◌∷◌, true, false, not, ◌&&◌, ℕ, ◌+◌, ◌≤◌, Float}
 use Rattle.std.specs.Float.Ieee.{lt, le}
-use Rattle.util.specs.Number.{◌⊖◌, 0f}
+use Rattle.util.specs.Number.{0f}
 use Rattle.util.specs.Order.{larger, smaller}
 use Rattle.util.specs.Maybe.{present, or_zero}
 use Rattle.util.specs.declared.math.MaybeF32.TheVariants.{None, Some}
@@ -12,7 +12,7 @@ use Rattle.geometry.specs.Geometry.{◌to◌, span}
 use Rattle.geometry.specs.declared.Line.{Line}
 use Rattle.style.specs.declared.alignment.AlignmentSafety.{AlignmentSafety}
 use Rattle.style.specs.declared.alignment.AlignmentSafety.TheVariants.{Unsafe, Safe}
-use Rattle.tree.specs.declared.layout.AxisStaticEdge.TheVariants.{Start, Center, End}
+use Rattle.tree.specs.declared.layout.AxisStaticEdge.TheVariants.{Center}
 use Rattle.oof_axis.specs.declared.OofAlignment.TheVariants as align
 use Rattle.oof_axis.specs.declared.OofAxis.{OofAxis}
 use Rattle.oof_axis.specs.Axis.{block, stretch_fit, placement}
@@ -212,42 +212,3 @@ StretchFits = (a : OofAxis) (size : Float) → Whole a size → StretchIs a
 abbrev pub StretchedBoxIsTheBlock : Type 0
 StretchedBoxIsTheBlock =
     (a : OofAxis) (size : Float) → Whole a size → Aligned a → size ≐ stretch_fit a → lt 0f size ≡ true → BeginsAt a size (block a).start × EndsAt a size (block a).end
-
--- the same of any box whose block has a size: with one inset or none, too, and with auto margins. (Without insets a block that is closed up
--- needn't be where the box stands.)
-abbrev pub StretchedBoxIsItsBlock : Type 0
-StretchedBoxIsItsBlock =
-    (a : OofAxis) (size : Float) → Whole a size → size ≐ stretch_fit a → lt 0f size ≡ true → lt 0f (span (block a)) ≡ true
-    → BeginsAt a size (block a).start × EndsAt a size (block a).end
-
--- the static position lies in the area: the edge that it has, or the middle of its static area
-pub record StaticPositionInside (a : OofAxis) : Type 0 where
-  pub start : a.place.align.keyword ≡ Start → (0f ∷ [] ≤Σ a.place.area.start ∷ []) × (a.place.area.start ∷ [] ≤Σ a.size ∷ [])
-  pub center : a.place.align.keyword ≡ Center → (0f ∷ [] ≤Σ a.place.area.start ∷ a.place.area.end ∷ []) × (a.place.area.start ∷ a.place.area.end ∷ [] ≤Σ a.size ∷ a.size ∷ [])
-  pub end : a.place.align.keyword ≡ End → (0f ∷ [] ≤Σ a.place.area.end ∷ []) × (a.place.area.end ∷ [] ≤Σ a.size ∷ [])
-
--- then the block that a static position leads to lies in the area. (`size` is any: it only bounds.)
-abbrev pub StaticBlockInside : Type 0
-StaticBlockInside =
-    (a : OofAxis) (size : Float) → Whole a size → NoInset a → StaticPositionInside a → (0f ∷ [] ≤Σ (block a).start ∷ []) × ((block a).end ∷ [] ≤Σ a.size ∷ [])
-
--- ---- the stretch size of a size keyword (request #106)
-
--- the block less the margins that aren't auto, each taken off in turn; at least 0. This is the definition's own formula
--- (oof_box/specs/Box.antt: `axis_stretch`), by which the laws of a box speak (oof_box_laws/specs/Keywords.antt). The next two laws tie it to
--- CSS's size and to the Rust's.
-abbrev pub stretch_size : OofAxis → Float
-stretch_size a = larger (span (block a) ⊖ or_zero a.margin.start ⊖ or_zero a.margin.end) 0f
-
--- it is the stretch-fit size, where nothing is rounded. (`size` is any: it only bounds.)
-abbrev pub StretchSizeIsStretchFit : Type 0
-StretchSizeIsStretchFit = (a : OofAxis) (size : Float) → Whole a size → stretch_size a ≐ stretch_fit a
-
--- the Rust's: the area less insets and margins, each taken off in turn, an absent one as 0; at least 0
-abbrev pub rust_stretch_size : OofAxis → Float
-rust_stretch_size a = larger (a.size ⊖ or_zero a.inset.start ⊖ or_zero a.inset.end ⊖ or_zero a.margin.start ⊖ or_zero a.margin.end) 0f
-
--- where both insets are given and don't cross, the block is what they leave of the area, and the two are one number
-abbrev pub StretchSizeAsTheRust : Type 0
-StretchSizeAsTheRust =
-    (a : OofAxis) (size : Float) → Whole a size → TwoInsets a → lt (a.size ⊖ or_zero a.inset.end) (or_zero a.inset.start) ≡ false → stretch_size a ≐ rust_stretch_size a

@@ -5,7 +5,7 @@ use Rattle.util.specs.Order.{larger}
 use Rattle.util.specs.Maybe.{present, unwrap_or, or_zero}
 use Rattle.util.specs.declared.math.MaybeF32.{MaybeF32}
 use Rattle.util.specs.declared.math.MaybeF32.TheVariants.{None, Some}
-use Rattle.geometry.specs.Geometry.{span, zero_size, absent_size, definite, both_present, filled_size, clamped_size, clamped_floats, with_ratio}
+use Rattle.geometry.specs.Geometry.{zero_size, absent_size, definite, both_present, filled_size, clamped_size, clamped_floats, with_ratio}
 use Rattle.geometry.specs.declared.Size.{Size}
 use Rattle.geometry.specs.declared.MaybeSize.{MaybeSize}
 use Rattle.style.specs.declared.Style.{Style}
@@ -13,8 +13,7 @@ use Rattle.style.specs.declared.available_space.AvailableSpace.{AvailableSpace}
 use Rattle.style.specs.declared.available_space.AvailableSpace.TheVariants.{Definite}
 use Rattle.style.specs.declared.available_space.AvailableSize.{AvailableSize}
 use Rattle.tree.specs.declared.layout.OofCandidate.{OofCandidate}
-use Rattle.oof_axis.specs.Axis.{block, stretches, is_stretch}
-use Rattle.oof_axis.specs.declared.OofAxis.{OofAxis}
+use Rattle.oof_axis.specs.Axis.{stretches, is_stretch}
 use Rattle.oof_resolve.specs.Resolved.{resolved_box}
 use Rattle.oof_resolve.specs.declared.ContainingBlock.{ContainingBlock}
 use Rattle.oof_resolve.specs.declared.ResolvedBox.{ResolvedBox}
@@ -38,13 +37,13 @@ w and h = record { width = w; height = h }
 
 -- ---- step 4: size keywords
 
--- the stretch size of a size keyword in one axis, measured from the inset-modified block (request #106)
-abbrev pub axis_stretch : OofAxis → Float
-axis_stretch a = absolute_stretch (span (block a)) a.margin
-
--- of each side
+-- the stretch size of each side's keyword
 unfoldable pub keyword_stretch : ResolvedBox → Size
-keyword_stretch box = record { width = axis_stretch box.horizontal; height = axis_stretch box.vertical }
+keyword_stretch box =
+    record {
+      width = absolute_stretch box.horizontal.size box.horizontal.inset box.horizontal.margin;
+      height = absolute_stretch box.vertical.size box.vertical.inset box.vertical.margin;
+    }
 
 -- what the absent sides' keywords come to
 unfoldable pub size_keywords : Style → ResolvedBox → SizingKeywords
@@ -67,7 +66,7 @@ settled ratio box size = clamped_size (with_ratio ratio size) box.min box.max
 abbrev pub both_input : ℕ → AvailableSpace → AvailableSpace → MeasureInput
 both_input node spaceX spaceY = record { node = node; known = absent_size; space = spaceX and spaceY }
 
--- for the width: the height's space is its stretch size, whether the height is known or not
+-- for the width: a height that isn't known has its stretch size as space
 abbrev pub width_input : ℕ → AvailableSpace → MaybeSize → Size → MeasureInput
 width_input node spaceX known stretch = record { node = node; known = known; space = spaceX and Definite stretch.height }
 

@@ -45,7 +45,7 @@ fn both_asked(node: u32, spacex: AvailableSpace, spacey: AvailableSpace) -> Keyw
     })
 }
 
-// The height's space is its stretch size, whether the height is known or not.
+// A height that isn't known has its stretch size as space.
 fn width_asked(
     node: u32,
     spacex: AvailableSpace,

@@ -2,7 +2,7 @@
 ghost use Rattle.std.specs.Prelude.{◌≡◌, not, ◌&&◌};
 ghost use Rattle.util.specs.Maybe.{present};
 ghost use Rattle.oof_axis.specs.Axis.{stretches, is_stretch};
-ghost use Rattle.oof_box.specs.Box.{axis_stretch, keyword_stretch, size_keywords, is_keyword, has_keyword, settled, widened, heightened, ignores_ratio, stretch_ratio, raised_min, stretched, final_size};
+ghost use Rattle.oof_box.specs.Box.{keyword_stretch, size_keywords, is_keyword, has_keyword, settled, widened, heightened, ignores_ratio, stretch_ratio, raised_min, stretched, final_size};
 ghost use Rattle.oof_box.specs.Cut.{measured_width, measured_height, side_by, known_by, stretched_by, measured_size, size_by};
 
 use crate::question::{FillReply, KeywordReply, Replies};
@@ -24,24 +24,19 @@ pub struct Stretched {
 
 // ---- step 4
 
-// The stretch size of a size keyword in one axis: measured from the inset-modified block.
-fn axis_stretch(axis: OofAxis) -> f32
-    ensures { result ≡ axis_stretch axis }
-{
-    let margin = axis.margin;
-    let size = axis.inset_modified_containing_block_size();
-    sizing_keyword::absolute_stretch_size(size, margin)
-}
-
-// Of each side.
+// The stretch size of each side's size keyword.
 pub fn keyword_stretch(resolved: ResolvedBox) -> Size
     ensures { result ≡ keyword_stretch resolved }
 {
     let horizontal = resolved.horizontal;
     let vertical = resolved.vertical;
+    let inset_x = horizontal.inset;
+    let margin_x = horizontal.margin;
+    let inset_y = vertical.inset;
+    let margin_y = vertical.margin;
     Size {
-        width: axis_stretch(horizontal),
-        height: axis_stretch(vertical),
+        width: sizing_keyword::absolute_stretch_size(horizontal.size, inset_x, margin_x),
+        height: sizing_keyword::absolute_stretch_size(vertical.size, inset_y, margin_y),
     }
 }
 

@@ -32,7 +32,7 @@ unfolding ◌>>=◌
 alike_bind R (done a) next next' f = f a
 alike_bind R (ask q reply) next next' f = asking (λ r. alike_bind R (reply r) next next' f)
 
-pub measured_always : (P : Size → Type 0) (node : ℕ) (box : ResolvedBox) (at : Stretched) → ((s : Size) → P (final_size box at s)) → Always P (measured node box at)
+measured_always : (P : Size → Type 0) (node : ℕ) (box : ResolvedBox) (at : Stretched) → ((s : Size) → P (final_size box at s)) → Always P (measured node box at)
 unfolding measured
 measured_always P node box at f = always_bind (λ (s : Size). Unit {0}) P _ _ (always_any _) (λ s u. now (f s))
 

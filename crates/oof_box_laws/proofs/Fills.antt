@@ -43,7 +43,7 @@ use Rattle.oof_box_laws.proofs.Always.{always_map}
 use Rattle.oof_box_laws.proofs.Sizes.{stretch_fills}
 use Rattle.oof_box_laws.proofs.Places.{stands_by_its_axes}
 
-pub always_both : {A : Type 0} (P Q : A → Type 0) (m : Talk A) → Always P m → Always Q m → Always (λ (a : A). P a × Q a) m
+always_both : {A : Type 0} (P Q : A → Type 0) (m : Talk A) → Always P m → Always Q m → Always (λ (a : A). P a × Q a) m
 always_both P Q (done a) (now p) (now q) = now (p, q)
 always_both P Q (ask q next) (later f) (later g) = later (λ r. always_both P Q (next r) (f r) (g r))
 
@@ -88,7 +88,7 @@ module _ (x : Float) (positive : lt 0f x ≡ true) where
       go true = refl
       go false = refl
 
-  pub unchanged : (min max : MaybeF32) → ((low : Float) → min ≡ Some low → lt x low ≡ false) → ((high : Float) → max ≡ Some high → lt high x ≡ false) → clamped x min max ≡ x
+  unchanged : (min max : MaybeF32) → ((low : Float) → min ≡ Some low → lt x low ≡ false) → ((high : Float) → max ≡ Some high → lt high x ≡ false) → clamped x min max ≡ x
   unfolding clamped at_most at_least
   unchanged None None f g = refl
   unchanged (Some low) None f g = above-min low (f low refl)
@@ -98,7 +98,7 @@ module _ (x : Float) (positive : lt 0f x ≡ true) where
 -- ---- exact numbers
 
 -- a multiple of four sixteenths is of whole quarters
-pub quarters_of : {x : Float} {a : N} (n : ℕ) → Exact 4 (4 * n) x a → Quarters n x
+quarters_of : {x : Float} {a : N} (n : ℕ) → Exact 4 (4 * n) x a → Quarters n x
 quarters_of {x} {a} n h = go x h.val
   where
     fourth : (M D z k : ℕ) → z ≡ 4 * k → M * 16 ≡ z * D → M * 4 ≡ k * D
@@ -117,13 +117,13 @@ quarters_of {x} {a} n h = go x h.val
         record { sign = true; k = k; value = (refl, fourth (m * up e) (down e) h.z k f v.0); small = omega (arith, f, h.small) }
 
 -- a number added to one of a sum is added to the sum
-pub moved : {b c : ℕ} {x y : Float} {a d : N} (xs ys : List Float) → Exact 1 b x a → Exact 1 c y d → b + c < 16777216 → x ∷ xs =Σ ys → (x ⊕ y) ∷ xs =Σ y ∷ ys
+moved : {b c : ℕ} {x y : Float} {a d : N} (xs ys : List Float) → Exact 1 b x a → Exact 1 c y d → b + c < 16777216 → x ∷ xs =Σ ys → (x ⊕ y) ∷ xs =Σ y ∷ ys
 moved {x = x} {a = a} {d = d} xs ys h k l (t, u, (p, c, s, rest, e), all, f) =
     (add_n (add_n a d) c, add_n d u, (add_n a d, c, sixteenths (add_exact h k l), rest, refl), (d, u, sixteenths k, all, refl), omega (arith, one_integer x p a s (sixteenths h), e, f))
 
 -- ---- the static area isn't read between two insets
 
-abbrev pub without_static : OofAxis → OofAxis
+abbrev without_static : OofAxis → OofAxis
 without_static a =
     record {
       size = a.size;
@@ -172,7 +172,7 @@ module _ (a : OofAxis) (i : TwoInsets a) where
   same_weaker None (Some y) = refl
   same_weaker None None = refl
 
-  pub same_block : block (without_static a) ≡ block a
+  same_block : block (without_static a) ≡ block a
   unfolding block
   same_block = rw (same_weaker a.inset.start a.inset.end, same_inset_block a.inset.start a.inset.end i.start i.end) refl
 

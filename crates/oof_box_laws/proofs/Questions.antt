@@ -41,52 +41,40 @@ unfolding ◌>>=◌
 asks_bind P K (done a) next ends (now k) f = f a k
 asks_bind P K (ask q reply) next (asks p h) (later k) f = asks p (λ r. asks_bind P K (reply r) next (h r) (k r) f)
 
--- step 6 asks where a side is still absent
-measured_asks : (P : Question → Type 0) (node : ℕ) (box : ResolvedBox) (at : Stretched) → (both_present at.known ≡ false → P (MeasureBoth (record { node = node; known = at.known; space = box.space }))) → Asks P (measured node box at)
+measured_asks : (P : Question → Type 0) (node : ℕ) (box : ResolvedBox) (at : Stretched) → P (MeasureBoth (record { node = node; known = at.known; space = box.space })) → Asks P (measured node box at)
 unfolding measured ◌>>=◌
-measured_asks P node box at p = go (both_present at.known) p
+measured_asks P node box at p = go (both_present at.known)
   where
-    go : (b : Bool) → (b ≡ false → P (MeasureBoth (record { node = node; known = at.known; space = box.space })))
-        → Asks P (cond b (done zero_size) (ask (MeasureBoth (record { node = node; known = at.known; space = box.space })) done) >>= λ size. done (final_size box at size))
-    go true p = ends
-    go false p = asks (p refl) (λ r. ends)
+    go : (b : Bool) → Asks P (cond b (done zero_size) (ask (MeasureBoth (record { node = node; known = at.known; space = box.space })) done) >>= λ size. done (final_size box at size))
+    go true = ends
+    go false = asks p (λ r. ends)
 
-module _ (P : Question → Type 0) (container : ContainingBlock) (style : Style) (candidate : OofCandidate) where
+-- step 4, then the question of step 6, then lay out
+module _ (P : Question → Type 0) (K : MaybeSize → Type 0) (container : ContainingBlock) (style : Style) (candidate : OofCandidate) where
   abbrev box : ResolvedBox
   box = resolved_box container style candidate
 
-  -- steps 5 to 7, from the size known after step 4
-  abbrev pub rest_of : MaybeSize → Talk Placed
-  rest_of known =
-      measured candidate.node box (stretched style box known)
-      >>= λ size. ask (LayOut (record { node = candidate.node; size = size; space = box.space })) done
-      >>= λ laid. done (record { outcome = box_layout container style candidate box size laid.overflow; surfaced = laid.surfaced })
+  abbrev talk : Talk MaybeSize
+  talk = keyword_sizes candidate.node style box (size_keywords style box)
 
-  pub rest-asks : (known : MaybeSize)
-      → (both_present (stretched style box known).known ≡ false → P (MeasureBoth (record { node = candidate.node; known = (stretched style box known).known; space = box.space })))
-      → ((s : Size) → P (LayOut (record { node = candidate.node; size = final_size box (stretched style box known) s; space = box.space }))) → Asks P (rest_of known)
-  unfolding ◌>>=◌ measured
-  rest-asks known m l =
-      asks_bind P (λ (size : Size). (s : Size) × (size ≡ final_size box (stretched style box known) s)) (measured candidate.node box (stretched style box known)) _
-      (measured_asks P candidate.node box (stretched style box known) m) (finals (both_present (stretched style box known).known)) (λ size f. asks (rw f.1 (l f.0)) (λ laid. ends))
+  asks-placed : Asks P talk → Always K talk
+      → ((known : MaybeSize) → K known → P (MeasureBoth (record { node = candidate.node; known = (stretched style box known).known; space = box.space })))
+      → ((known : MaybeSize) → K known → (s : Size) → P (LayOut (record { node = candidate.node; size = final_size box (stretched style box known) s; space = box.space })))
+      → Asks P (placed container style candidate)
+  unfolding placed ◌>>=◌ measured
+  asks-placed a k m l =
+      asks_bind P K talk _ a k
+      (λ known h. asks_bind P (λ (size : Size). (s : Size) × (size ≡ final_size box (stretched style box known) s)) (measured candidate.node box (stretched style box known)) _
+      (measured_asks P candidate.node box (stretched style box known) (m known h)) (finals known) (λ size f. asks (rw f.1 (l known h f.0)) (λ laid. ends)))
     where
-      finals : (b : Bool)
-          → Always (λ (size : Size). (s : Size) × (size ≡ final_size box (stretched style box known) s))
-          (cond b (done zero_size) (ask (MeasureBoth (record { node = candidate.node; known = (stretched style box known).known; space = box.space })) done) >>= λ size. done (final_size box (stretched style box known) size))
-      finals true = now (_, refl)
-      finals false = later (λ r. now (r, refl))
-
-  -- step 4, then the question of step 6, then lay out
-  module _ (K : MaybeSize → Type 0) where
-    abbrev talk : Talk MaybeSize
-    talk = keyword_sizes candidate.node style box (size_keywords style box)
-
-    pub asks-placed : Asks P talk → Always K talk
-        → ((known : MaybeSize) → K known → P (MeasureBoth (record { node = candidate.node; known = (stretched style box known).known; space = box.space })))
-        → ((known : MaybeSize) → K known → (s : Size) → P (LayOut (record { node = candidate.node; size = final_size box (stretched style box known) s; space = box.space })))
-        → Asks P (placed container style candidate)
-    unfolding placed
-    asks-placed a k m l = asks_bind P K talk rest_of a k (λ known h. rest-asks known (λ n. m known h) (l known h))
+      finals : (known : MaybeSize) → Always (λ (size : Size). (s : Size) × (size ≡ final_size box (stretched style box known) s)) (measured candidate.node box (stretched style box known))
+      finals known = go (both_present (stretched style box known).known)
+        where
+          go : (b : Bool)
+              → Always (λ (size : Size). (s : Size) × (size ≡ final_size box (stretched style box known) s))
+              (cond b (done zero_size) (ask (MeasureBoth (record { node = candidate.node; known = (stretched style box known).known; space = box.space })) done) >>= λ size. done (final_size box (stretched style box known) size))
+          go true = now (_, refl)
+          go false = later (λ r. now (r, refl))
 
 -- ---- a side that is told
 
@@ -109,11 +97,11 @@ unfolding size_keywords keywords_of
 given_size_is_told container style candidate x =
     let box = resolved_box container style candidate in (
       λ e. (let c = given_width_settled container style candidate x e in
-          asks-placed (WidthTold x) container style candidate (λ (k : MaybeSize). k.width ≡ Some x)
+          asks-placed (WidthTold x) (λ (k : MaybeSize). k.width ≡ Some x) container style candidate
           (rw (no_keyword box.size.width _ x e) (asks_with_width candidate.node style box x e _)) (width_known container style candidate x e)
           (λ known k. told_width style box known x c k) (λ known k s. stretched_width style box known x c k s)),
       λ e. (let c = given_height_settled container style candidate x e in
-          asks-placed (HeightTold x) container style candidate (λ (k : MaybeSize). k.height ≡ Some x)
+          asks-placed (HeightTold x) (λ (k : MaybeSize). k.height ≡ Some x) container style candidate
           (rw (no_keyword box.size.height _ x e) (asks_with_height candidate.node style box x e _)) (height_known container style candidate x e)
           (λ known k. told_height style box known x c k) (λ known k s. stretched_height style box known x c k s)),
     )
@@ -129,7 +117,7 @@ plain_asks : (P : Question → Type 0) (container : ContainingBlock) (style : St
 plain_asks P container style candidate k m l =
     let box = resolved_box container style candidate in
     let e = plain_keywords candidate.node style box k in
-    asks-placed P container style candidate (λ (known : MaybeSize). known ≡ box.size) (nothing_asked P _ box.size e) (known_is _ box.size e) (λ known f. rw f m) (λ known f s. rw f (l s))
+    asks-placed P (λ (known : MaybeSize). known ≡ box.size) container style candidate (nothing_asked P _ box.size e) (known_is _ box.size e) (λ known f. rw f m) (λ known f s. rw f (l s))
 
 pub stretched_size_is_told : StretchedSizeIsTold
 unfolding final_size clamped_floats filled_size
@@ -137,11 +125,11 @@ stretched_size_is_told container style candidate k t =
     let box = resolved_box container style candidate in
     let z = (auto_is_no_size container style candidate).0 in
     let at = stretched style box box.size in (
-      λ a s. (let h = auto-width style box box.size true k.ratio t (z.width k.ratio a) s in
+      λ a s. (let h = auto-width style box true k.ratio t (z.width k.ratio a) s in
           let f = ap (λ (x : Float). clamped x box.min.width box.max.width) (fit_across container style candidate) in
           plain_asks (WidthTold (clamped (stretch_fit box.horizontal) box.min.width box.max.width)) container style candidate k (h.0 ∙ ap Some f)
           (λ s. stretch_side at.known.width box.min.width _ box.max.width box.fit.width s.width h.0 (ap (λ (m : MaybeSize). m.width) h.1) ∙ f)),
-      λ a s. (let h = auto-height style box box.size true k.ratio t (z.height k.ratio a) s in
+      λ a s. (let h = auto-height style box true k.ratio t (z.height k.ratio a) s in
           let f = ap (λ (x : Float). clamped x box.min.height box.max.height) (fit_down container style candidate) in
           plain_asks (HeightTold (clamped (stretch_fit box.vertical) box.min.height box.max.height)) container style candidate k (h.0 ∙ ap Some f)
           (λ s. stretch_side at.known.height box.min.height _ box.max.height box.fit.height s.height h.0 (ap (λ (m : MaybeSize). m.height) h.1) ∙ f)),
@@ -154,7 +142,7 @@ unfolding smaller_size
 side_of true fit other = (refl, refl)
 side_of false fit other = (refl, refl)
 
-pub space_is : (container : ContainingBlock) (style : Style) (candidate : OofCandidate) → let box = resolved_box container style candidate in box.space ≡ space_of style box
+space_is : (container : ContainingBlock) (style : Style) (candidate : OofCandidate) → let box = resolved_box container style candidate in box.space ≡ space_of style box
 unfolding resolved_box horizontal vertical space_for less_margins of_width resolved_rect rect_or_zero sum_x sum_y definite_spaces clamped_spaces clamped_space
 space_is container style candidate =
     let box = resolved_box container style candidate in
@@ -185,7 +173,7 @@ unfolding size_keywords keywords_of
 space_is_the_block container style candidate =
     let box = resolved_box container style candidate in
     let e = space_is container style candidate in (
-      asks-placed (LaidOutIn (space_of style box)) container style candidate (λ (k : MaybeSize). Unit {0})
+      asks-placed (LaidOutIn (space_of style box)) (λ (k : MaybeSize). Unit {0}) container style candidate
           (laid_out_alone (space_of style box) _ (keywords_measure candidate.node style box _ _)) (always_any _) (λ known u. tt) (λ known u s. e),
       λ k. plain_asks (AskedIn (space_of style box)) container style candidate k e (λ s. e),
     )

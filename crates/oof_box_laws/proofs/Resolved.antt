@@ -180,11 +180,11 @@ alignment_of_the_style container style candidate =
 -- ---- size, min and max
 
 -- the fields of sizes
-pub data Sizing : Field → Type 0 where
+data Sizing : Field → Type 0 where
   size : Sizing field.Size
   bound : Sizing field.MinOrMax
 
-pub auto_size : {f : Field} → Sizing f → (l : CompactLength) (basis : Float) → IsAutoSize l → maybe_resolved f l basis ≡ None
+auto_size : {f : Field} → Sizing f → (l : CompactLength) (basis : Float) → IsAutoSize l → maybe_resolved f l basis ≡ None
 unfolding maybe_resolved resolved by_tag
 auto_size size l basis (inl e) = rw e refl
 auto_size size l basis (inr e) = rw e refl
@@ -241,7 +241,7 @@ clamped_is : (m min max : MaybeF32) (x : Float) → m ≡ Some x → map_clamped
 unfolding map_clamped map
 clamped_is m min max x e = rw e refl
 
-pub none_clamped : (m min max : MaybeF32) → m ≡ None → map_clamped m min max ≡ None
+none_clamped : (m min max : MaybeF32) → m ≡ None → map_clamped m min max ≡ None
 unfolding map_clamped map
 none_clamped m min max e = rw e refl
 
@@ -256,7 +256,7 @@ larger_itself x = go (larger_is_one x x)
     go (inl e) = e
     go (inr e) = e
 
-pub none_raised : (m : MaybeF32) (e : Float) → m ≡ None → map_larger (or_else m (Some e)) e ≡ Some e
+none_raised : (m : MaybeF32) (e : Float) → m ≡ None → map_larger (or_else m (Some e)) e ≡ Some e
 unfolding map_larger map or_else
 none_raised m e p = rw p (ap Some (larger_itself e))
 
@@ -276,21 +276,6 @@ module _ (style : Style) (area edges : Size) (f : Field) (lengths : LengthSize) 
   unfolding style_size added_size resolved_size
   given-height x c = added_is _ _ _ x (ratio_height style.ratio _ x (comes_to f lengths.height area.height x c)) (ap (λ (s : Size). s.height) (left_out_lem style.sizing edges))
 
-  -- a length that comes to nothing, without a ratio
-  pub none-width : style.ratio ≡ None → maybe_resolved f lengths.width area.width ≡ None → across ≡ None
-  unfolding style_size added_size resolved_size with_ratio
-  none-width e n = rw e (none_added _ _ n)
-
-  pub none-height : style.ratio ≡ None → maybe_resolved f lengths.height area.height ≡ None → down ≡ None
-  unfolding style_size added_size resolved_size with_ratio
-  none-height e n = rw e (none_added _ _ n)
-
-  pub none_both : maybe_resolved f lengths.width area.width ≡ None → maybe_resolved f lengths.height area.height ≡ None → (across ≡ None) × (down ≡ None)
-  unfolding style_size added_size resolved_size
-  none_both p q =
-      let e = no_side style.ratio _ p q in
-      (none_added _ _ (ap (λ (s : MaybeSize). s.width) e ∙ p), none_added _ _ (ap (λ (s : MaybeSize). s.height) e ∙ q))
-
   module _ (sizing : Sizing f) where
     width-by-ratio : (r x : Float) → style.ratio ≡ Some r → IsAutoSize lengths.width → Comes area.height lengths.height x → across ≡ Some (x ⊗ r ⊕ (left_out style.sizing edges).width)
     unfolding style_size added_size resolved_size
@@ -303,13 +288,20 @@ module _ (style : Style) (area edges : Size) (f : Field) (lengths : LengthSize) 
         added_is _ _ _ (x ⊘ r) (lone_width style.ratio _ r x e (comes_to f lengths.width area.width x c) (auto_size sizing lengths.height area.height a)) (ap (λ (s : Size). s.height) (left_out_lem style.sizing edges))
 
     auto-width : style.ratio ≡ None → IsAutoSize lengths.width → across ≡ None
-    auto-width e a = none-width e (auto_size sizing lengths.width area.width a)
+    unfolding style_size added_size resolved_size with_ratio
+    auto-width e a = rw e (none_added _ _ (auto_size sizing lengths.width area.width a))
 
     auto-height : style.ratio ≡ None → IsAutoSize lengths.height → down ≡ None
-    auto-height e a = none-height e (auto_size sizing lengths.height area.height a)
+    unfolding style_size added_size resolved_size with_ratio
+    auto-height e a = rw e (none_added _ _ (auto_size sizing lengths.height area.height a))
 
     auto-both : IsAutoSize lengths.width → IsAutoSize lengths.height → (across ≡ None) × (down ≡ None)
-    auto-both a b = none_both (auto_size sizing lengths.width area.width a) (auto_size sizing lengths.height area.height b)
+    unfolding style_size added_size resolved_size
+    auto-both a b =
+        let p = auto_size sizing lengths.width area.width a in
+        let q = auto_size sizing lengths.height area.height b in
+        let e = no_side style.ratio _ p q in
+        (none_added _ _ (ap (λ (s : MaybeSize). s.width) e ∙ p), none_added _ _ (ap (λ (s : MaybeSize). s.height) e ∙ q))
 
 pub sizes_of_its_box : SizesOfItsBox
 unfolding resolved_box clamped_size min_size raised_size first_size definite
@@ -339,7 +331,7 @@ ratio_completes container style candidate r x e =
       height = λ a c. clamped_is _ _ _ _ (height-by-ratio style area edges field.Size style.size size r x e a c);
     }
 
-pub two_sides : (w w' h h' : MaybeF32) → w ≡ w' → h ≡ h' → w by h ≡ w' by h'
+two_sides : (w w' h h' : MaybeF32) → w ≡ w' → h ≡ h' → w by h ≡ w' by h'
 two_sides w w' h h' e f = ap₂ ◌by◌ e f
 
 pub auto_is_no_size : AutoIsNoSize

@@ -28,7 +28,7 @@ use Rattle.oof_common.specs.declared.sizing_keyword.SizingKeywordResolution.{Siz
 use Rattle.oof_common.specs.declared.sizing_keyword.SizingKeywordResolution.TheVariants.{NoKeyword, Exact, Measure}
 use Rattle.oof_place.specs.Placing.{layout_of, box_layout}
 use Rattle.oof_box.specs.Talk.{Talk, done, ask, ◌>>=◌}
-use Rattle.oof_box.specs.Box.{placed, width_as, height_as, in_turn, by_keywords, raised_min, stretched, final_size, measured, keyword_sizes, keyword_stretch, size_keywords, stretch_ratio, ignores_ratio, widened, heightened, settled, ◌by◌}
+use Rattle.oof_box.specs.Box.{placed, width_as, height_as, in_turn, by_keywords, raised_min, stretched, final_size, measured, keyword_sizes, size_keywords, stretch_ratio, ignores_ratio, widened, heightened, settled, ◌by◌}
 use Rattle.oof_box.specs.declared.question.MeasureInput.{MeasureInput}
 use Rattle.oof_box.specs.declared.question.Question.TheVariants.{MeasureBoth}
 use Rattle.oof_box.specs.declared.sizing.Stretched.{Stretched}
@@ -338,25 +338,25 @@ no_table : (t : Bool) (a b : Stretched) → t ≡ false → cond t a b ≡ b
 no_table t a b e = rw e refl
 
 -- after step 5 of a box that is no table
-module _ (style : Style) (box : ResolvedBox) (known : MaybeSize) (b : Bool) (ratio : style.ratio ≡ None) (table : style.table ≡ false) where
-  pub auto-width : known.width ≡ None → stretches box.horizontal (stretchable style) ≡ b
-      → ((stretched style box known).known.width ≡ fit_if b box.fit.width box.min.width box.max.width) × ((stretched style box known).min ≡ box.min)
+module _ (style : Style) (box : ResolvedBox) (b : Bool) (ratio : style.ratio ≡ None) (table : style.table ≡ false) where
+  pub auto-width : box.size.width ≡ None → stretches box.horizontal (stretchable style) ≡ b
+      → ((stretched style box box.size).known.width ≡ fit_if b box.fit.width box.min.width box.max.width) × ((stretched style box box.size).min ≡ box.min)
   unfolding stretched
   auto-width e s =
       rw (no_table style.table _ _ table)
-      (tall_auto _ box _ b (widened _ box _ known) (no_ratio style box _ _ ratio) (wide_auto _ box _ b known (no_ratio style box _ _ ratio) (absent_and known.width _ b e s) e), refl)
+      (tall_auto _ box _ b (widened _ box _ box.size) (no_ratio style box _ _ ratio) (wide_auto _ box _ b box.size (no_ratio style box _ _ ratio) (absent_and box.size.width _ b e s) e), refl)
 
-  pub auto-height : known.height ≡ None → stretches box.vertical (stretchable style) ≡ b
-      → ((stretched style box known).known.height ≡ fit_if b box.fit.height box.min.height box.max.height) × ((stretched style box known).min ≡ box.min)
+  pub auto-height : box.size.height ≡ None → stretches box.vertical (stretchable style) ≡ b
+      → ((stretched style box box.size).known.height ≡ fit_if b box.fit.height box.min.height box.max.height) × ((stretched style box box.size).min ≡ box.min)
   unfolding stretched
   auto-height e s =
       rw (no_table style.table _ _ table)
-      (tall_fills _ box _ b (widened _ box _ known) (no_ratio style box _ _ ratio) (absent_and known.height _ b e s) (wide_leaves _ box _ known (no_ratio style box _ _ ratio) e), refl)
+      (tall_fills _ box _ b (widened _ box _ box.size) (no_ratio style box _ _ ratio) (absent_and box.size.height _ b e s) (wide_leaves _ box _ box.size (no_ratio style box _ _ ratio) e), refl)
 
 pub known_is : {A : Type 0} (m : Talk A) (a : A) → m ≡ done a → Always (λ (k : A). k ≡ a) m
 known_is m a e = rw e (now refl)
 
-pub no_size_keyword : (l : CompactLength) (stretch basis : Float) → NoSizeKeyword l → keyword_of l stretch basis ≡ NoKeyword
+no_size_keyword : (l : CompactLength) (stretch basis : Float) → NoSizeKeyword l → keyword_of l stretch basis ≡ NoKeyword
 unfolding keyword_of of_resolved resolved by_tag
 no_size_keyword l stretch basis (inl e) = rw e refl
 no_size_keyword l stretch basis (inr (inl e)) = rw e refl
@@ -364,7 +364,7 @@ no_size_keyword l stretch basis (inr (inr (inl e))) = rw e refl
 no_size_keyword l stretch basis (inr (inr (inr (inl e)))) = rw e refl
 no_size_keyword l stretch basis (inr (inr (inr (inr e)))) = rw e refl
 
-pub none_if_absent : (m : MaybeF32) (k : SizingKeywordResolution) → k ≡ NoKeyword → if_absent m k ≡ NoKeyword
+none_if_absent : (m : MaybeF32) (k : SizingKeywordResolution) → k ≡ NoKeyword → if_absent m k ≡ NoKeyword
 unfolding if_absent
 none_if_absent None k e = e
 none_if_absent (Some x) k e = refl
@@ -375,56 +375,32 @@ plain_keywords node style box k =
     no_keywords node style box (size_keywords style box) (none_if_absent box.size.width _ (no_size_keyword style.size.width _ _ k.width))
     (none_if_absent box.size.height _ (no_size_keyword style.size.height _ _ k.height))
 
+-- the final size by the size that step 2 left
+from_step_two : (P : Size → Type 0) (container : ContainingBlock) (style : Style) (candidate : OofCandidate)
+    → let box = resolved_box container style candidate in
+    Plain style → ((s : Size) → P (final_size box (stretched style box box.size) s)) → SizeAlways P container style candidate
+from_step_two P container style candidate k f =
+    let box = resolved_box container style candidate in
+    size_from (λ (known : MaybeSize). known ≡ box.size) P container style candidate
+    (known_is (keyword_sizes candidate.node style box (size_keywords style box)) box.size (plain_keywords candidate.node style box k))
+    (λ known e s. rw e (f s))
+
 pub stretch_side : (m min min' max : MaybeF32) (fit y : Float) → m ≡ fit_if true fit min max → min' ≡ min → clamped (unwrap_or m y) min' max ≡ clamped fit min max
 unfolding unwrap_or
 stretch_side m min min' max fit y e f = rw (e, f) (clamp_is_settled fit min max)
-
--- step 4 leaves an auto side absent, whatever the other side's keyword
-module _ (node : ℕ) (style : Style) (box : ResolvedBox) (ratio : style.ratio ≡ None) where
-  width-left : (h : MaybeF32) → box.size.width ≡ None → (settled style.ratio box (box.size.width by h)).width ≡ None
-  unfolding settled clamped_size with_ratio map_clamped map
-  width-left h e = rw (ratio, e) refl
-
-  height-left : (w : MaybeF32) → box.size.height ≡ None → (settled style.ratio box (w by box.size.height)).height ≡ None
-  unfolding settled clamped_size with_ratio map_clamped map
-  height-left w e = rw (ratio, e) refl
-
-  width-absent : (tall : SizingKeywordResolution) → box.size.width ≡ None → Always (λ (k : MaybeSize). k.width ≡ None) (keyword_sizes node style box (record { width = NoKeyword; height = tall }))
-  unfolding keyword_sizes by_keywords in_turn width_as height_as ◌>>=◌
-  width-absent NoKeyword e = now e
-  width-absent (Exact y) e = now (width-left (Some y) e)
-  width-absent (Measure s) e = later (λ r. now (width-left (Some r) e))
-
-  height-absent : (wide : SizingKeywordResolution) → box.size.height ≡ None → Always (λ (k : MaybeSize). k.height ≡ None) (keyword_sizes node style box (record { width = wide; height = NoKeyword }))
-  unfolding keyword_sizes by_keywords in_turn width_as height_as ◌>>=◌
-  height-absent NoKeyword e = now e
-  height-absent (Exact x) e = now (height-left (Some x) e)
-  height-absent (Measure s) e = later (λ r. now (height-left (Some r) e))
-
-pub auto_wide : (style : Style) (box : ResolvedBox) → NoSizeKeyword style.size.width → size_keywords style box ≡ record { width = NoKeyword; height = (size_keywords style box).height }
-unfolding size_keywords keywords_of
-auto_wide style box n =
-    rw (none_if_absent box.size.width (keyword_of style.size.width (keyword_stretch box).width box.horizontal.size) (no_size_keyword style.size.width _ _ n)) refl
-
-pub auto_tall : (style : Style) (box : ResolvedBox) → NoSizeKeyword style.size.height → size_keywords style box ≡ record { width = (size_keywords style box).width; height = NoKeyword }
-unfolding size_keywords keywords_of
-auto_tall style box n =
-    rw (none_if_absent box.size.height (keyword_of style.size.height (keyword_stretch box).height box.vertical.size) (no_size_keyword style.size.height _ _ n)) refl
 
 pub stretch_fills : StretchFills
 unfolding final_size clamped_floats filled_size
 stretch_fills container style candidate k t =
     let z = (auto_is_no_size container style candidate).0 in
     let box = resolved_box container style candidate in (
-      λ e s. size_from (λ (known : MaybeSize). known.width ≡ None) (λ z. z.width ≡ clamped (stretch_fit box.horizontal) box.min.width box.max.width) container style candidate
-          (rw (auto_wide style box (inr (inr (inr e)))) (width-absent candidate.node style box k (size_keywords style box).height (z.width k e)))
-          (λ known a y. (let h = auto-width style box known true k t a s in
-          stretch_side (stretched style box known).known.width box.min.width _ box.max.width box.fit.width y.width h.0 (ap (λ (m : MaybeSize). m.width) h.1)
+      λ e s. (let h = auto-width style box true k.ratio t (z.width k.ratio e) s in
+          from_step_two (λ z. z.width ≡ clamped (stretch_fit box.horizontal) box.min.width box.max.width) container style candidate k
+          (λ s. stretch_side (stretched style box box.size).known.width box.min.width _ box.max.width box.fit.width s.width h.0 (ap (λ (m : MaybeSize). m.width) h.1)
           ∙ ap (λ (x : Float). clamped x box.min.width box.max.width) (fit_across container style candidate))),
-      λ e s. size_from (λ (known : MaybeSize). known.height ≡ None) (λ z. z.height ≡ clamped (stretch_fit box.vertical) box.min.height box.max.height) container style candidate
-          (rw (auto_tall style box (inr (inr (inr e)))) (height-absent candidate.node style box k (size_keywords style box).width (z.height k e)))
-          (λ known a y. (let h = auto-height style box known true k t a s in
-          stretch_side (stretched style box known).known.height box.min.height _ box.max.height box.fit.height y.height h.0 (ap (λ (m : MaybeSize). m.height) h.1)
+      λ e s. (let h = auto-height style box true k.ratio t (z.height k.ratio e) s in
+          from_step_two (λ z. z.height ≡ clamped (stretch_fit box.vertical) box.min.height box.max.height) container style candidate k
+          (λ s. stretch_side (stretched style box box.size).known.height box.min.height _ box.max.height box.fit.height s.height h.0 (ap (λ (m : MaybeSize). m.height) h.1)
           ∙ ap (λ (x : Float). clamped x box.min.height box.max.height) (fit_down container style candidate))),
     )
 
@@ -465,10 +441,10 @@ measured_is_the_reply container style candidate k t =
     let z = (auto_is_no_size container style candidate).0 in
     let box = resolved_box container style candidate in
     let at = stretched style box box.size in (
-      λ e s. (let h = auto-width style box box.size false k.ratio t (z.width k.ratio e) s in
+      λ e s. (let h = auto-width style box false k.ratio t (z.width k.ratio e) s in
           asks_both (λ m r z. (m.known.width ≡ None) × (z.width ≡ clamped r.width box.min.width box.max.width)) container style candidate k (not_both_width at.known h.0)
           (λ r. (h.0, absent_side at.known.width box.min.width _ box.max.width r.width h.0 (ap (λ (m : MaybeSize). m.width) h.1)))),
-      λ e s. (let h = auto-height style box box.size false k.ratio t (z.height k.ratio e) s in
+      λ e s. (let h = auto-height style box false k.ratio t (z.height k.ratio e) s in
           asks_both (λ m r z. (m.known.height ≡ None) × (z.height ≡ clamped r.height box.min.height box.max.height)) container style candidate k (not_both_height at.known h.0)
           (λ r. (h.0, absent_side at.known.height box.min.height _ box.max.height r.height h.0 (ap (λ (m : MaybeSize). m.height) h.1)))),
     )

@@ -101,13 +101,13 @@ pub record Plain (style : Style) : Type 0 where
 abbrev pub stretchable : Style → Bool
 stretchable style = not style.replaced && not style.table
 
--- stretch fills: an auto size that stretches is the stretch-fit size, clamped, whatever is measured, also beside a side with a size keyword.
--- Where the box then stands is said by `StretchedBoxFillsItsBlock`.
+-- stretch fills: an auto size that stretches is the stretch-fit size, clamped, whatever is measured. Where the box then stands is said by
+-- `StretchedBoxFillsItsBlock`.
 abbrev pub StretchFills : Type 0
 StretchFills =
     (container : ContainingBlock) (style : Style) (candidate : OofCandidate)
     → let box = resolved_box container style candidate in
-    style.ratio ≡ None → style.table ≡ false
+    Plain style → style.table ≡ false
     → (IsAutoSize style.size.width → stretches box.horizontal (stretchable style) ≡ true
     → SizeAlways (λ s. s.width ≡ clamped (stretch_fit box.horizontal) box.min.width box.max.width) container style candidate)
     × (IsAutoSize style.size.height → stretches box.vertical (stretchable style) ≡ true
@@ -278,7 +278,7 @@ StretchedBoxFillsItsBlock =
     (container : ContainingBlock) (style : Style) (candidate : OofCandidate)
     → let box = resolved_box container style candidate in
     let offset = container.area.offset in
-    style.ratio ≡ None → style.table ≡ false
+    Plain style → style.table ≡ false
     → (IsAutoSize style.size.width → StretchesFreely box.horizontal (stretchable style) box.min.width box.max.width → InQuarters box.horizontal offset.x
     → Always
     (λ (p : Placed). let l = p.outcome.layout in MarginBoxIs (block box.horizontal) offset.x l.location.x l.size.width (line_x l.margin))

@@ -58,14 +58,19 @@ pub fn resolve_sizing_keyword(
     }
 }
 
-// The stretch size of a size keyword in one axis: the inset-modified block's size less the margins, each in turn, auto as 0; at
-// least 0. Of the Rust's function this is its stretch size, with the block's size in place of the area less its insets.
-pub fn absolute_stretch_size(size: f32, margin: MaybeLine) -> f32
-    ensures { result ≡ absolute_stretch size margin }
+// The stretch size of a size keyword in one axis: the area less insets and margins, each in turn, auto as 0; at least 0.
+pub fn absolute_stretch_size(size: f32, inset: MaybeLine, margin: MaybeLine) -> f32
+    ensures { result ≡ absolute_stretch size inset margin }
 {
+    let from = inset.start;
+    let to = inset.end;
     let before = margin.start;
     let after = margin.end;
-    let free = size - before.unwrap_or(0.0) - after.unwrap_or(0.0);
+    let free = size
+        - from.unwrap_or(0.0)
+        - to.unwrap_or(0.0)
+        - before.unwrap_or(0.0)
+        - after.unwrap_or(0.0);
     sys::f32_max(free, 0.0)
 }
 

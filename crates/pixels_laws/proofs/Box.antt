@@ -116,26 +116,26 @@ module _ (S : Laid → Type 0) where
   bind P Q _ next (later {q = q} {next = reply} h) f = later (λ r g. bind P Q (reply r) next (h r g) f)
 
   module _ (node : ℕ) (stretch : Size) where
-    width-as : (k : SizingKeywordResolution) (known : MaybeSize) → KeywordIn k → KnownIn fit_bound known → AnsweredInQuarters S (MaybeIn fit_bound) (width_as node k known stretch)
+    width-as : (k : SizingKeywordResolution) (known : MaybeSize) → KeywordIn k → KnownIn size_bound known → AnsweredInQuarters S (MaybeIn size_bound) (width_as node k known stretch)
     unfolding width_as ◌>>=◌
     width-as _ known noKeyword h = now h.width
     width-as _ known (exact k) h = now (given k)
     width-as _ known (measure s) h = later (λ r g. now (given (widen_same (lit≤ tt) (quarters_same g))))
 
-    height-as : (k : SizingKeywordResolution) (known : MaybeSize) → KeywordIn k → KnownIn fit_bound known → AnsweredInQuarters S (MaybeIn fit_bound) (height_as node k known stretch)
+    height-as : (k : SizingKeywordResolution) (known : MaybeSize) → KeywordIn k → KnownIn size_bound known → AnsweredInQuarters S (MaybeIn size_bound) (height_as node k known stretch)
     unfolding height_as ◌>>=◌
     height-as _ known noKeyword h = now h.height
     height-as _ known (exact k) h = now (given k)
     height-as _ known (measure s) h = later (λ r g. now (given (widen_same (lit≤ tt) (quarters_same g))))
 
-    in_turn_lem : (wide tall : SizingKeywordResolution) (known : MaybeSize) → KeywordIn wide → KeywordIn tall → KnownIn fit_bound known → AnsweredInQuarters S (KnownIn fit_bound) (in_turn node wide tall known stretch)
+    in_turn_lem : (wide tall : SizingKeywordResolution) (known : MaybeSize) → KeywordIn wide → KeywordIn tall → KnownIn size_bound known → AnsweredInQuarters S (KnownIn size_bound) (in_turn node wide tall known stretch)
     unfolding in_turn
     in_turn_lem wide tall known k l h =
-        bind (MaybeIn fit_bound) (KnownIn fit_bound) (width_as node wide known stretch) _ (width-as wide known k h)
-        (λ w hw. bind (MaybeIn fit_bound) (KnownIn fit_bound) (height_as node tall (w by known.height) stretch) _ (height-as tall (w by known.height) l (record { width = hw; height = h.height }))
+        bind (MaybeIn size_bound) (KnownIn size_bound) (width_as node wide known stretch) _ (width-as wide known k h)
+        (λ w hw. bind (MaybeIn size_bound) (KnownIn size_bound) (height_as node tall (w by known.height) stretch) _ (height-as tall (w by known.height) l (record { width = hw; height = h.height }))
         (λ t ht. now (record { width = hw; height = ht })))
 
-    by_keywords_lem : (wide tall : SizingKeywordResolution) (known : MaybeSize) → KeywordIn wide → KeywordIn tall → KnownIn fit_bound known → AnsweredInQuarters S (KnownIn fit_bound) (by_keywords node wide tall known stretch)
+    by_keywords_lem : (wide tall : SizingKeywordResolution) (known : MaybeSize) → KeywordIn wide → KeywordIn tall → KnownIn size_bound known → AnsweredInQuarters S (KnownIn size_bound) (by_keywords node wide tall known stretch)
     unfolding by_keywords ◌>>=◌
     by_keywords_lem NoKeyword tall known k l h = in_turn_lem NoKeyword tall known k l h
     by_keywords_lem (Exact x) tall known k l h = in_turn_lem (Exact x) tall known k l h
@@ -152,16 +152,15 @@ module _ (S : Laid → Type 0) where
     unfolding settled with_ratio
     settle b i s k = clamped_in k (widen_known i h.min) (widen_known i h.max)
 
-    known_in : AnsweredInQuarters S (KnownIn fit_bound) (keyword_sizes node style box (size_keywords style box))
+    known_in : AnsweredInQuarters S (KnownIn size_bound) (keyword_sizes node style box (size_keywords style box))
     unfolding keyword_sizes
     known_in =
         let k = size_keywords style box in
         let hk = keywords_in style box hs h in
-        let size = widen_known (lit≤ tt) h.size in
-        either (AnsweredInQuarters S (KnownIn fit_bound)) (has_keyword k)
-        (bind (KnownIn fit_bound) (KnownIn fit_bound) (by_keywords node k.width k.height box.size (keyword_stretch box)) _
-        (by_keywords_lem node (keyword_stretch box) k.width k.height box.size hk.width hk.height size) (λ s k. now (rw hs.ratio (settle fit_bound (lit≤ tt) s k))))
-        (now size)
+        either (AnsweredInQuarters S (KnownIn size_bound)) (has_keyword k)
+        (bind (KnownIn size_bound) (KnownIn size_bound) (by_keywords node k.width k.height box.size (keyword_stretch box)) _
+        (by_keywords_lem node (keyword_stretch box) k.width k.height box.size hk.width hk.height h.size) (λ s k. now (rw hs.ratio (settle size_bound (lit≤ tt) s k))))
+        (now h.size)
 
     -- step 5
     widened-in : (t : Bool) (s : MaybeSize) → KnownIn fit_bound s → KnownIn fit_bound (widened None box t s)
@@ -208,9 +207,9 @@ module _ (S : Laid → Type 0) where
     placed-in =
         let box = resolved_box container style candidate in
         let h = resolved-in container style candidate hb hs hc in
-        bind (KnownIn fit_bound) PlacedIn (keyword_sizes candidate.node style box (size_keywords style box)) _ (known_in style hs candidate.node box h)
+        bind (KnownIn size_bound) PlacedIn (keyword_sizes candidate.node style box (size_keywords style box)) _ (known_in style hs candidate.node box h)
         (λ known k. bind (SizeIn fit_bound) PlacedIn (measured candidate.node box (stretched style box known)) _
-        (measured-in style hs candidate.node box h (stretched style box known) (stretched-in style hs candidate.node box h known k))
+        (measured-in style hs candidate.node box h (stretched style box known) (stretched-in style hs candidate.node box h known (widen_known (lit≤ tt) k)))
         (λ size s.
         later
         (λ laid g.

@@ -1,5 +1,4 @@
-// Replays on the code 2,000 boxes that the Rust or, where request #106 leaves it, the second implementation laid out, read from
-// standard input: every question, the layout and the finish
+// Replays on the code 2,000 boxes that the Rust laid out, read from standard input: every question, the layout and the finish
 // rectangle. Then document 01's rows 12 and 13, whose numbers it must write. tools/samples/boxes.py made the input and says how a
 // box stands in it.
 ghost use Rattle.std.specs.Prelude.{◌≡◌, length};

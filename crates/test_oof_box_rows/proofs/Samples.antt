@@ -1,4 +1,4 @@
--- The definition asks, lays out and contributes what the Rust or the second implementation did, by computation: zeros are equal, and so are NaNs.
+-- The definition asks, lays out and contributes what the Rust did, by computation: zeros are equal, and so are NaNs.
 use mathlib.Core.Path.{◌≡◌, refl}
 use mathlib.Core.Bool.{true}
 use lib.Ieee.{add, sub, mul, div, neg, lt, le, eq, is_nan, sum, round, units, odd, size, span, climb, of_bits, to_bits, of_fields, nan_bits}

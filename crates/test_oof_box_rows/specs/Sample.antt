@@ -1,5 +1,4 @@
--- A stored box, laid out by the Rust or, where request #106 leaves it, by the second implementation, in words, and whether the definition asks,
--- lays out and contributes the same. Assumes nothing.
+-- A box that the Rust laid out, in words, and whether the definition asks, lays out and contributes the same. Assumes nothing.
 use Rattle.std.specs.Prelude.{ℕ, Bool, true, false, cond, ◌&&◌, List, [], ◌∷◌, eqb, get_or}
 use Rattle.std.specs.Float.Ieee.{to_bits}
 use Rattle.std.specs.Float.{binary32}

@@ -46,15 +46,13 @@ pub enum Dimension {
     MaxContent,
     /// Same as `Auto`
     Content,
-    /// The content's size, within what [`Stretch`](Self::Stretch) would be
+    /// The content's size, within the space that there is
     FitContent,
     /// `fit-content(...)` in pixels
     FitContentPx(f32),
     /// `fit-content(...)` in parts of the area
     FitContentPercent(f32),
-    /// What the insets leave of the area, less the margins; at least 0, clamped by min and max. Without insets it is measured from
-    /// the anchor, the candidate's static edge, to the far edge of the area, or from a center to both sides as far as the nearer
-    /// edge is.
+    /// The space that there is
     Stretch,
 }
 

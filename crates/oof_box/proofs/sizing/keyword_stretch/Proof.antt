@@ -5,17 +5,18 @@ use Rattle.oof_box.proofs.sizing.keyword_stretch.Statement.{statement}
 use Rattle.oof_box.proofs.sizing.keyword_stretch.Tie as tie
 use Rattle.oof_box.proofs.sizing.keyword_stretch.Reads as reads
 use Rattle.oof_box.proofs.sizing.keyword_stretch.Lts as lts
-use Rattle.oof_box.proofs.sizing.axis_stretch.Reads as axis-stretch-reads
+use Rattle.oof_common.proofs.sizing_keyword.absolute_stretch_size.Reads as absolute-stretch-size-reads
 
-axis-stretch-requires : tie.Need-axis-stretch-requires
-axis-stretch-requires c κs = search rules
+absolute-stretch-size-requires : tie.Need-absolute-stretch-size-requires
+absolute-stretch-size-requires c κs = search rules
 
-axis-stretch-requires-2 : tie.Need-axis-stretch-requires-2
-axis-stretch-requires-2 c κs = search rules
+absolute-stretch-size-requires-2 : tie.Need-absolute-stretch-size-requires-2
+absolute-stretch-size-requires-2 c κs = search rules
 
 returns : tie.Need-returns
 unfolding keyword_stretch
-returns c = simp (← c.before.axis-stretch.ensures, ← c.axis-stretch2.ensures)
+returns c = simp (← c.before.absolute-stretch-size.ensures, ← c.absolute-stretch-size2.ensures)
 
 pub keyword-stretch-spec : {M : Type 1} → statement M
-keyword-stretch-spec = tie.close (tie.spec axis-stretch-requires axis-stretch-requires-2 returns)
+keyword-stretch-spec =
+    tie.close (tie.spec absolute-stretch-size-requires absolute-stretch-size-requires-2 returns)

@@ -14,13 +14,26 @@ unwrap-or-requires c κs = search rules
 unwrap-or-requires-2 : tie.Need-unwrap-or-requires-2
 unwrap-or-requires-2 c κs = search rules
 
+unwrap-or-requires-3 : tie.Need-unwrap-or-requires-3
+unwrap-or-requires-3 c κs = search rules
+
+unwrap-or-requires-4 : tie.Need-unwrap-or-requires-4
+unwrap-or-requires-4 c κs = search rules
+
 f32-max-requires : tie.Need-f32-max-requires
 f32-max-requires c κs = search rules
 
 returns : tie.Need-returns
 unfolding absolute_stretch
-returns c = simp (← c.before.before.unwrap_or.ensures, ← c.before.unwrap-or2.ensures, ← c.f32-max.ensures)
+returns c = simp (← c.before.before.before.before.unwrap_or.ensures, ← c.before.before.before.unwrap-or2.ensures, ← c.before.before.unwrap-or3.ensures, ← c.before.unwrap-or4.ensures, ← c.f32-max.ensures)
 
 pub absolute-stretch-size-spec : {M : Type 1} → statement M
 absolute-stretch-size-spec =
-    tie.close (tie.spec unwrap-or-requires unwrap-or-requires-2 f32-max-requires returns)
+    tie.close
+    (tie.spec
+    unwrap-or-requires
+    unwrap-or-requires-2
+    unwrap-or-requires-3
+    unwrap-or-requires-4
+    f32-max-requires
+    returns)
