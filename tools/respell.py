@@ -6,7 +6,7 @@ usage: tools/respell.py [--dry]     at the top of the repository, once
 A definition, lemma, record field or constructor of specs/ or proofs/ that is in lower camel case or has a dash becomes snake case, in every
 .antt and .rt file. A lemma that would get its definition's name, or a word's of std, ends in `_lem`. Names of the generated modules (a
 goal, a step, a field of a step) are left, and so are words that a file takes from elsewhere under the same spelling.
-The list of what was renamed, old and new, is written to docs/RESPELLED.tsv.
+The list of what was renamed, old and new, is added to docs/RESPELLED.tsv.
 """
 import collections
 import os
@@ -17,6 +17,8 @@ WORD = re.compile(r"(?<![\w'◌·-])[^\W\d][\w']*(?:-[\w']+)*")
 USE = re.compile(r"^(?:pub )?(?:ghost )?use\s+([^\s{};]+?)(?:\.\{([^}]*)\})?(?: as ([^\s;]+))?;?$", re.M)
 DEF = re.compile(r"^(?:abbrev |unfoldable |ruleset )*(?:pub )?([^\s:(){};,=|\[\]]+)(?: [^\n:]*?)? :(?= |\n)", re.M)
 DATA = re.compile(r"^(data|record) (?:pub )?[^\n]*\bwhere\n((?:[ ]+[^\n]*\n|\n)*)", re.M)
+# a definition of a section or of a `where`
+INNER = re.compile(r"^ +(?:abbrev |unfoldable )*(?:pub )?([^\s:(){};,=|\[\]]+)(?: [^\n:]*?)? :(?= |\n)", re.M)
 FIELD = re.compile(r"^ +([^\s:(){};,=|]+(?: [^\s:(){};,=|]+)*) :(?= |\n)", re.M)
 GOAL = re.compile(r"^(?:abbrev )?(?:pub )?([^\s:(){};,=|]+) : (?:\{M : Type 1\} → )?(?:tie|goal|statement)\b", re.M)
 
@@ -72,7 +74,7 @@ def main():
         here = set()
         if p.endswith(".antt"):
             goals = set(GOAL.findall(t)) if deep(p) else set()
-            here = {n for n in DEF.findall(t)} - goals - {"use"}
+            here = {n for n in DEF.findall(t) + INNER.findall(t)} - goals - {"use", "let", "abbrev", "pub"}
             for m in DATA.finditer(t):
                 for f in FIELD.findall(m.group(2)):
                     for n in f.split(" "):
@@ -123,6 +125,12 @@ def main():
                 continue
             if dotted:
                 # a path of a use line or a field
+                alias = re.search(r"([\w'-]+)\.$", t[max(0, m.start() - 60):m.start()])
+                if alias and alias.group(1) in aliases(t, crates):
+                    out.append(t[last:m.start()])
+                    out.append(turn[w])
+                    last = m.end()
+                    continue
                 if w not in fields and not re.search(r"(?:^|[\s(])(?:use |ghost use )?[\w.'-]*\.$", t[max(0, m.start() - 120):m.start()].split("\n")[-1]):
                     continue
                 if w not in fields:
@@ -158,9 +166,10 @@ def main():
             open(path, "w", encoding="utf-8").write("\n".join(lines))
     print(len(turn), "names;", trouble, "meet another of that spelling in their file")
     if not dry:
-        with open(os.path.join(root, "docs", "RESPELLED.tsv"), "w", encoding="utf-8") as f:
-            for a in sorted(turn):
-                f.write(f"{a}\t{turn[a]}\n")
+        path = os.path.join(root, "docs", "RESPELLED.tsv")
+        was = {l for l in open(path, encoding="utf-8").read().splitlines()} if os.path.exists(path) else set()
+        with open(path, "w", encoding="utf-8") as f:
+            f.write("\n".join(sorted(was | {f"{a}\t{b}" for a, b in turn.items()})) + "\n")
 
 
 # Lemmas that already have the new spelling of a definition that stands in their file.
@@ -171,6 +180,18 @@ BEFORE = {
 }
 COMMENT = re.compile(r"(?m)(?:^|(?<=\s))(?:--|//)(?=\s|$).*$")
 CACHE = {}
+
+
+def aliases(t, crates):
+    """What a file calls modules of this repository that it takes whole, generated ones aside."""
+    k = ("as", id(t))
+    if k not in CACHE:
+        CACHE[k] = {
+            a
+            for path, _, a in USE.findall(t)
+            if a and path.startswith("Rattle.") and path.split(".")[1] in crates and path.split(".")[-1] not in ("Statement", "Tie", "Reads", "Lts", "TheVariants")
+        }
+    return CACHE[k]
 
 
 def local_own(t, crates):

@@ -31,25 +31,25 @@ sides_computed = refl
 
 module _ (l : List ℕ) (at : ℕ) where
   -- a column, then the rest of the line
-  pub then-column : (c : List ℕ) (cs : List (List ℕ)) (j : ℕ) → length c ≡ COLUMN → j ≡ at + COLUMN → sets l at (line_text (c ∷ cs)) ≡ sets (sets l at c) j (line_text cs)
+  pub then_column : (c : List ℕ) (cs : List (List ℕ)) (j : ℕ) → length c ≡ COLUMN → j ≡ at + COLUMN → sets l at (line_text (c ∷ cs)) ≡ sets (sets l at c) j (line_text cs)
   unfolding line_text joined
-  then-column c cs j e h = rw (append_assoc c (joined cs) (10 ∷ [])) (part_then COLUMN c (joined cs ++ (10 ∷ [])) l at j e h)
+  then_column c cs j e h = rw (append_assoc c (joined cs) (10 ∷ [])) (part_then COLUMN c (joined cs ++ (10 ∷ [])) l at j e h)
 
   -- the four sides of a rectangle, one after another
-  pub then-sides : (r : Rect)
+  pub then_sides : (r : Rect)
       → sets l at (joined (sides r))
       ≡ sets (sets (sets (sets l at (eighths_text r.left)) (at + COLUMN) (eighths_text r.right)) (at + 2 * COLUMN) (eighths_text r.top)) (at + 3 * COLUMN) (eighths_text r.bottom)
   unfolding joined
-  then-sides r =
+  then_sides r =
       part_then COLUMN (eighths_text r.left) _ l at (at + COLUMN) (eighths_length r.left) refl
       ∙ part_then COLUMN (eighths_text r.right) _ _ (at + COLUMN) (at + 2 * COLUMN) (eighths_length r.right) (omega arith)
       ∙ part_then COLUMN (eighths_text r.top) _ _ (at + 2 * COLUMN) (at + 3 * COLUMN) (eighths_length r.top) (omega arith)
       ∙ part_then COLUMN (eighths_text r.bottom) [] _ (at + 3 * COLUMN) (at + 4 * COLUMN) (eighths_length r.bottom) (omega arith)
 
   -- the four sides, and the line feed
-  pub last-sides : (r : Rect) (j : ℕ) → j ≡ at + 4 * COLUMN → sets l at (line_text (sides r)) ≡ set (sets l at (joined (sides r))) j 10
+  pub last_sides : (r : Rect) (j : ℕ) → j ≡ at + 4 * COLUMN → sets l at (line_text (sides r)) ≡ set (sets l at (joined (sides r))) j 10
   unfolding line_text joined
-  last-sides r j h = part_then (4 * COLUMN) (joined (sides r)) (10 ∷ []) l at j (four r) h
+  last_sides r j h = part_then (4 * COLUMN) (joined (sides r)) (10 ∷ []) l at j (four r) h
     where
       four : (r : Rect) → length (joined (sides r)) ≡ 4 * COLUMN
       four r =
@@ -64,28 +64,28 @@ pub row_stores : (l : List ℕ) (at : ℕ) (r : Row)
     (at + 3 * COLUMN) (eighths_text r.size.width)) (at + 4 * COLUMN) (eighths_text r.size.height)) (at + 5 * COLUMN) (joined (sides r.margin))) (at + 9 * COLUMN) 10
 unfolding row_text
 row_stores l at r =
-    then-column l at (code_text r.node) _ (at + COLUMN) (code_length r.node) refl
-    ∙ then-column _ (at + COLUMN) (eighths_text r.location.x) _ (at + 2 * COLUMN) (eighths_length r.location.x) (omega arith)
-    ∙ then-column _ (at + 2 * COLUMN) (eighths_text r.location.y) _ (at + 3 * COLUMN) (eighths_length r.location.y) (omega arith)
-    ∙ then-column _ (at + 3 * COLUMN) (eighths_text r.size.width) _ (at + 4 * COLUMN) (eighths_length r.size.width) (omega arith)
-    ∙ then-column _ (at + 4 * COLUMN) (eighths_text r.size.height) _ (at + 5 * COLUMN) (eighths_length r.size.height) (omega arith)
-    ∙ last-sides _ (at + 5 * COLUMN) r.margin (at + 9 * COLUMN) (omega arith)
+    then_column l at (code_text r.node) _ (at + COLUMN) (code_length r.node) refl
+    ∙ then_column _ (at + COLUMN) (eighths_text r.location.x) _ (at + 2 * COLUMN) (eighths_length r.location.x) (omega arith)
+    ∙ then_column _ (at + 2 * COLUMN) (eighths_text r.location.y) _ (at + 3 * COLUMN) (eighths_length r.location.y) (omega arith)
+    ∙ then_column _ (at + 3 * COLUMN) (eighths_text r.size.width) _ (at + 4 * COLUMN) (eighths_length r.size.width) (omega arith)
+    ∙ then_column _ (at + 4 * COLUMN) (eighths_text r.size.height) _ (at + 5 * COLUMN) (eighths_length r.size.height) (omega arith)
+    ∙ last_sides _ (at + 5 * COLUMN) r.margin (at + 9 * COLUMN) (omega arith)
 
 module _ (l : List ℕ) (at : ℕ) where
   -- the overflow line, as it is stored: `overflow`, the four sides, the line feed
-  pub overflow-stores : (r : Rect)
+  pub overflow_stores : (r : Rect)
       → sets l at (overflow_text r)
       ≡ set (sets (sets l at (111 ∷ 118 ∷ 101 ∷ 114 ∷ 102 ∷ 108 ∷ 111 ∷ 119 ∷ [])) (at + COLUMN) (joined (sides r))) (at + 5 * COLUMN) 10
   unfolding overflow_text word_text
-  overflow-stores r =
-      then-column l at (111 ∷ 118 ∷ 101 ∷ 114 ∷ 102 ∷ 108 ∷ 111 ∷ 119 ∷ []) (sides r) (at + COLUMN) refl refl
-      ∙ last-sides _ (at + COLUMN) r (at + 5 * COLUMN) (omega arith)
+  overflow_stores r =
+      then_column l at (111 ∷ 118 ∷ 101 ∷ 114 ∷ 102 ∷ 108 ∷ 111 ∷ 119 ∷ []) (sides r) (at + COLUMN) refl refl
+      ∙ last_sides _ (at + COLUMN) r (at + 5 * COLUMN) (omega arith)
 
   -- a refusal's line: ` refused`, the number, the line feed
-  pub refusal-stores : (n : ℕ)
+  pub refusal_stores : (n : ℕ)
       → sets l at (refusal_text n)
       ≡ set (sets (sets l at (32 ∷ 114 ∷ 101 ∷ 102 ∷ 117 ∷ 115 ∷ 101 ∷ 100 ∷ [])) (at + COLUMN) (code_text n)) (at + 2 * COLUMN) 10
   unfolding refusal_text word_text line_text joined
-  refusal-stores n =
-      then-column l at (32 ∷ 114 ∷ 101 ∷ 102 ∷ 117 ∷ 115 ∷ 101 ∷ 100 ∷ []) (code_text n ∷ []) (at + COLUMN) refl refl
-      ∙ then-column _ (at + COLUMN) (code_text n) [] (at + 2 * COLUMN) (code_length n) (omega arith)
+  refusal_stores n =
+      then_column l at (32 ∷ 114 ∷ 101 ∷ 102 ∷ 117 ∷ 115 ∷ 101 ∷ 100 ∷ []) (code_text n ∷ []) (at + COLUMN) refl refl
+      ∙ then_column _ (at + COLUMN) (code_text n) [] (at + 2 * COLUMN) (code_length n) (omega arith)

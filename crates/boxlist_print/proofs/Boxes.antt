@@ -63,11 +63,11 @@ module _ (working layouts : List ℕ) (w i n : ℕ) where
       turn : (i n : ℕ) → i < n → n - i ≡ suc (n - (i + 1))
       turn i n h = omega arith
 
-  pub rows-stored : i < n → (out : List ℕ) (p : ℕ)
+  pub rows_stored : i < n → (out : List ℕ) (p : ℕ)
       → sets out p (rows_text (rows_at (drop w working) (n - i) layouts))
       ≡ sets (sets out p (row_text (row_of layouts (get_or working w 0)))) (p + ROW) (rows_text (rows_at (drop (w + candidate_width) working) (n - (i + 1)) layouts))
   unfolding rows_text
-  rows-stored h out p =
+  rows_stored h out p =
       rw (rows_more h)
       (part_then ROW (row_text (row_of layouts (get_or working w 0))) _ out p (p + ROW) (row_bytes (row_of layouts (get_or working w 0))) refl)
 
@@ -79,20 +79,20 @@ rows_count working zero layouts = refl
 rows_count working (suc n) layouts = ap suc (rows_count (drop candidate_width working) n layouts)
 
 module _ (working : List ℕ) (n : ℕ) (layouts : List ℕ) (overflow : Rect) where
-  pub list-size : ROW + n * ROW + OVERFLOW ≡ length (list_text (rows_at working n layouts) overflow)
-  list-size = sym (list_bytes (rows_at working n layouts) overflow ∙ rw (rows_count working n layouts) (omega arith))
+  pub list_size : ROW + n * ROW + OVERFLOW ≡ length (list_text (rows_at working n layouts) overflow)
+  list_size = sym (list_bytes (rows_at working n layouts) overflow ∙ rw (rows_count working n layouts) (omega arith))
 
-  pub list-stored : (out : List ℕ)
+  pub list_stored : (out : List ℕ)
       → sets (sets (sets out 0 header_text) ROW (rows_text (rows_at working n layouts))) (ROW + n * ROW) (overflow_text overflow)
       ≡ sets out 0 (list_text (rows_at working n layouts) overflow)
   unfolding list_text
-  list-stored out =
+  list_stored out =
       sym
-      (part_then (ROW + n * ROW) (header_text ++ rows_text (rows_at working n layouts)) (overflow_text overflow) out 0 (ROW + n * ROW) long (zero-add-sym (ROW + n * ROW))
+      (part_then (ROW + n * ROW) (header_text ++ rows_text (rows_at working n layouts)) (overflow_text overflow) out 0 (ROW + n * ROW) long (zero_add_sym (ROW + n * ROW))
       ∙ ap (λ (l : List ℕ). sets l (ROW + n * ROW) (overflow_text overflow)) (part_then ROW header_text (rows_text (rows_at working n layouts)) out 0 ROW header_bytes refl))
     where
       long : length (header_text ++ rows_text (rows_at working n layouts)) ≡ ROW + n * ROW
       long = length-append header_text (rows_text (rows_at working n layouts)) ∙ rw (header_bytes, rows_bytes (rows_at working n layouts), rows_count working n layouts) refl
 
-      zero-add-sym : (k : ℕ) → k ≡ 0 + k
-      zero-add-sym k = omega arith
+      zero_add_sym : (k : ℕ) → k ≡ 0 + k
+      zero_add_sym k = omega arith

@@ -19,14 +19,14 @@ use Rattle.boxlist_print.specs.Verdicts.{verdict_at, verdicts_from, verdicts_tex
 
 module _ (s : State) (lent : Lent) where
   -- a row, as the code has it: its node is the first word of its record
-  pub verdict-row : (place node : ℕ) (r : Reached) → node ≡ get_or lent.working (candidate_width * place) 0 → r ≡ reached place s lent
+  pub verdict_row_lem : (place node : ℕ) (r : Reached) → node ≡ get_or lent.working (candidate_width * place) 0 → r ≡ reached place s lent
       → verdict_row place node r ≡ verdict_at s lent place
   unfolding verdict_at
-  verdict-row place node r n e = rw (n ∙ sym (node_is lent.working place), e) refl
+  verdict_row_lem place node r n e = rw (n ∙ sym (node_is lent.working place), e) refl
 
-  pub verdict-bytes : (place : ℕ) → length (verdict_at s lent place) ≡ VERDICT_ROW
+  pub verdict_bytes : (place : ℕ) → length (verdict_at s lent place) ≡ VERDICT_ROW
   unfolding verdict_at
-  verdict-bytes place = row_bytes place _ _
+  verdict_bytes place = row_bytes place _ _
 
   pub none_left : (i n : ℕ) → n ≤ i → verdicts_from s lent i (n - i) ≡ []
   unfolding verdicts_from
@@ -45,24 +45,24 @@ module _ (s : State) (lent : Lent) where
       next : (i : ℕ) → i + 1 ≡ suc i
       next i = omega arith
 
-  pub row-stored : (i n : ℕ) → i < n → (out : List ℕ) (p : ℕ)
+  pub row_stored : (i n : ℕ) → i < n → (out : List ℕ) (p : ℕ)
       → sets out p (verdicts_from s lent i (n - i)) ≡ sets (sets out p (verdict_at s lent i)) (p + VERDICT_ROW) (verdicts_from s lent (i + 1) (n - (i + 1)))
-  row-stored i n h out p = rw (one_more i n h) (part_then VERDICT_ROW (verdict_at s lent i) _ out p (p + VERDICT_ROW) (verdict-bytes i) refl)
+  row_stored i n h out p = rw (one_more i n h) (part_then VERDICT_ROW (verdict_at s lent i) _ out p (p + VERDICT_ROW) (verdict_bytes i) refl)
 
   pub rows_length : (i n : ℕ) → length (verdicts_from s lent i n) ≡ n * VERDICT_ROW
   unfolding verdicts_from
   rows_length i zero = refl
-  rows_length i (suc n) = length-append (verdict_at s lent i) (verdicts_from s lent (suc i) n) ∙ rw (verdict-bytes i, rows_length (suc i) n) (omega arith)
+  rows_length i (suc n) = length-append (verdict_at s lent i) (verdicts_from s lent (suc i) n) ∙ rw (verdict_bytes i, rows_length (suc i) n) (omega arith)
 
   -- ---- the whole list
 
-  pub verdicts-bytes : length (verdicts_text s lent) ≡ VERDICT_ROW + s.counts.filled.working * VERDICT_ROW
+  pub verdicts_bytes : length (verdicts_text s lent) ≡ VERDICT_ROW + s.counts.filled.working * VERDICT_ROW
   unfolding verdicts_text
-  verdicts-bytes =
+  verdicts_bytes =
       length-append verdict_names (verdicts_from s lent 0 s.counts.filled.working)
       ∙ rw (names_bytes, rows_length 0 s.counts.filled.working) refl
 
-  pub verdicts-stored : (out : List ℕ)
+  pub verdicts_stored : (out : List ℕ)
       → sets (sets out 0 verdict_names) VERDICT_ROW (verdicts_from s lent 0 s.counts.filled.working) ≡ sets out 0 (verdicts_text s lent)
   unfolding verdicts_text
-  verdicts-stored out = sym (part_then VERDICT_ROW verdict_names _ out 0 VERDICT_ROW names_bytes refl)
+  verdicts_stored out = sym (part_then VERDICT_ROW verdict_names _ out 0 VERDICT_ROW names_bytes refl)

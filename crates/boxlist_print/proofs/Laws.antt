@@ -28,7 +28,7 @@ use Rattle.boxlist_print.specs.Rows.{Prints}
 use Rattle.boxlist_print.specs.Printed.{LIST_BYTES, finished_text, list_by, list_of, list_from, lent_for, opening_of, printed}
 use Rattle.boxlist_print.specs.Laws.{PrintedFits, LongIsRefused, CutIsEnough}
 use Rattle.boxlist_print.proofs.Boxes.{rows_count}
-use Rattle.boxlist_print.proofs.Each.{verdicts-bytes}
+use Rattle.boxlist_print.proofs.Each.{verdicts_bytes}
 use Rattle.boxlist_print.proofs.Room.{room_kept}
 
 -- ---- how long
@@ -41,7 +41,7 @@ few_rows o replies candidates styles n = room_kept o replies candidates (lent_fo
 finished_fits : (listing : Listing) (s : State) (overflow : Rect) (lent : Lent) → s.counts.filled.working ≤ MAX_CANDIDATES
     → length (finished_text listing s overflow lent) ≤ LIST_BYTES
 finished_fits Boxes s overflow lent h = rw (list_bytes, rows_count) (omega arith)
-finished_fits Verdicts s overflow lent h = rw (verdicts-bytes s lent) (omega arith)
+finished_fits Verdicts s overflow lent h = rw (verdicts_bytes s lent) (omega arith)
 
 list_fits : (listing : Listing) (styles : List ℕ) (o : Outcome) → o.step.state.counts.filled.working ≤ MAX_CANDIDATES
     → length (list_of listing styles o) ≤ LIST_BYTES

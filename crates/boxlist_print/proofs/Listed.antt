@@ -34,14 +34,14 @@ use Rattle.boxlist_print.specs.declared.Listing.{Listing}
 use Rattle.boxlist_print.specs.declared.Listing.TheVariants.{Boxes}
 use Rattle.boxlist_print.specs.Printed.{finished_text, list_of, lent_for, opening_of, run_of, printed}
 use Rattle.boxlist_print.specs.Laws.{program_tests, RunIsListed, OnlyNineInRows}
-use Rattle.boxlist_print.proofs.Tests.{opening-tests, begins-unrefused}
+use Rattle.boxlist_print.proofs.Tests.{opening_tests_lem, begins_unrefused}
 use Rattle.boxlist_print.proofs.Exactly.{program_says}
 
 -- ---- a text that passes every test
 
 module _ (text : List ℕ) (none : NoneHolds (program_tests text)) where
-  a-screen : is_screen text ≡ true
-  a-screen = go (is_screen text) refl
+  a_screen : is_screen text ≡ true
+  a_screen = go (is_screen text) refl
     where
       go : (b : Bool) → is_screen text ≡ b → b ≡ true
       go true e = refl
@@ -51,7 +51,7 @@ module _ (text : List ℕ) (none : NoneHolds (program_tests text)) where
   passes =
       let first = opening_of (header_of text) in
       opened_passes first (replies_of text) (candidates_of text) (lent_for (styles_of text) (item_count text))
-      (begins-unrefused Boxes first (replies_of text) (candidates_of text) (styles_of text) (item_count text) (opening-tests text a-screen ∙ (accepted_none (program_says text)).1 none))
+      (begins_unrefused Boxes first (replies_of text) (candidates_of text) (styles_of text) (item_count text) (opening_tests_lem text a_screen ∙ (accepted_none (program_says text)).1 none))
 
 pub run_is_listed : RunIsListed
 unfolding printed list_of
@@ -62,7 +62,7 @@ run_is_listed listing text none = go (run_of text).step.answer refl (passes text
         (f : FinishOf) × (o.step.answer ≡ Finish f)
         × (printed listing text ≡ finished_text listing o.step.state f.overflow (lent (styles_of text) o.layouts o.working o.unclaimed))
     go (Ask q) e h = no h refl
-    go (Finish f) e h = (f, e, rw (a-screen text none, e) refl)
+    go (Finish f) e h = (f, e, rw (a_screen text none, e) refl)
     go (Refused r) e h = no h refl
 
 -- ---- a row

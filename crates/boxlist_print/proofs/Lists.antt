@@ -23,21 +23,21 @@ use Rattle.boxlist_print.specs.Printed.{list_words, finished_text, list_of}
 use Rattle.boxlist_print.proofs.Room.{room_kept}
 
 module _ (listing : Listing) (styles : List ℕ) (s : Step) (l w u : List ℕ) (o : Outcome) (left : outcome s l w u ≡ o) (before : List ℕ) where
-  pub list-asked : {q : Question} → s.answer ≡ Ask q → Prints 0 before before (list_of listing styles o)
+  pub list_asked : {q : Question} → s.answer ≡ Ask q → Prints 0 before before (list_of listing styles o)
   unfolding list_of
-  list-asked e = rw (← left_step left, e) (record { size = refl; bytes = refl })
+  list_asked e = rw (← left_step left, e) (record { size = refl; bytes = refl })
 
-  pub list-finished : {f : FinishOf} {r : ℕ} {after : List ℕ} → s.answer ≡ Finish f
+  pub list_finished : {f : FinishOf} {r : ℕ} {after : List ℕ} → s.answer ≡ Finish f
       → Prints r before after (finished_text listing s.state f.overflow (lent styles l w u))
       → Prints r before after (list_of listing styles o)
   unfolding list_of
-  list-finished e p = rw (← left_step left, ← left_layouts left, ← left_working left, ← left_unclaimed left, e) p
+  list_finished e p = rw (← left_step left, ← left_layouts left, ← left_working left, ← left_unclaimed left, e) p
 
-  pub list-refused : {x : Refusal} {r number : ℕ} {after : List ℕ} → s.answer ≡ Refused x → number ≡ number_of x
+  pub list_refused : {x : Refusal} {r number : ℕ} {after : List ℕ} → s.answer ≡ Refused x → number ≡ number_of x
       → Prints r before after (refusal_text number)
       → Prints r before after (list_of listing styles o)
   unfolding list_of
-  list-refused e n p = rw (← left_step left, e, ← n) p
+  list_refused e n p = rw (← left_step left, e, ← n) p
 
 -- its boxes are no more than its list holds
 pub few_boxes : (o : Opening) (replies candidates : List ℕ) (lent : Lent) (s : Step) (l w u : List ℕ)

@@ -47,19 +47,19 @@ use Rattle.boxlist_print.proofs.Room.{room_kept}
 -- ---- test 2: the slices
 
 module _ (styles : List ℕ) (n : ℕ) (e : length styles ≡ n * style_words) (h : n ≤ 128) where
-  items-are : items styles ≡ n
+  items_are : items styles ≡ n
   unfolding items
-  items-are = rw e (omega arith)
+  items_are = rw e (omega arith)
 
-  table-good : bad_table styles (replicate (n * layout_width) 0) ≡ false
+  table_good : bad_table styles (replicate (n * layout_width) 0) ≡ false
   unfolding bad_table
-  table-good =
-      rw (items-are, e, le-ltb 1024 n (omega arith), length-replicate {A = ℕ} (n * layout_width) 0, eq-eqb (n * style_words % style_words) 0 (omega arith), eq-eqb (n * layout_width) (layout_width * n) (omega arith))
+  table_good =
+      rw (items_are, e, le-ltb 1024 n (omega arith), length-replicate {A = ℕ} (n * layout_width) 0, eq-eqb (n * style_words % style_words) 0 (omega arith), eq-eqb (n * layout_width) (layout_width * n) (omega arith))
       refl
 
-  slices-good : bad_slices (lent_for styles n) ≡ false
+  slices_good : bad_slices (lent_for styles n) ≡ false
   unfolding bad_slices bad_list
-  slices-good = rw table-good refl
+  slices_good = rw table_good refl
 
 -- ---- test 5: room
 
@@ -92,8 +92,8 @@ module _ (candidates : List ℕ) (m : ℕ) (e : length candidates ≡ m * candid
       fit : (k l : ℕ) → k ≤ l → l ≡ m * candidate_width / candidate_width → k ≤ 256
       fit k l g q = omega arith
 
-  candidates-whole : ragged candidate_width candidates ≡ false
-  candidates-whole = rw (e, eq-eqb (m * candidate_width % candidate_width) 0 (omega arith)) refl
+  candidates_whole : ragged candidate_width candidates ≡ false
+  candidates_whole = rw (e, eq-eqb (m * candidate_width % candidate_width) 0 (omega arith)) refl
 
   has_room : (by : ContainingBlockClaims) (styles : List ℕ) (n : ℕ) → list_full by (lent_for styles n) none_filled candidates ≡ false
   unfolding list_full
@@ -103,15 +103,15 @@ module _ (candidates : List ℕ) (m : ℕ) (e : length candidates ≡ m * candid
 -- ---- so tests 1, 3 and 4 are left
 
 module _ (text : List ℕ) (e : is_screen text ≡ true) where
-  pub opening-tests : opening_verdict (opening_of (header_of text)) (candidates_of text) (lent_for (styles_of text) (item_count text)) ≡ verdict_of text
+  pub opening_tests_lem : opening_verdict (opening_of (header_of text)) (candidates_of text) (lent_for (styles_of text) (item_count text)) ≡ verdict_of text
   unfolding opening_verdict verdict_of ◌when◌else◌
-  opening-tests =
+  opening_tests_lem =
       let size = screen_size text e in
       let words = screen_words text in
       rw (
         e,
-        slices-good (styles_of text) (item_count text) words.0 size.1,
-        candidates-whole (candidates_of text) _ words.2 size.2,
+        slices_good (styles_of text) (item_count text) words.0 size.1,
+        candidates_whole (candidates_of text) _ words.2 size.2,
         has_room (candidates_of text) _ words.2 size.2 (claims_of (opening_of (header_of text))) (styles_of text) (item_count text),
       )
       refl
@@ -134,9 +134,9 @@ module _ (listing : Listing) (o : Opening) (replies candidates styles : List ℕ
   turned_down r e =
       rw (refused_opening_stays o replies candidates (lent_for styles n) r (rw e refl), e) (line r)
 
-  pub begins-unrefused : opening_verdict o candidates (lent_for styles n) ≡ accepted → is_refused (opened o candidates (lent_for styles n)).step.answer ≡ false
+  pub begins_unrefused : opening_verdict o candidates (lent_for styles n) ≡ accepted → is_refused (opened o candidates (lent_for styles n)).step.answer ≡ false
   unfolding opened begun
-  begins-unrefused e = rw e (unrefused _ _ _ _ _)
+  begins_unrefused e = rw e (unrefused _ _ _ _ _)
 
   finished : (a : Answer) → (played_out o replies candidates (lent_for styles n)).step.answer ≡ a → is_finish a ≡ true
       → Shows listing accepted (list_of listing styles (played_out o replies candidates (lent_for styles n)))
@@ -156,7 +156,7 @@ module _ (listing : Listing) (o : Opening) (replies candidates styles : List ℕ
   finished (Refused r) e h = no h refl
 
   shown : (v : Verdict) → opening_verdict o candidates (lent_for styles n) ≡ v → Shows listing v (list_of listing styles (played_out o replies candidates (lent_for styles n)))
-  shown accepted e = finished _ refl (opened_finishes o replies candidates (lent_for styles n) (begins-unrefused e))
+  shown accepted e = finished _ refl (opened_finishes o replies candidates (lent_for styles n) (begins_unrefused e))
   shown (refused r) e = turned_down r e
 
 pub list_or_refusal : ListOrRefusal
@@ -165,5 +165,5 @@ list_or_refusal listing text = go (is_screen text) refl
     go : (b : Bool) → is_screen text ≡ b → Shows listing (verdict_of text) (printed listing text)
     go true e =
         unfold printed in
-        rw e (shown listing (opening_of (header_of text)) (replies_of text) (candidates_of text) (styles_of text) (item_count text) (verdict_of text) (opening-tests text e))
+        rw e (shown listing (opening_of (header_of text)) (replies_of text) (candidates_of text) (styles_of text) (item_count text) (verdict_of text) (opening_tests_lem text e))
     go false e = unfold printed verdict_of ◌when◌else◌ in rw e (line BadScreenLine)

@@ -45,11 +45,11 @@ full vs l e =
     sets-eq vs l 0 (rw (zero-add, e) (omega arith)) ∙ ap (λ (r : List ℕ). vs ++ r) (drop_of_length-le l {i = 0 + length vs} (rw (zero-add, e) (omega arith))) ∙ append-nil vs
 
 module _ (listing : Listing) (text : List ℕ) {r : ℕ} {before after : List ℕ} where
-  pub printed-bad : is_screen text ≡ false → Prints r before after (refusal_text (number_of BadScreenLine)) → Prints r before after (printed listing text)
+  pub printed_bad : is_screen text ≡ false → Prints r before after (refusal_text (number_of BadScreenLine)) → Prints r before after (printed listing text)
   unfolding printed
-  printed-bad e p = rw e p
+  printed_bad e p = rw e p
 
-  pub printed-read : (n m : ℕ) → Told text n m → (header styles replies candidates : List ℕ)
+  pub printed_read : (n m : ℕ) → Told text n m → (header styles replies candidates : List ℕ)
       → header ≡ written (is_screen text) (replicate 10 0) (header_of text)
       → styles ≡ written (is_screen text) (replicate (MAX_ITEMS * style_words) 0) (styles_of text)
       → replies ≡ written (is_screen text) (replicate (MAX_ITEMS * reply_width) 0) (replies_of text)
@@ -57,28 +57,28 @@ module _ (listing : Listing) (text : List ℕ) {r : ℕ} {before after : List �
       → Prints r before after (list_from listing header (take (n * style_words) styles) n (take (n * reply_width) replies) (take (m * candidate_width) candidates))
       → Prints r before after (printed listing text)
   unfolding printed written
-  printed-read n m t header styles replies candidates h s q c p =
+  printed_read n m t header styles replies candidates h s q c p =
       rw t.good
       (rw (← t.items)
       (subst (λ (x : List ℕ). Prints r before after (list_from listing x (styles_of text) n (replies_of text) (candidates_of text))) header_read
-      (subst (λ (x : List ℕ). Prints r before after (list_from listing header x n (replies_of text) (candidates_of text))) styles-read
-      (subst (λ (x : List ℕ). Prints r before after (list_from listing header (take (n * style_words) styles) n x (candidates_of text))) replies-read
-      (subst (λ (x : List ℕ). Prints r before after (list_from listing header (take (n * style_words) styles) n (take (n * reply_width) replies) x)) candidates-read p)))))
+      (subst (λ (x : List ℕ). Prints r before after (list_from listing header x n (replies_of text) (candidates_of text))) styles_read
+      (subst (λ (x : List ℕ). Prints r before after (list_from listing header (take (n * style_words) styles) n x (candidates_of text))) replies_read
+      (subst (λ (x : List ℕ). Prints r before after (list_from listing header (take (n * style_words) styles) n (take (n * reply_width) replies) x)) candidates_read p)))))
     where
       header_read : header ≡ header_of text
       header_read = h ∙ rw t.good (full (header_of text) (replicate 10 0) (header_length text))
 
-      styles-read : take (n * style_words) styles ≡ styles_of text
-      styles-read =
+      styles_read : take (n * style_words) styles ≡ styles_of text
+      styles_read =
           ap (take (n * style_words)) (s ∙ rw t.good refl)
           ∙ front (styles_of text) (MAX_ITEMS * style_words) (n * style_words) ((screen_words text).0 ∙ rw t.items refl) (mul-le-mul_right style_words t.fewItems)
 
-      replies-read : take (n * reply_width) replies ≡ replies_of text
-      replies-read =
+      replies_read : take (n * reply_width) replies ≡ replies_of text
+      replies_read =
           ap (take (n * reply_width)) (q ∙ rw t.good refl)
           ∙ front (replies_of text) (MAX_ITEMS * reply_width) (n * reply_width) ((screen_words text).1 ∙ rw t.items refl) (mul-le-mul_right reply_width t.fewItems)
 
-      candidates-read : take (m * candidate_width) candidates ≡ candidates_of text
-      candidates-read =
+      candidates_read : take (m * candidate_width) candidates ≡ candidates_of text
+      candidates_read =
           ap (take (m * candidate_width)) (c ∙ rw t.good refl)
           ∙ front (candidates_of text) (MAX_CANDIDATES * candidate_width) (m * candidate_width) ((screen_words text).2 ∙ rw t.candidates refl) (mul-le-mul_right candidate_width t.fewCandidates)

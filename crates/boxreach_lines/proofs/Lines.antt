@@ -9,7 +9,7 @@ use Rattle.refusal.specs.Refusal.{number_of}
 use Rattle.boxlist_lines.specs.Column.{COLUMN, cell_of, left_of, cells, code_ink, code_text}
 use Rattle.boxlist_lines.specs.Lines.{joined, line_text, word_text}
 use Rattle.boxlist_lines.proofs.Stores.{part_then}
-use Rattle.boxlist_lines.proofs.Lines.{code_length, then-column}
+use Rattle.boxlist_lines.proofs.Lines.{code_length, then_column}
 use Rattle.reach.specs.declared.Reached.{Reached}
 use Rattle.reach.specs.declared.Reached.TheVariants.{Seen, Unseen, Refused}
 use Rattle.boxreach_lines.specs.Lines.{VERDICT_ROW, verdict_names, dash, seen_columns, refused_columns, verdict_columns, verdict_row}
@@ -18,21 +18,21 @@ use Rattle.boxreach_lines.specs.Rows.{PrintedRows}
 
 module _ (l : List ℕ) (at : ℕ) where
   -- `seen`, then two numbers
-  pub seen-stores : (x y : ℕ)
+  pub seen_stores : (x y : ℕ)
       → sets l at (joined (seen_columns x y))
       ≡ sets (sets (sets l at (32 ∷ 32 ∷ 32 ∷ 32 ∷ 115 ∷ 101 ∷ 101 ∷ 110 ∷ [])) (at + COLUMN) (code_text x)) (at + 2 * COLUMN) (code_text y)
   unfolding joined word_text
-  seen-stores x y =
+  seen_stores x y =
       part_then COLUMN (32 ∷ 32 ∷ 32 ∷ 32 ∷ 115 ∷ 101 ∷ 101 ∷ 110 ∷ []) (code_text x ++ (code_text y ++ [])) l at (at + COLUMN) refl refl
       ∙ part_then COLUMN (code_text x) (code_text y ++ []) _ (at + COLUMN) (at + 2 * COLUMN) (code_length x) (omega arith)
       ∙ part_then COLUMN (code_text y) [] _ (at + 2 * COLUMN) (at + 3 * COLUMN) (code_length y) (omega arith)
 
   -- `refused`, a number, a dash
-  pub refused-stores : (n : ℕ)
+  pub refused_stores : (n : ℕ)
       → sets l at (joined (refused_columns n))
       ≡ sets (sets (sets l at (32 ∷ 114 ∷ 101 ∷ 102 ∷ 117 ∷ 115 ∷ 101 ∷ 100 ∷ [])) (at + COLUMN) (code_text n)) (at + 2 * COLUMN) (32 ∷ 32 ∷ 32 ∷ 32 ∷ 32 ∷ 32 ∷ 32 ∷ 45 ∷ [])
   unfolding joined word_text
-  refused-stores n =
+  refused_stores n =
       part_then COLUMN (32 ∷ 114 ∷ 101 ∷ 102 ∷ 117 ∷ 115 ∷ 101 ∷ 100 ∷ []) (code_text n ++ (32 ∷ 32 ∷ 32 ∷ 32 ∷ 32 ∷ 32 ∷ 32 ∷ 45 ∷ [])) l at (at + COLUMN) refl refl
       ∙ part_then COLUMN (code_text n) (32 ∷ 32 ∷ 32 ∷ 32 ∷ 32 ∷ 32 ∷ 32 ∷ 45 ∷ []) _ (at + COLUMN) (at + 2 * COLUMN) (code_length n) (omega arith)
 
@@ -50,8 +50,8 @@ pub row_stores : (l : List ℕ) (at place node : ℕ) (r : Reached)
     ≡ set (sets (sets (sets l at (code_text place)) (at + COLUMN) (code_text node)) (at + 2 * COLUMN) (joined (verdict_columns r))) (at + 5 * COLUMN) 10
 unfolding verdict_row
 row_stores l at place node r =
-    then-column l at (code_text place) _ (at + COLUMN) (code_length place) refl
-    ∙ then-column _ (at + COLUMN) (code_text node) _ (at + 2 * COLUMN) (code_length node) (omega arith)
+    then_column l at (code_text place) _ (at + COLUMN) (code_length place) refl
+    ∙ then_column _ (at + COLUMN) (code_text node) _ (at + 2 * COLUMN) (code_length node) (omega arith)
     ∙ last _
   where
     last : (l : List ℕ) → sets l (at + 2 * COLUMN) (line_text (verdict_columns r)) ≡ set (sets l (at + 2 * COLUMN) (joined (verdict_columns r))) (at + 5 * COLUMN) 10

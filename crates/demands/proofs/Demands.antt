@@ -52,7 +52,7 @@ use Rattle.drawing_laws.proofs.Kept.{layers_of_a_run}
 use Rattle.drawing_laws.proofs.Finished.{finished_is_drawn as run-is-drawn}
 use Rattle.drawing_laws.proofs.Runs.{run_reads_no_layer}
 use Rattle.drawing_laws.proofs.Mirrored.{mirrored_drawing as images-drawn}
-use Rattle.reach_laws.proofs.Answered.{quarters_are_answered as all-answered}
+use Rattle.reach_laws.proofs.Answered.{quarters_are_answered as all_answered}
 use Rattle.reach.specs.declared.Reached.{Reached}
 use Rattle.reach.proofs.Exactly as reach
 use Rattle.drawing.specs.Drawing.{drawing_order, Drawn, drawn}
@@ -98,17 +98,17 @@ pixels_demands layout offset c =
 pub reach_demands : (place : ℕ) (s : State) (lent : Lent) {r : Reached} → r ≡ reached place s lent → ReachDemands place s lent r
 reach_demands place s lent c =
     subst (ReachDemands place s lent) (sym c)
-    (record { call = refl; refused = reach.refused-exactly place s lent; answered = reach.answered-exactly place s lent })
+    (record { call = refl; refused = reach.refused_exactly place s lent; answered = reach.answered_exactly place s lent })
 
 pub drawing_demands : (s : State) (lent : Lent) (before : List ℕ) {has : Drawn} → has ≡ drawn s lent before → DrawingDemands s lent before has
 drawing_demands s lent before c =
     subst (DrawingDemands s lent before) (sym c)
     (record {
       call = refl;
-      refused = drawing.refused-exactly s lent before;
-      accepted = drawing.accepted-exactly s lent before;
-      kept = drawing.refused-keeps s lent before;
-      in_order = drawing.drawn-in-order s lent before;
+      refused = drawing.refused_exactly s lent before;
+      accepted = drawing.accepted_exactly s lent before;
+      kept = drawing.refused_keeps s lent before;
+      in_order = drawing.drawn_in_order s lent before;
     })
 
 pub check_demands : (styles : List ℕ) {r : TableCheck} → r ≡ checked styles → CheckDemands styles r
@@ -124,8 +124,8 @@ screen_demands listing text c = record { call = c; refused = refused_exactly lis
 
 -- of five tests of these numbers, the first two being passed, 3 is the first that holds exactly where its condition does
 module _ {m n p q : ℕ} (m3 : eqb 3 m ≡ false) (n3 : eqb 3 n ≡ false) (p3 : eqb 3 p ≡ false) (q3 : eqb 3 q ≡ false) {A B C D E : Type 0} where
-  third-is-first : NoneHolds ((m, A) ∷ (n, B) ∷ []) → FirstIs ((m, A) ∷ (n, B) ∷ (3, C) ∷ (p, D) ∷ (q, E) ∷ []) 3 ↔ C
-  third-is-first none = (there, λ c. inr (none.0, inr (none.1.0, inl (c, refl))))
+  third_is_first : NoneHolds ((m, A) ∷ (n, B) ∷ []) → FirstIs ((m, A) ∷ (n, B) ∷ (3, C) ∷ (p, D) ∷ (q, E) ∷ []) 3 ↔ C
+  third_is_first none = (there, λ c. inr (none.0, inr (none.1.0, inl (c, refl))))
     where
       there : FirstIs ((m, A) ∷ (n, B) ∷ (3, C) ∷ (p, D) ∷ (q, E) ∷ []) 3 → C
       there (inl (_, e)) = no (eq-eqb 3 m e) m3
@@ -141,12 +141,12 @@ named styles p = let n = named_where_bad styles in Iff.trans p (n.1, n.0)
 pub openings_go_by_the_check : OpeningsGoByTheCheck
 openings_go_by_the_check o candidates lent has c none =
     subst (λ (x : Outcome). (x.step.answer ≡ Refused BadStyle) ↔ Names (checked lent.styles)) (sym c)
-    (named lent.styles (Iff.trans (opening_refused_exactly o candidates lent BadStyle) (third-is-first refl refl refl refl none)))
+    (named lent.styles (Iff.trans (opening_refused_exactly o candidates lent BadStyle) (third_is_first refl refl refl refl none)))
 
 pub replies_go_by_the_check : RepliesGoByTheCheck
 replies_go_by_the_check s reply surfaced lent has c none =
     subst (λ (x : Outcome). (x.step.answer ≡ Refused BadStyle) ↔ Names (checked lent.styles)) (sym c)
-    (named lent.styles (Iff.trans (reply_refused_exactly s reply surfaced lent BadStyle) (third-is-first refl refl refl refl none)))
+    (named lent.styles (Iff.trans (reply_refused_exactly s reply surfaced lent BadStyle) (third_is_first refl refl refl refl none)))
 
 -- ---- at most three questions
 
@@ -192,14 +192,14 @@ module _ (o : Opening) (candidates : List ℕ) (lent : Lent) where
       ∙ ap (λ (x : Outcome). turned lent.styles x t) (run_is earlier)
       ∙ sym (foldl-append (turned lent.styles) (opened o candidates lent) turns (t ∷ []))
 
-  run-opened : {turns : List Turn} {has : Outcome} → Run o candidates lent turns has → is_refused (opened o candidates lent).step.answer ≡ false
-  run-opened (Run.opening c n) = subst (λ (x : Outcome). is_refused x.step.answer ≡ false) c n
-  run-opened (Run.reply t earlier c n) = run-opened earlier
+  run_opened : {turns : List Turn} {has : Outcome} → Run o candidates lent turns has → is_refused (opened o candidates lent).step.answer ≡ false
+  run_opened (Run.opening c n) = subst (λ (x : Outcome). is_refused x.step.answer ≡ false) c n
+  run_opened (Run.reply t earlier c n) = run_opened earlier
 
-  run-lends : {turns : List Turn} {has : Outcome} → Run o candidates lent turns has → AllLend lent.styles (opened o candidates lent) turns
-  run-lends (Run.opening c n) = tt
-  run-lends (Run.reply {turns = turns} {before = before} {has = has} t earlier c n) =
-      all_lend_after lent.styles (opened o candidates lent) turns t (run-lends earlier)
+  run_lends : {turns : List Turn} {has : Outcome} → Run o candidates lent turns has → AllLend lent.styles (opened o candidates lent) turns
+  run_lends (Run.opening c n) = tt
+  run_lends (Run.reply {turns = turns} {before = before} {has = has} t earlier c n) =
+      all_lend_after lent.styles (opened o candidates lent) turns t (run_lends earlier)
       (subst (λ (x : Outcome). Lends t.loan x.step.answer)
       (takes lent.styles before t.heard t.loan has c ∙ ap (λ (x : Outcome). turned lent.styles x t) (run_is earlier)) n)
 
@@ -207,27 +207,27 @@ pub equals_straight_run : EqualsStraightRun
 equals_straight_run o candidates lent turns has calls =
     subst (λ (x : Outcome). Stands lent (length (heeded_in o candidates lent turns)) x (course_of o candidates lent turns))
     (sym (run_is o candidates lent calls))
-    (straight_run o candidates lent turns (run-opened o candidates lent calls) (run-lends o candidates lent calls))
+    (straight_run o candidates lent turns (run_opened o candidates lent calls) (run_lends o candidates lent calls))
 
 pub quarters_have_edges : QuartersHaveEdges
 quarters_have_edges o candidates lent turns has area table quarter calls heard =
     subst (λ (x : Outcome). (i : ℕ) → i < laid_so_far x → HasEdges (layout_of_box x i) o.area.offset)
     (sym (run_is o candidates lent calls))
-    (run_has_edges o candidates lent turns area table quarter (run-opened o candidates lent calls) (run-lends o candidates lent calls) heard)
+    (run_has_edges o candidates lent turns area table quarter (run_opened o candidates lent calls) (run_lends o candidates lent calls) heard)
 
 pub quarters_are_answered : QuartersAreAnswered
 quarters_are_answered o candidates lent turns has area table quarter calls heard =
     subst
     (λ (x : Outcome). x.step.state.progress ≡ Finished → (place : ℕ) → place < x.step.state.counts.filled.working → IsAnswer (told_of place lent.styles x))
     (sym (run_is o candidates lent calls))
-    (λ finished place filled. all-answered o candidates lent turns place area table quarter (run-opened o candidates lent calls) (run-lends o candidates lent calls) heard finished filled)
+    (λ finished place filled. all_answered o candidates lent turns place area table quarter (run_opened o candidates lent calls) (run_lends o candidates lent calls) heard finished filled)
 
 -- ---- layers
 
 pub layers_are_kept : LayersAreKept
 layers_are_kept o candidates lent turns has calls =
     subst (KeepsLayers (claims_of o) (all_came candidates (heeded_in o candidates lent turns))) (sym (run_is o candidates lent calls))
-    (layers_of_a_run o candidates lent turns (run-opened o candidates lent calls) (run-lends o candidates lent calls))
+    (layers_of_a_run o candidates lent turns (run_opened o candidates lent calls) (run_lends o candidates lent calls))
 
 pub finished_is_drawn : FinishedIsDrawn
 finished_is_drawn o candidates lent turns has before calls =
@@ -237,12 +237,12 @@ finished_is_drawn o candidates lent turns has before calls =
     x.step.state.progress ≡ Finished → length before ≡ x.step.state.counts.filled.working
     → drawn_of before lent.styles x ≡ record { verdict = accepted; order = drawing_order (layers_of boxes) })
     (sym (run_is o candidates lent calls))
-    (run-is-drawn o candidates lent turns before (run-opened o candidates lent calls) (run-lends o candidates lent calls))
+    (run-is-drawn o candidates lent turns before (run_opened o candidates lent calls) (run_lends o candidates lent calls))
 
 pub placement_reads_no_layer : PlacementReadsNoLayer
 placement_reads_no_layer o candidates candidates' lent lent' turns turns' has has' came slices same calls calls' =
     subst₂ SameOutcomes (sym (run_is o candidates lent calls)) (sym (run_is o candidates' lent' calls'))
-    (run_reads_no_layer o candidates candidates' lent lent' turns turns' came slices same (run-lends o candidates lent calls))
+    (run_reads_no_layer o candidates candidates' lent lent' turns turns' came slices same (run_lends o candidates lent calls))
 
 -- ---- the size law
 
@@ -314,21 +314,21 @@ module _ (o : Opening) (candidates : List ℕ) (lent lent' : Lent) where
       ∙ ap (λ (x : Outcome). run_next lent.styles x m) (run_of earlier)
       ∙ sym (foldl-append (run_next lent.styles) (opened o candidates lent) messages (m ∷ []))
 
-  image-of : {messages : List Message} {has has' : Outcome} → BothRuns o candidates lent lent' messages has has'
+  image_of : {messages : List Message} {has has' : Outcome} → BothRuns o candidates lent lent' messages has has'
       → has' ≡ foldl (image_next lent'.styles) image messages
   unfolding image
-  image-of (BothRuns.opening c c') = c'
-  image-of (BothRuns.reply {messages = messages} {before' = before'} {has' = has'} m earlier c c' f) =
+  image_of (BothRuns.opening c c') = c'
+  image_of (BothRuns.reply {messages = messages} {before' = before'} {has' = has'} m earlier c c' f) =
       takes lent'.styles before' m.image.heard m.image.loan has' c'
-      ∙ ap (λ (x : Outcome). image_next lent'.styles x m) (image-of earlier)
+      ∙ ap (λ (x : Outcome). image_next lent'.styles x m) (image_of earlier)
       ∙ sym (foldl-append (image_next lent'.styles) image messages (m ∷ []))
 
-  both-fair : {messages : List Message} {has has' : Outcome} → BothRuns o candidates lent lent' messages has has'
+  both_fair : {messages : List Message} {has has' : Outcome} → BothRuns o candidates lent lent' messages has has'
       → AllFair lent.styles (opened o candidates lent) messages
-  both-fair (BothRuns.opening c c') = tt
-  both-fair (BothRuns.reply {messages = messages} {before = before} {has = has} m earlier c c' f) =
+  both_fair (BothRuns.opening c c') = tt
+  both_fair (BothRuns.reply {messages = messages} {before = before} {has = has} m earlier c c' f) =
       let e = run_of earlier in
-      all_fair_after lent.styles (opened o candidates lent) messages m (both-fair earlier)
+      all_fair_after lent.styles (opened o candidates lent) messages m (both_fair earlier)
       (subst (λ (x : Outcome). Fair x.step.state (run_next lent.styles x m).step.answer m) e
       (subst (λ (x : Outcome). Fair before.step.state x.step.answer m) (takes lent.styles before m.turn.heard m.turn.loan has c) f))
 
@@ -341,9 +341,9 @@ at_the_end : (o : Opening) (candidates : List ℕ) (lent lent' : Lent) {messages
 unfolding image
 at_the_end o candidates lent lent' {messages} {has} {has'} area table quarter styles same both =
     subst (λ (x : Outcome). MirroredRuns o.area (unclaimed_at_opening o candidates lent) x has') (sym (run_of o candidates lent lent' both))
-    (subst (λ (x : Outcome). MirroredRuns o.area (unclaimed_at_opening o candidates lent) (foldl (run_next lent.styles) (opened o candidates lent) messages) x) (sym (image-of o candidates lent lent' both))
+    (subst (λ (x : Outcome). MirroredRuns o.area (unclaimed_at_opening o candidates lent) (foldl (run_next lent.styles) (opened o candidates lent) messages) x) (sym (image_of o candidates lent lent' both))
     (mirror o candidates lent lent' messages [] area table quarter styles same
-    (subst (AllFair lent.styles (opened o candidates lent)) (sym (append-nil messages)) (both-fair o candidates lent lent' both))))
+    (subst (AllFair lent.styles (opened o candidates lent)) (sym (append-nil messages)) (both_fair o candidates lent lent' both))))
 
 -- what is worked out of both at the end of a list, where it is the same of the definition's runs
 worked_out : {A : Type 0} (o : Opening) (candidates : List ℕ) (lent lent' : Lent) (f f' : Outcome → A) {messages : List Message} {has has' : Outcome}
@@ -352,31 +352,31 @@ worked_out : {A : Type 0} (o : Opening) (candidates : List ℕ) (lent lent' : Le
     ≡ f' (foldl (image_next lent'.styles) (opened (image_opening o) (image_candidates o.area candidates) lent') messages)
     → f has ≡ f' has'
 unfolding image
-worked_out o candidates lent lent' f f' both e = ap f (run_of o candidates lent lent' both) ∙ e ∙ sym (ap f' (image-of o candidates lent lent' both))
+worked_out o candidates lent lent' f f' both e = ap f (run_of o candidates lent lent' both) ∙ e ∙ sym (ap f' (image_of o candidates lent lent' both))
 
 -- what holds at the end of every list holds after each of its replies
 module _ {o : Opening} {candidates : List ℕ} {lent lent' : Lent} (P : Outcome → Outcome → Type 0)
     (end : (messages : List Message) (has has' : Outcome) → BothRuns o candidates lent lent' messages has has' → P has has') where
-  after-each : {messages : List Message} {has has' : Outcome} (both : BothRuns o candidates lent lent' messages has has') → AfterEach P both
-  after-each (BothRuns.opening c c') = end _ _ _ (BothRuns.opening c c')
-  after-each (BothRuns.reply m earlier c c' fair) = (after-each earlier, end _ _ _ (BothRuns.reply m earlier c c' fair))
+  after_each : {messages : List Message} {has has' : Outcome} (both : BothRuns o candidates lent lent' messages has has') → AfterEach P both
+  after_each (BothRuns.opening c c') = end _ _ _ (BothRuns.opening c c')
+  after_each (BothRuns.reply m earlier c c' fair) = (after_each earlier, end _ _ _ (BothRuns.reply m earlier c c' fair))
 
 pub mirror_image : MirrorImage
 mirror_image o candidates lent lent' messages has has' area table quarter styles same both =
-    after-each (MirroredRuns o.area (unclaimed_at_opening o candidates lent)) (λ _ _ _ b. at_the_end o candidates lent lent' area table quarter styles same b) both
+    after_each (MirroredRuns o.area (unclaimed_at_opening o candidates lent)) (λ _ _ _ b. at_the_end o candidates lent lent' area table quarter styles same b) both
 
 pub mirrored_reach : MirroredReach
 mirrored_reach o candidates lent lent' messages has has' area table quarter styles same both =
-    after-each (λ (has has' : Outcome). (place : ℕ) → told_of place lent.styles has ≡ told_of place lent'.styles has')
+    after_each (λ (has has' : Outcome). (place : ℕ) → told_of place lent.styles has ≡ told_of place lent'.styles has')
     (λ ms _ _ b place.
     worked_out o candidates lent lent' (told_of place lent.styles) (told_of place lent'.styles) b
-    (mirrored_verdict o candidates lent lent' ms place area table quarter styles same (both-fair o candidates lent lent' b)))
+    (mirrored_verdict o candidates lent lent' ms place area table quarter styles same (both_fair o candidates lent lent' b)))
     both
 
 pub mirrored_drawing : MirroredDrawing
 mirrored_drawing o candidates lent lent' messages has has' area table quarter styles same both =
-    after-each (λ (has has' : Outcome). (before : List ℕ) → drawn_of before lent.styles has ≡ drawn_of before lent'.styles has')
+    after_each (λ (has has' : Outcome). (before : List ℕ) → drawn_of before lent.styles has ≡ drawn_of before lent'.styles has')
     (λ ms _ _ b before.
     worked_out o candidates lent lent' (drawn_of before lent.styles) (drawn_of before lent'.styles) b
-    (images-drawn o candidates lent lent' ms before area table quarter styles same (both-fair o candidates lent lent' b)))
+    (images-drawn o candidates lent lent' ms before area table quarter styles same (both_fair o candidates lent lent' b)))
     both

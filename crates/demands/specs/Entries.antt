@@ -41,11 +41,11 @@ own_slices styles before = lent styles before.layouts before.working before.uncl
 
 -- what the host has of a run after a reply: if it lent other slices, the run's own keep their words
 pub data Takes (styles : List ℕ) (before : Outcome) (h : Heard) : Loan → Outcome → Type 0 where
-  lentOwn :
+  lent_own :
       {has : Outcome}
       → RepliesTo before.step.state h.reply h.surfaced (own_slices styles before) has
       → Takes styles before h own has
-  lentOther :
+  lent_other :
       {slices : Lent} {left : Outcome}
       → RepliesTo before.step.state h.reply h.surfaced slices left
       → Takes styles before h (other slices) (outcome left.step before.layouts before.working before.unclaimed)

@@ -61,7 +61,7 @@ use Rattle.reach.specs.Told.{ReachReturned, verdict_told}
 use Rattle.reach.specs.declared.Reached.{Reached}
 use Rattle.reach.specs.declared.Reached.TheVariants as reach
 use Rattle.reach.proofs.Exactly as exactly
-use Rattle.reach_laws.proofs.Answered.{quarters_are_answered as all-answered}
+use Rattle.reach_laws.proofs.Answered.{quarters_are_answered as all_answered}
 use Rattle.oof_c_words.specs.CheckWords.{CheckReturned, check_told, check_in_words}
 use Rattle.oof_c.specs.ReachWords.{reach_in_words}
 use Rattle.oof_c.specs.DrawingWords.{DrawingReturned, verdict_number, drawing_in_words}
@@ -101,11 +101,11 @@ zeroed {tests} (first_holds r f) = (λ e. absurd (refused_is_not r e), λ g. abs
 
 -- of a run's answer, and of pixel edges
 module _ (tests : List (ℕ × Type 0)) where
-  answer-by : (a : Answer) → ((r : Refusal) → (a ≡ Refused r) ↔ FirstIs tests (number_of r)) → (is_refused a ≡ false) ↔ NoneHolds tests → ResultBy tests (result_of a)
+  answer_by : (a : Answer) → ((r : Refusal) → (a ≡ Refused r) ↔ FirstIs tests (number_of r)) → (is_refused a ≡ false) ↔ NoneHolds tests → ResultBy tests (result_of a)
   unfolding result_of
-  answer-by (Ask q) f g = none_holds (g.0 refl)
-  answer-by (Finish x) f g = none_holds (g.0 refl)
-  answer-by (Refused r) f g = first_holds r ((f r).0 refl)
+  answer_by (Ask q) f g = none_holds (g.0 refl)
+  answer_by (Finish x) f g = none_holds (g.0 refl)
+  answer_by (Refused r) f g = first_holds r ((f r).0 refl)
 
   edges_by : (p : Pixels) (before : List ℤ) → ((r : Refusal) → (p ≡ pixels.Refused r) ↔ FirstIs tests (number_of r)) → ((q : PixelRect) × (p ≡ Edges q)) ↔ NoneHolds tests
       → ResultBy tests (edges_told p before).result
@@ -130,7 +130,7 @@ opening_demands o candidates styles before c =
     l = lent_in styles before
 
     by : ResultBy (opening_tests o candidates l) (result_of (opened o candidates l).step.answer)
-    by = answer-by (opening_tests o candidates l) (opened o candidates l).step.answer (opening_refused_exactly o candidates l) (opening_accepted_exactly o candidates l)
+    by = answer_by (opening_tests o candidates l) (opened o candidates l).step.answer (opening_refused_exactly o candidates l) (opening_accepted_exactly o candidates l)
 
 pub reply_demands :
     (reply : Reply) (surfaced styles : List ℕ) (before : Words) {has : Returned} → RepliesTo reply surfaced styles before has
@@ -152,18 +152,18 @@ reply_demands reply surfaced styles before c =
     l = lent_in styles before
 
     by : ResultBy (reply_tests s reply surfaced l) (result_of (replied s reply surfaced l).step.answer)
-    by = answer-by (reply_tests s reply surfaced l) (replied s reply surfaced l).step.answer (reply_refused_exactly s reply surfaced l) (reply_accepted_exactly s reply surfaced l)
+    by = answer_by (reply_tests s reply surfaced l) (replied s reply surfaced l).step.answer (reply_refused_exactly s reply surfaced l) (reply_accepted_exactly s reply surfaced l)
 
 module _ (before : List ℤ) where
-  edges-kept : (p : Pixels) → (edges_told p before).result ≢ 0 → (edges_told p before).edges ≡ before
+  edges_kept : (p : Pixels) → (edges_told p before).result ≢ 0 → (edges_told p before).edges ≡ before
   unfolding edges_told
-  edges-kept (Edges edges) h = absurd (h refl)
-  edges-kept (pixels.Refused r) h = refl
+  edges_kept (Edges edges) h = absurd (h refl)
+  edges_kept (pixels.Refused r) h = refl
 
-  edges-written : (p : Pixels) → (edges_told p before).result ≡ 0 → (q : PixelRect) × (p ≡ Edges q) × ((edges_told p before).edges ≡ q.left ∷ q.right ∷ q.top ∷ q.bottom ∷ [])
+  edges_written : (p : Pixels) → (edges_told p before).result ≡ 0 → (q : PixelRect) × (p ≡ Edges q) × ((edges_told p before).edges ≡ q.left ∷ q.right ∷ q.top ∷ q.bottom ∷ [])
   unfolding edges_told
-  edges-written (Edges q) h = (q, refl, refl)
-  edges-written (pixels.Refused r) h = absurd (refused_is_not r h)
+  edges_written (Edges q) h = (q, refl, refl)
+  edges_written (pixels.Refused r) h = absurd (refused_is_not r h)
 
 pub pixels_demands :
     (layout : List ℕ) (offset : Point) (before : List ℤ) {has : PixelsReturned} → has ≡ pixels_in_words layout offset before
@@ -174,35 +174,35 @@ pixels_demands layout offset before c =
     let p = pixel_edges l offset in
     let by = edges_by (pixel_tests l offset) p before (refused_first l offset) (edges_first l offset) in
     subst (PixelsDemands layout offset before) (sym c)
-    (record { call = refl; refused = numbered by; accepted = zeroed by; kept = edges-kept before p; written = edges-written before p })
+    (record { call = refl; refused = numbered by; accepted = zeroed by; kept = edges_kept before p; written = edges_written before p })
 
 -- ---- what is told of reaching a box
 
 module _ (before : List ℕ) where
-  verdict-by : (tests : List (ℕ × Type 0)) (v : Reached) → ((r : Refusal) → (v ≡ reach.Refused r) ↔ FirstIs tests (number_of r)) → IsAnswer v ↔ NoneHolds tests
+  verdict_by : (tests : List (ℕ × Type 0)) (v : Reached) → ((r : Refusal) → (v ≡ reach.Refused r) ↔ FirstIs tests (number_of r)) → IsAnswer v ↔ NoneHolds tests
       → ResultBy tests (verdict_told v before).result
   unfolding verdict_told
-  verdict-by tests (reach.Seen x y) f g = none_holds (g.0 tt)
-  verdict-by tests reach.Unseen f g = none_holds (g.0 tt)
-  verdict-by tests (reach.Refused r) f g = first_holds r ((f r).0 refl)
+  verdict_by tests (reach.Seen x y) f g = none_holds (g.0 tt)
+  verdict_by tests reach.Unseen f g = none_holds (g.0 tt)
+  verdict_by tests (reach.Refused r) f g = first_holds r ((f r).0 refl)
 
-  verdict-kept : (v : Reached) → (verdict_told v before).result ≢ 0 → (verdict_told v before).verdict ≡ before
+  verdict_kept : (v : Reached) → (verdict_told v before).result ≢ 0 → (verdict_told v before).verdict ≡ before
   unfolding verdict_told
-  verdict-kept (reach.Seen x y) h = absurd (h refl)
-  verdict-kept reach.Unseen h = absurd (h refl)
-  verdict-kept (reach.Refused r) h = refl
+  verdict_kept (reach.Seen x y) h = absurd (h refl)
+  verdict_kept reach.Unseen h = absurd (h refl)
+  verdict_kept (reach.Refused r) h = refl
 
-  verdict-written : (v : Reached) → (verdict_told v before).result ≡ 0 → VerdictIn v (verdict_told v before).verdict
+  verdict_written : (v : Reached) → (verdict_told v before).result ≡ 0 → VerdictIn v (verdict_told v before).verdict
   unfolding verdict_told
-  verdict-written (reach.Seen x y) h = refl
-  verdict-written reach.Unseen h = refl
-  verdict-written (reach.Refused r) h = absurd (refused_is_not r h)
+  verdict_written (reach.Seen x y) h = refl
+  verdict_written reach.Unseen h = refl
+  verdict_written (reach.Refused r) h = absurd (refused_is_not r h)
 
-  answer-is-zero : (v : Reached) → IsAnswer v → (verdict_told v before).result ≡ 0
+  answer_is_zero : (v : Reached) → IsAnswer v → (verdict_told v before).result ≡ 0
   unfolding verdict_told
-  answer-is-zero (reach.Seen x y) h = refl
-  answer-is-zero reach.Unseen h = refl
-  answer-is-zero (reach.Refused r) h = absurd h
+  answer_is_zero (reach.Seen x y) h = refl
+  answer_is_zero reach.Unseen h = refl
+  answer_is_zero (reach.Refused r) h = absurd h
 
 pub reach_demands :
     (place : ℕ) (lent : Lent) (state before : List ℕ) {has : ReachReturned} → has ≡ reach_in_words place lent state before
@@ -211,9 +211,9 @@ unfolding reach_in_words
 reach_demands place lent state before c =
     let s = state_of state in
     let v = reached place s lent in
-    let by = verdict-by before (reach_tests place s lent) v (exactly.refused-exactly place s lent) (exactly.answered-exactly place s lent) in
+    let by = verdict_by before (reach_tests place s lent) v (exactly.refused_exactly place s lent) (exactly.answered_exactly place s lent) in
     subst (ReachDemands place lent state before) (sym c)
-    (record { call = refl; refused = numbered by; accepted = zeroed by; kept = verdict-kept before v; written = verdict-written before v })
+    (record { call = refl; refused = numbered by; accepted = zeroed by; kept = verdict_kept before v; written = verdict_written before v })
 
 -- ---- the drawing order
 
@@ -237,14 +237,14 @@ unfolding drawing_in_words
 drawing_demands lent state before c =
     let s = state_of state in
     let v = (drawn s lent before).verdict in
-    let by = order_by (drawing_tests s lent before) v (drawing.refused-exactly s lent before) (drawing.accepted-exactly s lent before) in
+    let by = order_by (drawing_tests s lent before) v (drawing.refused_exactly s lent before) (drawing.accepted_exactly s lent before) in
     subst (DrawingDemands lent state before) (sym c)
     (record {
       call = refl;
       refused = numbered by;
       accepted = zeroed by;
-      kept = λ h. let r = other_refused v h in drawing.refused-keeps s lent before r.0 r.1;
-      written = λ e. drawing.drawn-in-order s lent before (zero_accepted v e);
+      kept = λ h. let r = other_refused v h in drawing.refused_keeps s lent before r.0 r.1;
+      written = λ e. drawing.drawn_in_order s lent before (zero_accepted v e);
     })
 
 -- ---- the first bad word
@@ -315,12 +315,12 @@ words_for : (i : ℕ) (count : ℕ → ℕ) (step : Step) (has : Returned) (show
     → has.result ≡ result_of step.answer
     → has.words.answer ≡ answer_left step.answer shown
     → state_of has.words.state ≡ step.state
-    → ForBoxIn i (count (run.askedFor i step)) step.state
+    → ForBoxIn i (count (run.asked_for i step)) step.state
     → ForBoxIn i (count (asked_for i has)) (state_of has.words.state)
 unfolding state_of counts_in
 words_for i count step has shown result answer state b =
     let begun = ap (λ (s : State). s.counts.begun) state in
-    let same : asked_for i has ≡ run.askedFor i step = (λ j. cond (eqb (result j) 0 && not (eqb (at (answer j) 0) 0) && eqb (begun j) (i + 1)) 1 0) ∙ asked_same i step.state.counts.begun step.answer shown in
+    let same : asked_for i has ≡ run.asked_for i step = (λ j. cond (eqb (result j) 0 && not (eqb (at (answer j) 0) 0) && eqb (begun j) (i + 1)) 1 0) ∙ asked_same i step.state.counts.begun step.answer shown in
     subst (λ (x : ℕ × State). ForBoxIn i (count x.0) x.1) (λ j. (sym same j, sym state j)) b
 
 closed_for : (i : ℕ) (lent : Lent) → ForBoxIn i 0 (state_of (state_words (closed lent)))
@@ -531,10 +531,10 @@ module _ (o : Opening) (candidates styles : List ℕ) (before : Words) where
   ran (Run.opening f c z) = first f c z
   ran (Run.reply {turns = turns} t f earlier c h) = more turns t f (ran earlier) c h
 
-  same-run : (turns : List Turn) {has : Returned} → Ran turns has
+  same_run : (turns : List Turn) {has : Returned} → Ran turns has
       → saying (said turns) (after turns)
       ≡ outcome (record { state = state_of has.words.state; answer = said turns }) has.words.layouts has.words.working has.words.unclaimed
-  same-run turns r =
+  same_run turns r =
       λ j. record {
         step = record { state = sym r.now.state j; answer = said turns };
         layouts = sym r.now.layouts j;
@@ -548,7 +548,7 @@ module _ (o : Opening) (candidates styles : List ℕ) (before : Words) where
       let s = stands turns r in
       record {
         run =
-            subst (StandsAt turns) (same-run turns r)
+            subst (StandsAt turns) (same_run turns r)
             (record {
               layouts = s.layouts;
               working = s.working;
@@ -583,6 +583,6 @@ unfolding reach_in_words
 quarters_are_answered o candidates styles before turns has area table quarter calls heard finished place filled verdict =
     let r = ran o candidates styles before calls in
     let e =
-    all-answered o candidates (lent_in styles before) turns place area table quarter r.accepted r.lent heard (sym (ap (λ (s : State). s.progress) r.now.state) ∙ finished)
+    all_answered o candidates (lent_in styles before) turns place area table quarter r.accepted r.lent heard (sym (ap (λ (s : State). s.progress) r.now.state) ∙ finished)
     (subst (λ (s : State). place < s.counts.filled.working) r.now.state filled) in
-    rw (r.now.state, r.now.layouts, r.now.working, r.now.unclaimed) (answer-is-zero verdict _ e)
+    rw (r.now.state, r.now.layouts, r.now.working, r.now.unclaimed) (answer_is_zero verdict _ e)

@@ -49,8 +49,8 @@ pub data AnyCalls (i : ℕ) : ℕ → Returned → Type 0 where
 
 -- what the host has of a run after a reply: if it lent other slices, the run's own keep their words
 pub data Takes (styles : List ℕ) (last : Words) (h : Heard) : Loan → Returned → Type 0 where
-  lentOwn : {has : Returned} → RepliesTo h.reply h.surfaced styles last has → Takes styles last h own has
-  lentOther :
+  lent_own : {has : Returned} → RepliesTo h.reply h.surfaced styles last has → Takes styles last h own has
+  lent_other :
       {slices : Lent} {left : Returned}
       → RepliesTo h.reply h.surfaced slices.styles (words slices.layouts slices.working slices.unclaimed last.state last.answer) left
       → Takes styles last h (other slices)

@@ -36,40 +36,40 @@ use Rattle.run.specs.Call.{Lent, Outcome, lent}
 use Rattle.run.specs.Refusals.{Verdict, accepted, refused, ◌when◌else◌, lent_by, bad_candidate, bad_candidates}
 use Rattle.run.specs.Run.{box_at_hand, asking, finishing, proceeding, claims_of, extents_of, none_filled, opening_verdict, closed, begun, opened_by, opened, taken_by, reply_verdict, measured_on, laid_out, refusing, replied_by, replied}
 use Rattle.mirror_run.specs.Runs.{Each}
-use Rattle.mirror_run.proofs.Lists.{each-length, each-kept}
+use Rattle.mirror_run.proofs.Lists.{each_length, each_kept}
 use Rattle.mirror_run.proofs.Unread.{taken_all}
-use Rattle.mirror_run.proofs.Verdicts.{same-slices, same-others, same-wrong, same_full, same_order}
+use Rattle.mirror_run.proofs.Verdicts.{same_slices, same_others, same_wrong, same_full, same_order}
 use Rattle.drawing_laws.specs.Laws.{SameButLayers, LayersAllowed, SameCandidates, SameSlices, SameOutcomes, OpeningReadsNoLayer, ReplyReadsNoLayer}
 use Rattle.drawing_laws.proofs.Box.{cut_reads_no_layer}
-use Rattle.drawing_laws.proofs.Words.{Alike, same_position, each_moved, record-alike, slice-alike, same_rules, appended_same}
+use Rattle.drawing_laws.proofs.Words.{Alike, same_position, each_moved, record_alike, slice_alike, same_rules, appended_same}
 
 -- ---- the next question
 
 module _ (styles : List ℕ) (run : Opened) (overflow : Rect) where
   -- of the box at hand
-  abbrev askingOf : Counts → Replies → OofCandidate → Step
-  askingOf counts replies box =
+  abbrev asking_of : Counts → Replies → OofCandidate → Step
+  asking_of counts replies box =
       let next = asked_after run.container (style_at styles box.node) box replies in
       record {
         state = record { progress = Asking next.stage; replies = replies; counts = counts; overflow = overflow; opened = run };
         answer = Ask next.question;
       }
 
-  asking-same : (w w' : List ℕ) (counts : Counts) (replies : Replies) → SameButLayers w w' → asking styles w run counts overflow replies ≡ asking styles w' run counts overflow replies
+  asking_same : (w w' : List ℕ) (counts : Counts) (replies : Replies) → SameButLayers w w' → asking styles w run counts overflow replies ≡ asking styles w' run counts overflow replies
   unfolding asking box_at_hand
-  asking-same w w' counts replies same =
+  asking_same w w' counts replies same =
       let box = candidate_of (record_at candidate_width w (counts.begun - 1)) in
       let box' = candidate_of (record_at candidate_width w' (counts.begun - 1)) in
       ap
       (λ (next : Asked).
       record { state = record { progress = Asking next.stage; replies = replies; counts = counts; overflow = overflow; opened = run }; answer = Ask next.question })
       (sym (cut_reads_no_layer run.container (style_at styles box.node) box box'.layer replies).0)
-      ∙ ap (askingOf counts replies) (record-alike w w' same (counts.begun - 1))
+      ∙ ap (asking_of counts replies) (record_alike w w' same (counts.begun - 1))
 
-  proceeding-same : (w w' : List ℕ) (counts : Counts) → SameButLayers w w' → proceeding styles w run counts overflow ≡ proceeding styles w' run counts overflow
+  proceeding_same : (w w' : List ℕ) (counts : Counts) → SameButLayers w w' → proceeding styles w run counts overflow ≡ proceeding styles w' run counts overflow
   unfolding proceeding
-  proceeding-same w w' counts same =
-      ap (λ (step : Step). cond (ltb counts.begun counts.filled.working) step (finishing run counts overflow)) (asking-same w w' _ no_replies same)
+  proceeding_same w w' counts same =
+      ap (λ (step : Step). cond (ltb counts.begun counts.filled.working) step (finishing run counts overflow)) (asking_same w w' _ no_replies same)
 
 -- ---- a sweep
 
@@ -80,16 +80,16 @@ record SameLists (l l' : Lists) : Type 0 where
   unclaimed : SameButLayers l.unclaimed l'.unclaimed
 
 module _ (by : ContainingBlockClaims) where
-  kept-alike : (list : Bool) {cs cs' : List OofCandidate} → Each Alike cs cs' → Each Alike (keep by list cs) (keep by list cs')
-  kept-alike list e = each-kept by list same_position e
+  kept_alike : (list : Bool) {cs cs' : List OofCandidate} → Each Alike cs cs' → Each Alike (keep by list cs) (keep by list cs')
+  kept_alike list e = each_kept by list same_position e
 
   swept_same : {cs cs' : List OofCandidate} → Each Alike cs cs' → (w w' u u' : List ℕ) (f : Filled) → SameButLayers w w' → SameButLayers u u'
       → SameLists (swept_into by cs w u f) (swept_into by cs' w' u' f)
   swept_same e w w' u u' f sw su =
       record {
-        filled = rw (each-length (kept-alike true e), each-length (kept-alike false e)) refl;
-        working = appended_same (kept-alike true e) w w' f.working sw;
-        unclaimed = appended_same (kept-alike false e) u u' f.unclaimed su;
+        filled = rw (each_length (kept_alike true e), each_length (kept_alike false e)) refl;
+        working = appended_same (kept_alike true e) w w' f.working sw;
+        unclaimed = appended_same (kept_alike false e) u u' f.unclaimed su;
       }
 
 -- ---- two calls with the same styles and layouts
@@ -107,13 +107,13 @@ module _ (styles layouts w w' u u' : List ℕ) (sw : SameButLayers w w') (su : S
   -- with slices of candidates
   module _ (cs cs' : List ℕ) (came : SameCandidates cs cs') where
     abbrev alike : Each Alike (candidates_in cs) (candidates_in cs')
-    alike = slice-alike cs cs' came.same
+    alike = slice_alike cs cs' came.same
 
-    kept-long : (by : ContainingBlockClaims) (list : Bool) → length (keep by list (candidates_in cs)) ≡ length (keep by list (candidates_in cs'))
-    kept-long by list = each-length (kept-alike by list alike)
+    kept_long : (by : ContainingBlockClaims) (list : Bool) → length (keep by list (candidates_in cs)) ≡ length (keep by list (candidates_in cs'))
+    kept_long by list = each_length (kept_alike by list alike)
 
-    same-candidates : bad_candidates styles cs ≡ bad_candidates styles cs'
-    same-candidates =
+    same_candidates : bad_candidates styles cs ≡ bad_candidates styles cs'
+    same_candidates =
         same_rules styles cs cs' (length cs / candidate_width) came.same came.allowed
         (subst (λ (n : ℕ). LayersAllowed (n / candidate_width) cs') (sym came.same.long) came.allowed')
         ∙ ap (λ (n : ℕ). bad_candidate styles cs' (n / candidate_width)) came.same.long
@@ -121,29 +121,29 @@ module _ (styles layouts w w' u u' : List ℕ) (sw : SameButLayers w w') (su : S
     -- ---- an opening
 
     module _ (o : Opening) where
-      same-opening : opening_verdict o cs l ≡ opening_verdict o cs' l'
+      same_opening : opening_verdict o cs l ≡ opening_verdict o cs' l'
       unfolding opening_verdict
-      same-opening =
-          same_order BadArea BadExtent BadStyle BadCandidate ListFull refl (rw (same-slices l l' long, came.same.long) refl) refl same-candidates
-          (same_full l l' long (claims_of o) none_filled cs cs' (kept-long (claims_of o)))
+      same_opening =
+          same_order BadArea BadExtent BadStyle BadCandidate ListFull refl (rw (same_slices l l' long, came.same.long) refl) refl same_candidates
+          (same_full l l' long (claims_of o) none_filled cs cs' (kept_long (claims_of o)))
 
-      begun-same : SameOutcomes (begun o cs l) (begun o cs' l')
+      begun_same : SameOutcomes (begun o cs l) (begun o cs' l')
       unfolding begun
-      begun-same =
+      begun_same =
           let lists = swept_same (claims_of o) alike w w' u u' none_filled sw su in
           record {
-            step = proceeding-same styles _ _ _ _ _ lists.working ∙ rw (long, lists.filled) refl;
+            step = proceeding_same styles _ _ _ _ _ lists.working ∙ rw (long, lists.filled) refl;
             layouts = refl;
             working = lists.working;
             unclaimed = lists.unclaimed;
           }
 
-      pub opened-same : SameOutcomes (opened o cs l) (opened o cs' l')
+      pub opened_same : SameOutcomes (opened o cs l) (opened o cs' l')
       unfolding opened closed
-      opened-same = subst (λ (v : Verdict). SameOutcomes (opened o cs l) (opened_by v o cs' l')) same-opening (go (opening_verdict o cs l))
+      opened_same = subst (λ (v : Verdict). SameOutcomes (opened o cs l) (opened_by v o cs' l')) same_opening (go (opening_verdict o cs l))
         where
           go : (v : Verdict) → SameOutcomes (opened_by v o cs l) (opened_by v o cs' l')
-          go accepted = begun-same
+          go accepted = begun_same
           go (refused r) = record { step = rw long refl; layouts = refl; working = sw; unclaimed = su }
 
     -- ---- the box at hand, laid out
@@ -171,11 +171,11 @@ module _ (styles layouts w w' u u' : List ℕ) (sw : SameButLayers w w') (su : S
             unclaimed = after.unclaimed;
           }
 
-      laying-same : (node : ℕ) (placed : OofBoxLayout) → SameOutcomes (laying node placed cs l) (laying node placed cs' l')
-      laying-same node placed =
+      laying_same : (node : ℕ) (placed : OofBoxLayout) → SameOutcomes (laying node placed cs l) (laying node placed cs' l')
+      laying_same node placed =
           let lists = swept_same s.opened.claims (each_moved (By placed.layout.location) alike) w w' u u' s.counts.filled sw su in
           record {
-            step = proceeding-same styles _ _ _ _ _ lists.working ∙ rw lists.filled refl;
+            step = proceeding_same styles _ _ _ _ _ lists.working ∙ rw lists.filled refl;
             layouts = refl;
             working = lists.working;
             unclaimed = lists.unclaimed;
@@ -184,42 +184,42 @@ module _ (styles layouts w w' u u' : List ℕ) (sw : SameButLayers w w') (su : S
       laid_same : SameOutcomes (laid_out s overflow cs l) (laid_out s overflow cs' l')
       unfolding laid_out box_at_hand
       laid_same =
-          subst (λ (b : OofCandidate). SameOutcomes (laying box.node (placed_of box) cs l) (laying b.node (placed_of b) cs' l')) (record-alike w w' sw (s.counts.begun - 1))
+          subst (λ (b : OofCandidate). SameOutcomes (laying box.node (placed_of box) cs l) (laying b.node (placed_of b) cs' l')) (record_alike w w' sw (s.counts.begun - 1))
           (subst (λ (p : OofBoxLayout). SameOutcomes (laying box.node (placed_of box) cs l) (laying box.node p cs' l'))
           (sym ((cut_reads_no_layer s.opened.container (style_at styles box.node) box box'.layer s.replies).1 overflow))
-          (laying-same box.node (placed_of box)))
+          (laying_same box.node (placed_of box)))
 
   -- ---- a reply
 
   module _ (s : State) (reply : Reply) (surfaced surfaced' : List ℕ) (came : SameCandidates (lent_by reply surfaced) (lent_by reply surfaced'))
       (allowed : LayersAllowed s.counts.filled.working w) (allowed' : LayersAllowed s.counts.filled.working w') where
-    same-reply : reply_verdict s reply surfaced l ≡ reply_verdict s reply surfaced' l'
+    same_reply : reply_verdict s reply surfaced l ≡ reply_verdict s reply surfaced' l'
     unfolding reply_verdict
-    same-reply =
+    same_reply =
         same_order BadExtent WrongReply BadStyle BadCandidate ListFull
-        (rw (same-slices l l' long, same-others l l' long s.opened.extents, came.same.long) refl)
-        (rw (same-wrong l l' long s.counts) refl)
+        (rw (same_slices l l' long, same_others l l' long s.opened.extents, came.same.long) refl)
+        (rw (same_wrong l l' long s.counts) refl)
         refl
-        (rw (same_rules styles w w' s.counts.filled.working sw allowed allowed', same-candidates (lent_by reply surfaced) (lent_by reply surfaced') came) refl)
-        (same_full l l' long s.opened.claims s.counts.filled (lent_by reply surfaced) (lent_by reply surfaced') (kept-long (lent_by reply surfaced) (lent_by reply surfaced') came s.opened.claims))
+        (rw (same_rules styles w w' s.counts.filled.working sw allowed allowed', same_candidates (lent_by reply surfaced) (lent_by reply surfaced') came) refl)
+        (same_full l l' long s.opened.claims s.counts.filled (lent_by reply surfaced) (lent_by reply surfaced') (kept_long (lent_by reply surfaced) (lent_by reply surfaced') came s.opened.claims))
 
-    measured-same : (replies : Replies) → SameOutcomes (measured_on s replies l) (measured_on s replies l')
+    measured_same : (replies : Replies) → SameOutcomes (measured_on s replies l) (measured_on s replies l')
     unfolding measured_on
-    measured-same replies = record { step = asking-same styles s.opened s.overflow w w' _ replies sw; layouts = refl; working = sw; unclaimed = su }
+    measured_same replies = record { step = asking_same styles s.opened s.overflow w w' _ replies sw; layouts = refl; working = sw; unclaimed = su }
 
-    pub replied-same : SameOutcomes (replied s reply surfaced l) (replied s reply surfaced' l')
+    pub replied_same : SameOutcomes (replied s reply surfaced l) (replied s reply surfaced' l')
     unfolding replied
-    replied-same =
-        subst (λ (v : Verdict). SameOutcomes (replied s reply surfaced l) (replied_by v (taken_by s reply) s surfaced' l')) same-reply
+    replied_same =
+        subst (λ (v : Verdict). SameOutcomes (replied s reply surfaced l) (replied_by v (taken_by s reply) s surfaced' l')) same_reply
         (go (reply_verdict s reply surfaced l) (taken_by s reply) refl)
       where
-        refusing-same : (r : Refusal) → SameOutcomes (refusing s l r) (refusing s l' r)
-        refusing-same r = record { step = refl; layouts = refl; working = sw; unclaimed = su }
+        refusing_same : (r : Refusal) → SameOutcomes (refusing s l r) (refusing s l' r)
+        refusing_same r = record { step = refl; layouts = refl; working = sw; unclaimed = su }
 
         go : (v : Verdict) (t : Taken) → taken_by s reply ≡ t → SameOutcomes (replied_by v t s surfaced l) (replied_by v t s surfaced' l')
-        go (refused r) t e = refusing-same r
-        go accepted Wrong e = refusing-same WrongReply
-        go accepted (Kept replies) e = measured-same replies
+        go (refused r) t e = refusing_same r
+        go accepted Wrong e = refusing_same WrongReply
+        go accepted (Kept replies) e = measured_same replies
         go accepted (Laid overflow) e =
             laid_same surfaced surfaced' (subst₂ SameCandidates (taken_all s reply surfaced e) (taken_all s reply surfaced' e) came) s overflow
 
@@ -232,10 +232,10 @@ with_same same = rw (same.styles, same.layouts) refl
 pub opening_reads_no_layer : OpeningReadsNoLayer
 opening_reads_no_layer o candidates candidates' lent lent' came same =
     subst (λ (x : Lent). SameOutcomes (opened o candidates lent) (opened o candidates' x)) (sym (with_same same))
-    (opened-same lent.styles lent.layouts lent.working lent'.working lent.unclaimed lent'.unclaimed same.working same.unclaimed candidates candidates' came o)
+    (opened_same lent.styles lent.layouts lent.working lent'.working lent.unclaimed lent'.unclaimed same.working same.unclaimed candidates candidates' came o)
 
 pub reply_reads_no_layer : ReplyReadsNoLayer
 reply_reads_no_layer s reply surfaced surfaced' lent lent' came same allowed allowed' =
     subst (λ (x : Lent). SameOutcomes (replied s reply surfaced lent) (replied s reply surfaced' x)) (sym (with_same same))
-    (replied-same lent.styles lent.layouts lent.working lent'.working lent.unclaimed lent'.unclaimed same.working same.unclaimed s reply surfaced surfaced' came
+    (replied_same lent.styles lent.layouts lent.working lent'.working lent.unclaimed lent'.unclaimed same.working same.unclaimed s reply surfaced surfaced' came
     allowed allowed')

@@ -16,8 +16,8 @@ use Rattle.tree_record.specs.Candidate.{candidate_width, candidate_kinds}
 use Rattle.sweep.specs.Sweep.{candidates_in, moved, claimed, appended}
 use Rattle.sweep.specs.declared.Filled.{Filled}
 use Rattle.sweep.specs.declared.Shift.{Shift}
-use Rattle.sweep.proofs.Listed.{AllBelow, listed-good}
-use Rattle.sweep.proofs.Steps.{kept-moved, appended_twice, appended_length}
+use Rattle.sweep.proofs.Listed.{AllBelow, listed_good}
+use Rattle.sweep.proofs.Steps.{kept_moved, appended_twice, appended_length}
 use Rattle.oof_box.specs.declared.question.Reply.{Reply}
 use Rattle.run.specs.declared.Opening.{Opening}
 use Rattle.run.specs.declared.State.{State}
@@ -30,7 +30,7 @@ use Rattle.run.proofs.Ways.{OpeningWay, begins, opening_way, ReplyWay, measures,
 use Rattle.placer.proofs.Nodes.{both_below, moved_below, keep_below, good_below}
 use Rattle.mirror_run.proofs.Unread.{taken_all}
 use Rattle.mirror_run.proofs.Verdicts.{opening_passed, reply_passed}
-use Rattle.reach_laws.proofs.Answered.{tests-passed}
+use Rattle.reach_laws.proofs.Answered.{tests_passed}
 use Rattle.drawing.specs.Drawing.{draw_verdict, drawn}
 use Rattle.drawing_laws.specs.Laws.{FinishedIsDrawn}
 use Rattle.drawing_laws.proofs.Kept.{proceeding_keeps, layers_of_a_run}
@@ -60,9 +60,9 @@ module _ (styles w : List ℕ) where
     room : candidate_width * length cs ≤ length w
     below : AllBelow (items styles) cs
 
-  records-good : (x : Outcome) → Good x → bad_candidate styles x.working x.step.state.counts.filled.working ≡ false
+  records_good : (x : Outcome) → Good x → bad_candidate styles x.working x.step.state.counts.filled.working ≡ false
   unfolding bad_candidate
-  records-good x g = rw (g.working, g.filled) (ap not (listed-good w g.cs g.room (items styles) g.below))
+  records_good x g = rw (g.working, g.filled) (ap not (listed_good w g.cs g.room (items styles) g.below))
 
   module _ (x : Outcome) (g : Good x) where
     abbrev lent : Lent
@@ -72,18 +72,18 @@ module _ (styles w : List ℕ) where
     s = x.step.state
 
     -- as they are, whatever else is left
-    kept-good : (y : Outcome) → y.working ≡ x.working → y.step.state.counts.filled.working ≡ s.counts.filled.working → Good y
-    kept-good y working filled = record { cs = g.cs; working = working ∙ g.working; filled = filled ∙ g.filled; room = g.room; below = g.below }
+    kept_good : (y : Outcome) → y.working ≡ x.working → y.step.state.counts.filled.working ≡ s.counts.filled.working → Good y
+    kept_good y working filled = record { cs = g.cs; working = working ∙ g.working; filled = filled ∙ g.filled; room = g.room; below = g.below }
 
     -- with what a box surfaced behind them
-    swept-good : (shift : Shift) (surfaced : List ℕ) → AllBelow (items styles) (candidates_in surfaced)
+    swept_good : (shift : Shift) (surfaced : List ℕ) → AllBelow (items styles) (candidates_in surfaced)
         → candidate_width * (s.counts.filled.working + length (claimed s.opened.claims (candidates_in surfaced))) ≤ length x.working
         → (y : Outcome)
         → let more = claimed s.opened.claims (map (moved shift) (candidates_in surfaced)) in
         y.working ≡ appended x.working s.counts.filled.working more
         → y.step.state.counts.filled.working ≡ s.counts.filled.working + length more
         → Good y
-    swept-good shift surfaced below room y working filled =
+    swept_good shift surfaced below room y working filled =
         let by = s.opened.claims in
         let more = claimed by (map (moved shift) (candidates_in surfaced)) in
         let long : length (g.cs ++ more) ≡ s.counts.filled.working + length more = length-append g.cs more ∙ ap (λ (n : ℕ). n + length more) (sym g.filled) in
@@ -96,49 +96,49 @@ module _ (styles w : List ℕ) where
               ∙ sym (appended_twice w 0 g.cs more);
           filled = filled ∙ sym long;
           room =
-              rw (long, kept-moved by true shift (candidates_in surfaced))
+              rw (long, kept_moved by true shift (candidates_in surfaced))
               (rw (g.working, appended_length w 0 g.cs) at room);
           below = both_below (items styles) g.cs more g.below (keep_below (items styles) by true _ (moved_below (items styles) shift (candidates_in surfaced) below));
         }
 
-    laid-good : (overflow : Rect) (surfaced : List ℕ) → AllBelow (items styles) (candidates_in surfaced)
+    laid_good : (overflow : Rect) (surfaced : List ℕ) → AllBelow (items styles) (candidates_in surfaced)
         → candidate_width * (s.counts.filled.working + length (claimed s.opened.claims (candidates_in surfaced))) ≤ length x.working
         → Good (laid_out s overflow surfaced lent)
     unfolding laid_out
-    laid-good overflow surfaced below room =
-        swept-good _ surfaced below room (laid_out s overflow surfaced lent) refl (ap (λ (f : Filled). f.working) (proceeding_keeps styles _ s.opened _ _).filled)
+    laid_good overflow surfaced below room =
+        swept_good _ surfaced below room (laid_out s overflow surfaced lent) refl (ap (λ (f : Filled). f.working) (proceeding_keeps styles _ s.opened _ _).filled)
 
-    replied-good : (h : Heard) → Good (next styles x h)
+    replied_good : (h : Heard) → Good (next styles x h)
     unfolding next measured_on asking
-    replied-good h = go (reply_way s h.reply h.surfaced lent)
+    replied_good h = go (reply_way s h.reply h.surfaced lent)
       where
         go : ReplyWay s h.reply h.surfaced lent → Good (replied s h.reply h.surfaced lent)
-        go (ReplyWay.turnedDown r e) = subst Good (sym e) (kept-good _ refl refl)
-        go (measures replies v t e) = subst Good (sym e) (kept-good _ refl refl)
+        go (ReplyWay.turnedDown r e) = subst Good (sym e) (kept_good _ refl refl)
+        go (measures replies v t e) = subst Good (sym e) (kept_good _ refl refl)
         go (lays_out overflow v t e) =
             let all = taken_all s h.reply h.surfaced t in
             subst Good (sym e)
-            (laid-good overflow h.surfaced (rw all at (reply_below s h.reply h.surfaced lent v)) (rw all at (reply_passed s h.reply h.surfaced lent v).room.0))
+            (laid_good overflow h.surfaced (rw all at (reply_below s h.reply h.surfaced lent v)) (rw all at (reply_passed s h.reply h.surfaced lent v).room.0))
 
-    turn-good : (t : Turn) → Lends t.loan (turned styles x t).step.answer → Good (turned styles x t)
-    turn-good t lends = go t.loan lends
+    turn_good : (t : Turn) → Lends t.loan (turned styles x t).step.answer → Good (turned styles x t)
+    turn_good t lends = go t.loan lends
       where
         go : (l : Loan) → Lends l (next_with styles x t.heard l).step.answer → Good (next_with styles x t.heard l)
-        go own l = replied-good t.heard
+        go own l = replied_good t.heard
         go (other slices) l =
             subst Good (sym (turn_refused styles x (record { heard = t.heard; loan = other slices }) l))
-            (kept-good _ refl refl)
+            (kept_good _ refl refl)
 
-  turns-good : (x : Outcome) (ts : List Turn) → AllLend styles x ts → Good x → Good (foldl (turned styles) x ts)
-  turns-good x [] lends g = g
-  turns-good x (t ∷ ts) lends g = turns-good (turned styles x t) ts lends.1 (turn-good x g t lends.0)
+  turns_good : (x : Outcome) (ts : List Turn) → AllLend styles x ts → Good x → Good (foldl (turned styles) x ts)
+  turns_good x [] lends g = g
+  turns_good x (t ∷ ts) lends g = turns_good (turned styles x t) ts lends.1 (turn_good x g t lends.0)
 
 -- ---- a run
 
 module _ (o : Opening) (candidates : List ℕ) (lent : Lent) where
-  begun-good : opening_verdict o candidates lent ≡ accepted → Good lent.styles lent.working (begun o candidates lent)
+  begun_good : opening_verdict o candidates lent ≡ accepted → Good lent.styles lent.working (begun o candidates lent)
   unfolding begun
-  begun-good v =
+  begun_good v =
       let cs = claimed (claims_of o) (candidates_in candidates) in
       let p = opening_passed o candidates lent v in
       let room = p.room.0 in
@@ -150,20 +150,20 @@ module _ (o : Opening) (candidates : List ℕ) (lent : Lent) where
         below = keep_below (items lent.styles) (claims_of o) true (candidates_in candidates) (all_below (items lent.styles) candidates p.candidate);
       }
 
-  opened-good : is_refused (opened o candidates lent).step.answer ≡ false → Good lent.styles lent.working (opened o candidates lent)
-  opened-good accepts = go (opening_way o candidates lent)
+  opened_good : is_refused (opened o candidates lent).step.answer ≡ false → Good lent.styles lent.working (opened o candidates lent)
+  opened_good accepts = go (opening_way o candidates lent)
     where
       go : OpeningWay o candidates lent → Good lent.styles lent.working (opened o candidates lent)
       go (OpeningWay.turnedDown r e) = no (ap refused_in e) accepts
-      go (begins v e) = subst (Good lent.styles lent.working) (sym e) (begun-good v)
+      go (begins v e) = subst (Good lent.styles lent.working) (sym e) (begun_good v)
 
 pub finished_is_drawn : FinishedIsDrawn
 unfolding drawn draw_verdict
 finished_is_drawn o candidates lent turns before accepts lends f long =
     let has = called o candidates lent turns in
-    let good = records-good lent.styles lent.working has (turns-good lent.styles lent.working (opened o candidates lent) turns lends (opened-good o candidates lent accepts)) in
+    let good = records_good lent.styles lent.working has (turns_good lent.styles lent.working (opened o candidates lent) turns lends (opened_good o candidates lent accepts)) in
     rw (
-      tests-passed o candidates lent turns accepts lends f good (not (eqb (length before) has.step.state.counts.filled.working)) (ap not (eq-eqb _ _ long)),
+      tests_passed o candidates lent turns accepts lends f good (not (eqb (length before) has.step.state.counts.filled.working)) (ap not (eq-eqb _ _ long)),
       (layers_of_a_run o candidates lent turns accepts lends).working,
     )
     refl

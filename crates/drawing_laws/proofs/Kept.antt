@@ -18,7 +18,7 @@ use Rattle.sweep.specs.declared.Shift.{Shift}
 use Rattle.sweep.specs.declared.Shift.TheVariants.{Unmoved}
 use Rattle.sweep.specs.declared.Swept.TheVariants.{Into}
 use Rattle.sweep.proofs.Layers.{layers_kept}
-use Rattle.sweep.proofs.Steps.{keep-first, kept-moved}
+use Rattle.sweep.proofs.Steps.{keep_first, kept_moved}
 use Rattle.oof_box.specs.declared.question.Replies.{Replies}
 use Rattle.oof_box.specs.declared.question.Reply.{Reply}
 use Rattle.oof_box.specs.declared.question.Reply.TheVariants as reply
@@ -45,10 +45,10 @@ keep_append : (by : ContainingBlockClaims) (list : Bool) (xs ys : List OofCandid
 unfolding keep
 keep_append by list [] ys = refl
 keep_append by list (x ∷ xs) ys =
-    keep-first by list x (xs ++ ys)
+    keep_first by list x (xs ++ ys)
     ∙ ap (λ (l : List OofCandidate). keep by list (x ∷ []) ++ l) (keep_append by list xs ys)
     ∙ sym (append_assoc (keep by list (x ∷ [])) (keep by list xs) (keep by list ys))
-    ∙ ap (λ (l : List OofCandidate). l ++ keep by list ys) (sym (keep-first by list x xs))
+    ∙ ap (λ (l : List OofCandidate). l ++ keep by list ys) (sym (keep_first by list x xs))
 
 -- ---- one sweep that has room
 
@@ -66,14 +66,14 @@ module _ (by : ContainingBlockClaims) (s : Shift) (slice : List ℕ) (lent : Len
   settled =
       let b = neither _ _ full in
       rw (
-        ap (λ (n : ℕ). room candidate_width (length lent.working) f.working n) (kept-moved by true s (candidates_in slice)) ∙ not-false _ b.0,
-        ap (λ (n : ℕ). room candidate_width (length lent.unclaimed) f.unclaimed n) (kept-moved by false s (candidates_in slice)) ∙ not-false _ b.1,
+        ap (λ (n : ℕ). room candidate_width (length lent.working) f.working n) (kept_moved by true s (candidates_in slice)) ∙ not-false _ b.0,
+        ap (λ (n : ℕ). room candidate_width (length lent.unclaimed) f.unclaimed n) (kept_moved by false s (candidates_in slice)) ∙ not-false _ b.1,
       )
       refl
 
-  pub swept-layers : HasLayers (swept_by by s slice lent f).filled.working (swept_by by s slice lent f).working f.working lent.working (claimed by (candidates_in slice))
+  pub swept_layers : HasLayers (swept_by by s slice lent f).filled.working (swept_by by s slice lent f).working f.working lent.working (claimed by (candidates_in slice))
       × HasLayers (swept_by by s slice lent f).filled.unclaimed (swept_by by s slice lent f).unclaimed f.unclaimed lent.unclaimed (others by (candidates_in slice))
-  swept-layers =
+  swept_layers =
       rw settled at (layers_kept by s slice lent.working lent.unclaimed f (swept_by by s slice lent f).filled (ap (λ (o : Swept). o.answer) settled))
 
 -- room, of an accepted call
@@ -113,7 +113,7 @@ pub opening_layers : (o : Opening) (candidates : List ℕ) (lent : Lent) → ope
     HasLayers after.filled.working after.working 0 lent.working (claimed (claims_of o) (candidates_in candidates))
     × HasLayers after.filled.unclaimed after.unclaimed 0 lent.unclaimed (others (claims_of o) (candidates_in candidates))
 opening_layers o candidates lent v =
-    rw (unmoved (candidates_in candidates)) at (swept-layers (claims_of o) Unmoved candidates lent none_filled (opening_room o candidates lent v))
+    rw (unmoved (candidates_in candidates)) at (swept_layers (claims_of o) Unmoved candidates lent none_filled (opening_room o candidates lent v))
 
 begun_has : (o : Opening) (candidates : List ℕ) (lent : Lent) → opening_verdict o candidates lent ≡ accepted
     → Has (claims_of o) (begun o candidates lent) (candidates_in candidates)
@@ -154,19 +154,19 @@ module _ (by : ContainingBlockClaims) (styles : List ℕ) (x : Outcome) (came : 
   abbrev s : State
   s = x.step.state
 
-  measured-has : (replies : Replies) → Has by (measured_on s replies lent) came
+  measured_has : (replies : Replies) → Has by (measured_on s replies lent) came
   unfolding measured_on asking
-  measured-has replies = record { claims = has.claims; layers = record { working = has.layers.working; unclaimed = has.layers.unclaimed } }
+  measured_has replies = record { claims = has.claims; layers = record { working = has.layers.working; unclaimed = has.layers.unclaimed } }
 
   -- after a sweep, whatever the step
-  swept-has : (shift : Shift) (surfaced layouts : List ℕ) (counts : Counts) (step : Step) → list_full s.opened.claims lent s.counts.filled surfaced ≡ false
+  swept_has : (shift : Shift) (surfaced layouts : List ℕ) (counts : Counts) (step : Step) → list_full s.opened.claims lent s.counts.filled surfaced ≡ false
       → let after = swept_by s.opened.claims shift surfaced lent s.counts.filled in
       counts.filled ≡ after.filled
       → Keeps s.opened counts step
       → Has by (record { step = step; layouts = layouts; working = after.working; unclaimed = after.unclaimed }) (came ++ candidates_in surfaced)
-  swept-has shift surfaced layouts counts step full e k =
+  swept_has shift surfaced layouts counts step full e k =
       let after = swept_by s.opened.claims shift surfaced lent s.counts.filled in
-      let l = swept-layers s.opened.claims shift surfaced lent s.counts.filled full in
+      let l = swept_layers s.opened.claims shift surfaced lent s.counts.filled full in
       record {
         claims = ap (λ (r : Opened). r.claims) k.opened ∙ has.claims;
         layers =
@@ -184,23 +184,23 @@ module _ (by : ContainingBlockClaims) (styles : List ℕ) (x : Outcome) (came : 
             };
       }
 
-  laid-has : (overflow : Rect) (surfaced : List ℕ) → list_full s.opened.claims lent s.counts.filled surfaced ≡ false
+  laid_has : (overflow : Rect) (surfaced : List ℕ) → list_full s.opened.claims lent s.counts.filled surfaced ≡ false
       → Has by (laid_out s overflow surfaced lent) (came ++ candidates_in surfaced)
   unfolding laid_out
-  laid-has overflow surfaced full = swept-has _ surfaced _ _ _ full refl (proceeding_keeps styles _ s.opened _ _)
+  laid_has overflow surfaced full = swept_has _ surfaced _ _ _ full refl (proceeding_keeps styles _ s.opened _ _)
 
   -- an accepted call on the run's own words
-  accepted-has : (h : Heard) → refused_in (next styles x h) ≡ false → Has by (next styles x h) (came ++ candidates_in (lent_by h.reply h.surfaced))
+  accepted_has : (h : Heard) → refused_in (next styles x h) ≡ false → Has by (next styles x h) (came ++ candidates_in (lent_by h.reply h.surfaced))
   unfolding next
-  accepted-has h n = go (reply_way s h.reply h.surfaced lent)
+  accepted_has h n = go (reply_way s h.reply h.surfaced lent)
     where
       go : ReplyWay s h.reply h.surfaced lent → Has by (replied s h.reply h.surfaced lent) (came ++ candidates_in (lent_by h.reply h.surfaced))
       go (ReplyWay.turnedDown r e) = no (ap refused_in e) n
       go (measures replies v t e) =
-          rw (e, none_came s h.reply h.surfaced t, append-nil came) (measured-has replies)
+          rw (e, none_came s h.reply h.surfaced t, append-nil came) (measured_has replies)
       go (lays_out overflow v t e) =
           let all = taken_all s h.reply h.surfaced t in
-          rw (e, all) (laid-has overflow h.surfaced (rw all at (reply_room s h.reply h.surfaced lent v)))
+          rw (e, all) (laid_has overflow h.surfaced (rw all at (reply_room s h.reply h.surfaced lent v)))
 
 -- ---- turn by turn
 
@@ -227,7 +227,7 @@ turns_have by styles x came (t ∷ ts) lends has =
       where
         one : (l : Loan) → is_refused (next_with styles x t.heard l).step.answer ≡ false → Lends l (next_with styles x t.heard l).step.answer
             → Has by (next_with styles x t.heard l) (came ++ candidates_in (lent_by t.heard.reply t.heard.surfaced))
-        one own e l = accepted-has by styles x came has t.heard e
+        one own e l = accepted_has by styles x came has t.heard e
         one (other lent) e l = no l e
 
 pub layers_of_a_run : LayersOfARun

@@ -14,7 +14,7 @@ use Rattle.mirror_run.specs.Image.{image_opening, image_styles, image_candidates
 use Rattle.mirror_run.specs.Runs.{Each, none, one, run_next, image_next}
 use Rattle.mirror_run.proofs.Linked.{Frame, Ready, Linked, linked}
 use Rattle.reach_laws.proofs.Runs.{both, with_image}
-use Rattle.reach_laws.proofs.Verdict.{verdict-alike}
+use Rattle.reach_laws.proofs.Verdict.{verdict_alike}
 use Rattle.drawing.specs.Drawing.{draw_verdict, drawn}
 use Rattle.drawing_laws.specs.Laws.{drawn_of, MirroredDrawing}
 
@@ -29,7 +29,7 @@ image_layers (one r e) = rw (r.image.layer, image_layers e) refl
 drawn_alike : {f : Frame} {x x' : Outcome} (before : List ℕ) → Linked f x x' → drawn_of before f.styles x ≡ drawn_of before (image_styles f.styles) x'
 unfolding drawn draw_verdict
 drawn_alike {f} before (linked s p p' links same) =
-    rw (verdict-alike f s p p' links (not (eqb (length before) s.counts.filled.working)), image_layers links.lists.claimed) refl
+    rw (verdict_alike f s p p' links (not (eqb (length before) s.counts.filled.working)), image_layers links.lists.claimed) refl
 
 pub mirrored_drawing : MirroredDrawing
 mirrored_drawing o candidates lent lent' ms before area table quarter image same fair =

@@ -29,8 +29,8 @@ use Rattle.run.proofs.Ways.{OpeningWay, begins, opening_way, ReplyWay, measures,
 use Rattle.mirror_run.proofs.Lists.{nobody, first_length, first_at}
 use Rattle.mirror_run.proofs.Unread.{taken_all}
 use Rattle.drawing.proofs.There.{layers_in, layer_by_word}
-use Rattle.drawing_laws.specs.Laws.{LayersAllowed, SameCandidates, SameSlices, SameOutcomes, SameLoan, bothOwn, bothOther, SameTurns, none, one, RunReadsNoLayer}
-use Rattle.drawing_laws.proofs.Kept.{swept-layers, reply_room, proceeding_keeps, opening_layers}
+use Rattle.drawing_laws.specs.Laws.{LayersAllowed, SameCandidates, SameSlices, SameOutcomes, SameLoan, both_own, both_other, SameTurns, none, one, RunReadsNoLayer}
+use Rattle.drawing_laws.proofs.Kept.{swept_layers, reply_room, proceeding_keeps, opening_layers}
 use Rattle.drawing_laws.proofs.Calls.{opening_reads_no_layer, reply_reads_no_layer}
 
 -- ---- layers that are allowed, by words and in turn
@@ -105,22 +105,22 @@ opened_allowed o candidates lent came = go (opening_way o candidates lent)
         (allowed_after after.filled.working after.working 0 lent.working (claims_of o) candidates (opening_layers o candidates lent v).0 (λ i h. absurd (not-suc-le-zero h)) came))
 
 module _ (s : State) (surfaced : List ℕ) (lent : Lent) (held : LayersAllowed s.counts.filled.working lent.working) where
-  laid-allowed : LayersAllowed (length surfaced / candidate_width) surfaced → (overflow : Rect) → list_full s.opened.claims lent s.counts.filled surfaced ≡ false → FilledAllowed (laid_out s overflow surfaced lent)
+  laid_allowed : LayersAllowed (length surfaced / candidate_width) surfaced → (overflow : Rect) → list_full s.opened.claims lent s.counts.filled surfaced ≡ false → FilledAllowed (laid_out s overflow surfaced lent)
   unfolding laid_out
-  laid-allowed came overflow full =
+  laid_allowed came overflow full =
       subst (λ (f : Filled). LayersAllowed f.working (laid_out s overflow surfaced lent).working) (sym (proceeding_keeps lent.styles _ _ _ _).filled)
-      (allowed_after _ _ s.counts.filled.working lent.working s.opened.claims surfaced (swept-layers s.opened.claims _ surfaced lent s.counts.filled full).0 held came)
+      (allowed_after _ _ s.counts.filled.working lent.working s.opened.claims surfaced (swept_layers s.opened.claims _ surfaced lent s.counts.filled full).0 held came)
 
-  replied-allowed : (reply : Reply) → LayersAllowed (length (lent_by reply surfaced) / candidate_width) (lent_by reply surfaced) → FilledAllowed (replied s reply surfaced lent)
+  replied_allowed : (reply : Reply) → LayersAllowed (length (lent_by reply surfaced) / candidate_width) (lent_by reply surfaced) → FilledAllowed (replied s reply surfaced lent)
   unfolding measured_on asking
-  replied-allowed reply came = go (reply_way s reply surfaced lent)
+  replied_allowed reply came = go (reply_way s reply surfaced lent)
     where
       go : ReplyWay s reply surfaced lent → FilledAllowed (replied s reply surfaced lent)
       go (ReplyWay.turnedDown r e) = subst FilledAllowed (sym e) held
       go (measures replies v t e) = subst FilledAllowed (sym e) held
       go (lays_out overflow v t e) =
           let all = taken_all s reply surfaced t in
-          subst FilledAllowed (sym e) (laid-allowed (rw all at came) overflow (rw all at (reply_room s reply surfaced lent v)))
+          subst FilledAllowed (sym e) (laid_allowed (rw all at came) overflow (rw all at (reply_room s reply surfaced lent v)))
 
 -- ---- turn by turn
 
@@ -147,17 +147,17 @@ module _ (styles : List ℕ) (x x' : Outcome) (same : Same x x') (h h' : Heard) 
 
   one_turn : (l l' : Loan) → SameLoan l l' → Lends l (next_with styles x h l).step.answer → Same (next_with styles x h l) (next_with styles x' h' l')
   unfolding next
-  one_turn l l' bothOwn lends =
+  one_turn l l' both_own lends =
       record {
         outcomes =
             given (lent_of styles x) (lent_of styles x')
             (record { styles = refl; layouts = same.outcomes.layouts; working = same.outcomes.working; unclaimed = same.outcomes.unclaimed })
             same.allowed
             (subst (λ (s : State). LayersAllowed s.counts.filled.working x'.working) (sym state) same.allowed');
-        allowed = replied-allowed x.step.state h.surfaced (lent_of styles x) same.allowed h.reply surfaced.allowed;
-        allowed' = replied-allowed x'.step.state h'.surfaced (lent_of styles x') same.allowed' h'.reply surfaced.allowed';
+        allowed = replied_allowed x.step.state h.surfaced (lent_of styles x) same.allowed h.reply surfaced.allowed;
+        allowed' = replied_allowed x'.step.state h'.surfaced (lent_of styles x') same.allowed' h'.reply surfaced.allowed';
       }
-  one_turn l l' (bothOther {slices = slices} {slices' = slices'} lists candidates) lends =
+  one_turn l l' (both_other {slices = slices} {slices' = slices'} lists candidates) lends =
       let n = x.step.state.counts.filled.working in
       let steps = (given slices slices' lists (whole_list slices.working candidates.allowed n) (whole_list slices'.working candidates.allowed' n)).step in
       let kept : (next_with styles x h (other slices)).step.state ≡ x.step.state = ap (λ (o : Outcome). o.step.state) (turn_refused styles x (record { heard = h; loan = other slices }) lends) in

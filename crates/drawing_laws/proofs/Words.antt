@@ -66,21 +66,21 @@ pub same_position : (c c' : OofCandidate) → Alike c c' → c.position ≡ c'.p
 same_position c c' e = ap (λ (d : OofCandidate). d.position) e
 
 module _ (ws ws' : List ℕ) (same : SameButLayers ws ws') where
-  pub record-alike : (i : ℕ) → Alike (candidate_of (record_at candidate_width ws i)) (candidate_of (record_at candidate_width ws' i))
-  record-alike i =
+  pub record_alike : (i : ℕ) → Alike (candidate_of (record_at candidate_width ws i)) (candidate_of (record_at candidate_width ws' i))
+  record_alike i =
       decoded (record_at candidate_width ws i) (record_at candidate_width ws' i)
       (λ k h. word_of_record candidate_width ws i k (omega arith) ∙ same.words i k h ∙ sym (word_of_record candidate_width ws' i k (omega arith)))
 
-  pub slice-alike : Each Alike (candidates_in ws) (candidates_in ws')
+  pub slice_alike : Each Alike (candidates_in ws) (candidates_in ws')
   unfolding candidates_in
-  slice-alike = rw (← same.long) (first_by (length ws / candidate_width) ws ws' (λ i h. record-alike i))
+  slice_alike = rw (← same.long) (first_by (length ws / candidate_width) ws ws' (λ i h. record_alike i))
 
 -- ---- rules
 
 module _ (n : ℕ) {ws ws' : List ℕ} (count : ℕ) where
-  still-good : SameButLayers ws ws' → LayersAllowed count ws' → good_records (candidate_kinds n) ws count ≡ true → good_records (candidate_kinds n) ws' count ≡ true
+  still_good : SameButLayers ws ws' → LayersAllowed count ws' → good_records (candidate_kinds n) ws count ≡ true → good_records (candidate_kinds n) ws' count ≡ true
   unfolding breaks wrong
-  still-good same allowed g =
+  still_good same allowed g =
       let u = (good_is_unbroken (candidate_kinds n) ws count).0 g in
       (good_is_unbroken (candidate_kinds n) ws' count).1 (rw same.long at u.0, λ i k h l. go i k h l (u.1 i k h l) (ltb k layer_word) refl)
     where
@@ -101,7 +101,7 @@ same_back same = record { long = sym same.long; words = λ i k h. sym (same.word
 
 pub same_rules : (styles : List ℕ) (ws ws' : List ℕ) (count : ℕ) → SameButLayers ws ws' → LayersAllowed count ws → LayersAllowed count ws' → bad_candidate styles ws count ≡ bad_candidate styles ws' count
 unfolding bad_candidate
-same_rules styles ws ws' count same allowed allowed' = ap not (both _ _ (still-good _ count same allowed') (still-good _ count (same_back same) allowed))
+same_rules styles ws ws' count same allowed allowed' = ap not (both _ _ (still_good _ count same allowed') (still_good _ count (same_back same) allowed))
   where
     both : (a b : Bool) → (a ≡ true → b ≡ true) → (b ≡ true → a ≡ true) → a ≡ b
     both true b f g = sym (f refl)

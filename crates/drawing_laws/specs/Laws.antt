@@ -139,8 +139,8 @@ ReplyReadsNoLayer =
 -- both are lent their own slices, or both others. Of these every whole working record has an allowed layer: a call looks at the filled ones
 -- alone, and how many they are stands in the state
 pub data SameLoan : Loan → Loan → Type 0 where
-  bothOwn : SameLoan own own
-  bothOther : {slices slices' : Lent} → SameSlices slices slices' → SameCandidates slices.working slices'.working → SameLoan (other slices) (other slices')
+  both_own : SameLoan own own
+  both_other : {slices slices' : Lent} → SameSlices slices slices' → SameCandidates slices.working slices'.working → SameLoan (other slices) (other slices')
 
 pub record SameTurn (t t' : Turn) : Type 0 where
   pub reply : t.heard.reply ≡ t'.heard.reply

@@ -18,7 +18,7 @@ use Rattle.run.specs.Refusals.{accepted, bad_table, bad_list, bad_slices, other_
 use Rattle.run.specs.declared.State.{State}
 use Rattle.placer_check.proofs.Verdicts.{passed, neither}
 use Rattle.placer.proofs.Calls.{fine, table, few_records}
-use Rattle.placer.proofs.Nodes.{good_below, below_at, item-words}
+use Rattle.placer.proofs.Nodes.{good_below, below_at, item_words_lem}
 use Rattle.finished.specs.Finished.{is_open, finished_verdict}
 
 -- the node of a record, as the code reads it
@@ -29,25 +29,25 @@ node_is working place = word_of_record candidate_width working place 0 (lit< tt)
 -- ---- where the tests are passed, whatever the part itself calls a bad extent
 
 module _ (s : State) (l : Lent) (other : Bool) (e : finished_verdict s l other ≡ accepted) where
-  slices-fine : (bad_slices l ≡ false) × (other ≡ false)
+  slices_fine : (bad_slices l ≡ false) × (other ≡ false)
   unfolding finished_verdict
-  slices-fine =
+  slices_fine =
       let a = passed _ _ _ _ e refl in
       let b = neither (bad_slices l || other_lengths s.opened.extents l) other a.0 in
       ((neither (bad_slices l) (other_lengths s.opened.extents l) b.0).0, b.1)
 
-  pub not-other : other ≡ false
-  not-other = slices-fine.1
+  pub not_other : other ≡ false
+  not_other = slices_fine.1
 
-  lists-fine : bad_table l.styles l.layouts || bad_list l.working ≡ false
+  lists_fine : bad_table l.styles l.layouts || bad_list l.working ≡ false
   unfolding bad_slices
-  lists-fine = (neither (bad_table l.styles l.layouts || bad_list l.working) (bad_list l.unclaimed) slices-fine.0).0
+  lists_fine = (neither (bad_table l.styles l.layouts || bad_list l.working) (bad_list l.unclaimed) slices_fine.0).0
 
-  table-fine : length l.layouts ≡ layout_width * items l.styles
-  table-fine = table l.styles l.layouts (neither (bad_table l.styles l.layouts) (bad_list l.working) lists-fine).0
+  table_fine : length l.layouts ≡ layout_width * items l.styles
+  table_fine = table l.styles l.layouts (neither (bad_table l.styles l.layouts) (bad_list l.working) lists_fine).0
 
   few : length l.working / candidate_width ≤ 4096
-  few = few_records l.working (neither (bad_table l.styles l.layouts) (bad_list l.working) lists-fine).1
+  few = few_records l.working (neither (bad_table l.styles l.layouts) (bad_list l.working) lists_fine).1
 
   within : s.counts.filled.working ≤ length l.working / candidate_width
   unfolding finished_verdict
@@ -57,15 +57,15 @@ module _ (s : State) (l : Lent) (other : Bool) (e : finished_verdict s l other �
       let above = (neither (is_open s.progress) (above_lists l.working l.unclaimed s.counts.filled) b.0).1 in
       ltb-false _ _ (neither (ltb (length l.working / candidate_width) s.counts.filled.working) (ltb (length l.unclaimed / candidate_width) s.counts.filled.unclaimed) above).0
 
-  pub filled-few : s.counts.filled.working ≤ 4096
-  filled-few = let h = few in let k = within in omega arith
+  pub filled_few : s.counts.filled.working ≤ 4096
+  filled_few = let h = few in let k = within in omega arith
 
   pub filled_there : candidate_width * s.counts.filled.working ≤ length l.working
   filled_there = le_trans (mul-le-mul_left candidate_width within) (mul-div-le (length l.working) candidate_width)
 
-  pub filled-good : good_records (candidate_kinds (items l.styles)) l.working s.counts.filled.working ≡ true
+  pub filled_good : good_records (candidate_kinds (items l.styles)) l.working s.counts.filled.working ≡ true
   unfolding finished_verdict
-  filled-good =
+  filled_good =
       let a = passed _ _ _ _ e refl in
       let b = passed _ _ _ _ a.1 refl in
       let c = passed _ _ _ _ b.1 refl in
@@ -74,14 +74,14 @@ module _ (s : State) (l : Lent) (other : Bool) (e : finished_verdict s l other �
 -- ---- where a place without a box is one
 
 module _ (s : State) (l : Lent) (place : ℕ) (e : finished_verdict s l (leb s.counts.filled.working place) ≡ accepted) where
-  pub box-is-filled : place < s.counts.filled.working
-  box-is-filled = leb-false _ _ (not-other s l (leb s.counts.filled.working place) e)
+  pub box_is_filled : place < s.counts.filled.working
+  box_is_filled = leb-false _ _ (not_other s l (leb s.counts.filled.working place) e)
 
-  pub record-is-there : candidate_width * place + candidate_width ≤ length l.working
-  record-is-there = item-words candidate_width (length l.working) s.counts.filled.working place (filled_there s l _ e) box-is-filled
+  pub record_is_there : candidate_width * place + candidate_width ≤ length l.working
+  record_is_there = item_words_lem candidate_width (length l.working) s.counts.filled.working place (filled_there s l _ e) box_is_filled
 
-  pub layout-is-there : layout_width * (candidate_of (record_at candidate_width l.working place)).node + layout_width ≤ length l.layouts
-  layout-is-there =
-      let h = table-fine s l (leb s.counts.filled.working place) e in
-      let good = good_below (items l.styles) l.working s.counts.filled.working (filled-good s l _ e) in
-      item-words layout_width (length l.layouts) (items l.styles) _ (omega (arith, h)) (below_at (items l.styles) s.counts.filled.working l.working place good box-is-filled)
+  pub layout_is_there : layout_width * (candidate_of (record_at candidate_width l.working place)).node + layout_width ≤ length l.layouts
+  layout_is_there =
+      let h = table_fine s l (leb s.counts.filled.working place) e in
+      let good = good_below (items l.styles) l.working s.counts.filled.working (filled_good s l _ e) in
+      item_words_lem layout_width (length l.layouts) (items l.styles) _ (omega (arith, h)) (below_at (items l.styles) s.counts.filled.working l.working place good box_is_filled)

@@ -34,10 +34,10 @@ widen_line i h = record { start = widen i h.start; end = widen i h.end }
 -- the numbers of a are those of α, in whole quarter pixels
 pub record ExactAxis (L A : ℕ) (a : OofAxis) (α : AxisN) : Type 0 where
   pub size : Exact 4 L a.size α.size
-  pub insetStart : MaybeExact 4 L a.inset.start α.inset.start
-  pub insetEnd : MaybeExact 4 L a.inset.end α.inset.end
-  pub marginStart : MaybeExact 4 L a.margin.start α.margin.start
-  pub marginEnd : MaybeExact 4 L a.margin.end α.margin.end
+  pub inset_start : MaybeExact 4 L a.inset.start α.inset.start
+  pub inset_end : MaybeExact 4 L a.inset.end α.inset.end
+  pub margin_start : MaybeExact 4 L a.margin.start α.margin.start
+  pub margin_end : MaybeExact 4 L a.margin.end α.margin.end
   pub area : LineExact 4 A a.place.area α.area
 
 -- the integer block names its weaker edge, the definition tells whether it is the start
@@ -67,30 +67,30 @@ weaker_is None (Some y) a = refl
 weaker_is None None a = end_is a.reversed
 
 module _ (L A : ℕ) (room : 10 * L + 6 * A < 16777216) where
-  centered-exact : {c w : Float} {γ ω : N} → Exact 2 A c γ → Exact 4 L w ω → LineExact 4 (3 * L + 2 * A) (centered_block c w) (centered_n γ ω)
+  centered_exact : {c w : Float} {γ ω : N} → Exact 2 A c γ → Exact 4 L w ω → LineExact 4 (3 * L + 2 * A) (centered_block c w) (centered_n γ ω)
   unfolding centered_block
-  centered-exact hc hw =
+  centered_exact hc hw =
       let rest = sub_exact (eighths hw) hc (omega arith) in
       pick (LineExact 4 (3 * L + 2 * A)) (le_exact (magnitude_exact hc) (magnitude_exact rest))
       (record { start = zero_exact; end = widen (omega arith) (dbl_exact hc (omega arith)) })
       (record { start = widen (omega arith) (sub_exact hw (dbl_exact rest (omega arith)) (omega arith)); end = widen (omega arith) hw })
 
-  static-exact : {area : Line} {m : LineN} {w : Float} {ω : N} (k : AxisStaticEdge) → LineExact 4 A area m → Exact 4 L w ω → LineExact 4 (3 * L + 2 * A) (static_block k area w) (static_n k m ω)
+  static_exact : {area : Line} {m : LineN} {w : Float} {ω : N} (k : AxisStaticEdge) → LineExact 4 A area m → Exact 4 L w ω → LineExact 4 (3 * L + 2 * A) (static_block k area w) (static_n k m ω)
   unfolding static_block
-  static-exact Start ha hw = record { start = widen (omega arith) ha.start; end = widen (omega arith) hw }
-  static-exact Center ha hw = centered-exact (half_exact 2 A (add_exact ha.start ha.end (omega arith)) (omega arith) (omega arith)) hw
-  static-exact End ha hw = record { start = zero_exact; end = widen (omega arith) ha.end }
+  static_exact Start ha hw = record { start = widen (omega arith) ha.start; end = widen (omega arith) hw }
+  static_exact Center ha hw = centered_exact (half_exact 2 A (add_exact ha.start ha.end (omega arith)) (omega arith) (omega arith)) hw
+  static_exact End ha hw = record { start = zero_exact; end = widen (omega arith) ha.end }
 
-  inset-exact : (s e : MaybeF32) (a : OofAxis) (α : AxisN) → MaybeExact 4 L s α.inset.start → MaybeExact 4 L e α.inset.end → ExactAxis L A a α
+  inset_exact : (s e : MaybeF32) (a : OofAxis) (α : AxisN) → MaybeExact 4 L s α.inset.start → MaybeExact 4 L e α.inset.end → ExactAxis L A a α
       → LineExact 4 (3 * L + 2 * A) (inset_block s e a) (inset_n (present s) (present e) a.place.align.keyword α)
   unfolding inset_block present
-  inset-exact (Some x) (Some y) a α hs he h = record { start = widen (omega arith) hs; end = widen (omega arith) (sub_exact h.size he (omega arith)) }
-  inset-exact (Some x) None a α hs he h = record { start = widen (omega arith) hs; end = widen (omega arith) h.size }
-  inset-exact None (Some y) a α hs he h = record { start = zero_exact; end = widen (omega arith) (sub_exact h.size he (omega arith)) }
-  inset-exact None None a α hs he h = static-exact a.place.align.keyword h.area h.size
+  inset_exact (Some x) (Some y) a α hs he h = record { start = widen (omega arith) hs; end = widen (omega arith) (sub_exact h.size he (omega arith)) }
+  inset_exact (Some x) None a α hs he h = record { start = widen (omega arith) hs; end = widen (omega arith) h.size }
+  inset_exact None (Some y) a α hs he h = record { start = zero_exact; end = widen (omega arith) (sub_exact h.size he (omega arith)) }
+  inset_exact None None a α hs he h = static_exact a.place.align.keyword h.area h.size
 
-  pub block-exact : (a : OofAxis) (α : AxisN) → ExactAxis L A a α → LineExact 4 (3 * L + 2 * A) (block a) (block_n (shape a) α)
+  pub block_exact : (a : OofAxis) (α : AxisN) → ExactAxis L A a α → LineExact 4 (3 * L + 2 * A) (block a) (block_n (shape a) α)
   unfolding block
-  block-exact a α h =
+  block_exact a α h =
       rw (weaker_is a.inset.start a.inset.end a)
-      (repaired_exact (weaker_of (present a.inset.start) (present a.inset.end) a.reversed) (inset-exact a.inset.start a.inset.end a α h.insetStart h.insetEnd h))
+      (repaired_exact (weaker_of (present a.inset.start) (present a.inset.end) a.reversed) (inset_exact a.inset.start a.inset.end a α h.insetStart h.insetEnd h))

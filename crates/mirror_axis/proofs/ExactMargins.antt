@@ -22,7 +22,7 @@ use Rattle.util_exact.proofs.Compare.{lt_exact}
 use Rattle.util_exact.proofs.Order.{larger_exact}
 use Rattle.util_exact.proofs.Quarters.{MaybeExact}
 use Rattle.mirror_axis.proofs.Model.{LineN, ◌toN◌, span_n, AxisN, shape, block_n, fills, or_zero_n, stretch_fit_n, halves_n, filled_n, margins_in, margins_n}
-use Rattle.mirror_axis.proofs.ExactBlock.{LineExact, ExactAxis, block-exact}
+use Rattle.mirror_axis.proofs.ExactBlock.{LineExact, ExactAxis, block_exact}
 
 abbrev pub margin_bound : ℕ → ℕ → ℕ → Bool → ℕ
 margin_bound L A S fill = cond fill (7 * L + 4 * A + S) L
@@ -40,50 +40,50 @@ eighths_line : {b c : ℕ} {x y : Float} {a d : N} → b ≤ c → Exact 4 b x a
 eighths_line i h k = record { start = widen i (eighths h); end = widen i (eighths k) }
 
 module _ (L A : ℕ) (room : 10 * L + 6 * A < 16777216) where
-  pub span-exact : (a : OofAxis) (α : AxisN) → ExactAxis L A a α → Exact 4 (6 * L + 4 * A) (span (block a)) (span_n (block_n (shape a) α))
-  span-exact a α h =
-      let l = block-exact L A room a α h in
+  pub span_exact : (a : OofAxis) (α : AxisN) → ExactAxis L A a α → Exact 4 (6 * L + 4 * A) (span (block a)) (span_n (block_n (shape a) α))
+  span_exact a α h =
+      let l = block_exact L A room a α h in
       widen (omega arith) (sub_exact l.end l.start (omega arith))
 
-  pub stretch-exact : (a : OofAxis) (α : AxisN) → ExactAxis L A a α → Exact 4 (8 * L + 4 * A) (stretch_fit a) (stretch_fit_n (shape a) α)
+  pub stretch_exact : (a : OofAxis) (α : AxisN) → ExactAxis L A a α → Exact 4 (8 * L + 4 * A) (stretch_fit a) (stretch_fit_n (shape a) α)
   unfolding stretch_fit
-  stretch-exact a α h =
+  stretch_exact a α h =
       let m = add_exact (or_zero_exact a.margin.start α.margin.start h.marginStart) (or_zero_exact a.margin.end α.margin.end h.marginEnd) (omega arith) in
-      larger_exact (widen (omega arith) (sub_exact (span-exact a α h) m (omega arith))) zero_exact
+      larger_exact (widen (omega arith) (sub_exact (span_exact a α h) m (omega arith))) zero_exact
 
 module _ (L A S : ℕ) (room : 10 * L + 6 * A + S < 16777216) where
-  halves-exact : {free : Float} {φ : N} (a : OofAxis) → Exact 4 (6 * L + 4 * A + S) free φ → LineExact 2 (7 * L + 4 * A + S) (halves free a) (halves_n φ a.inline a.reversed)
+  halves_exact : {free : Float} {φ : N} (a : OofAxis) → Exact 4 (6 * L + 4 * A + S) free φ → LineExact 2 (7 * L + 4 * A + S) (halves free a) (halves_n φ a.inline a.reversed)
   unfolding halves
-  halves-exact a h =
+  halves_exact a h =
       let half = half_exact 2 (7 * L + 4 * A + S) h (omega arith) (omega arith) in
       pick (LineExact 2 (7 * L + 4 * A + S)) (ap (λ (t : Bool). t && a.inline) (lt_exact h (zero_exact {g = 4} {b = 0})))
       (pick (LineExact 2 (7 * L + 4 * A + S)) {t = a.reversed} refl (eighths_line (omega arith) h zero_exact) (eighths_line (omega arith) zero_exact h))
       (record { start = half; end = half })
 
   -- where both insets are given
-  filled-exact : (ms me : MaybeF32) (m : LineN) {free : Float} {φ : N} (a : OofAxis) → MaybeExact 4 L ms m.start → MaybeExact 4 L me m.end → Exact 4 (6 * L + 4 * A + S) free φ
+  filled_exact : (ms me : MaybeF32) (m : LineN) {free : Float} {φ : N} (a : OofAxis) → MaybeExact 4 L ms m.start → MaybeExact 4 L me m.end → Exact 4 (6 * L + 4 * A + S) free φ
       → LineExact (margin_unit (fills true true (present ms) (present me))) (margin_bound L A S (fills true true (present ms) (present me))) (filled_margins ms me free a) (filled_n (present ms) (present me) m φ a.inline a.reversed)
   unfolding filled_margins present
-  filled-exact (Some x) (Some y) m a hs he h = record { start = hs; end = he }
-  filled-exact (Some x) None m a hs he h = record { start = widen (omega arith) (eighths hs); end = widen (omega arith) (eighths (sub_exact h hs (omega arith))) }
-  filled-exact None (Some y) m a hs he h = record { start = widen (omega arith) (eighths (sub_exact h he (omega arith))); end = widen (omega arith) (eighths he) }
-  filled-exact None None m a hs he h = halves-exact a h
+  filled_exact (Some x) (Some y) m a hs he h = record { start = hs; end = he }
+  filled_exact (Some x) None m a hs he h = record { start = widen (omega arith) (eighths hs); end = widen (omega arith) (eighths (sub_exact h hs (omega arith))) }
+  filled_exact None (Some y) m a hs he h = record { start = widen (omega arith) (eighths (sub_exact h he (omega arith))); end = widen (omega arith) (eighths he) }
+  filled_exact None None m a hs he h = halves_exact a h
 
-  margins-at : (s e : MaybeF32) (l : Line) (m : LineN) (a : OofAxis) (α : AxisN) {size : Float} {u : N} → Exact 4 (6 * L + 4 * A) (span l) (span_n m) → ExactAxis L A a α → Exact 4 S size u
+  margins_at : (s e : MaybeF32) (l : Line) (m : LineN) (a : OofAxis) (α : AxisN) {size : Float} {u : N} → Exact 4 (6 * L + 4 * A) (span l) (span_n m) → ExactAxis L A a α → Exact 4 S size u
       → LineExact (margin_unit (fills (present s) (present e) (present a.margin.start) (present a.margin.end)))
       (margin_bound L A S (fills (present s) (present e) (present a.margin.start) (present a.margin.end)))
       (cond (present s && present e) (filled_margins a.margin.start a.margin.end (span l ⊖ size) a) (or_zero a.margin.start to or_zero a.margin.end))
       (margins_in (present s && present e) m (shape a) α u)
   unfolding present
-  margins-at (Some x) (Some y) l m a α hl h hu = filled-exact a.margin.start a.margin.end α.margin a h.marginStart h.marginEnd (sub_exact hl hu (omega arith))
-  margins-at (Some x) None l m a α hl h hu = record { start = or_zero_exact a.margin.start α.margin.start h.marginStart; end = or_zero_exact a.margin.end α.margin.end h.marginEnd }
-  margins-at None e l m a α hl h hu = record { start = or_zero_exact a.margin.start α.margin.start h.marginStart; end = or_zero_exact a.margin.end α.margin.end h.marginEnd }
+  margins_at (Some x) (Some y) l m a α hl h hu = filled_exact a.margin.start a.margin.end α.margin a h.marginStart h.marginEnd (sub_exact hl hu (omega arith))
+  margins_at (Some x) None l m a α hl h hu = record { start = or_zero_exact a.margin.start α.margin.start h.marginStart; end = or_zero_exact a.margin.end α.margin.end h.marginEnd }
+  margins_at None e l m a α hl h hu = record { start = or_zero_exact a.margin.start α.margin.start h.marginStart; end = or_zero_exact a.margin.end α.margin.end h.marginEnd }
 
-  pub margins-exact : (a : OofAxis) (α : AxisN) {size : Float} {u : N} → ExactAxis L A a α → Exact 4 S size u
+  pub margins_exact : (a : OofAxis) (α : AxisN) {size : Float} {u : N} → ExactAxis L A a α → Exact 4 S size u
       → LineExact (margin_unit (fills (present a.inset.start) (present a.inset.end) (present a.margin.start) (present a.margin.end)))
       (margin_bound L A S (fills (present a.inset.start) (present a.inset.end) (present a.margin.start) (present a.margin.end))) (margins a size) (margins_n (shape a) α u)
   unfolding margins both_insets
-  margins-exact a α h hu = margins-at a.inset.start a.inset.end (block a) (block_n (shape a) α) a α (span-exact L A (omega arith) a α h) h hu
+  margins_exact a α h hu = margins_at a.inset.start a.inset.end (block a) (block_n (shape a) α) a α (span_exact L A (omega arith) a α h) h hu
 
 -- all of them as eighths
 pub margins_eighths : (L A S : ℕ) (fill : Bool) {l : Line} {m : LineN} → LineExact (margin_unit fill) (margin_bound L A S fill) l m → LineExact 2 (7 * L + 4 * A + S) l m

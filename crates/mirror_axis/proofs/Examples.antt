@@ -85,12 +85,12 @@ met =
     quarter_mirror scrolling (px 101) (px 101)
     (record {
       size = quarters 400 (lit≤ tt) (refl, refl);
-      insetStart = quarters 240 (lit≤ tt) (refl, refl);
-      insetEnd = quarters 0 (lit≤ tt) (refl, refl);
-      marginStart = quarters 0 (lit≤ tt) (refl, refl);
-      marginEnd = quarters 0 (lit≤ tt) (refl, refl);
+      inset_start = quarters 240 (lit≤ tt) (refl, refl);
+      inset_end = quarters 0 (lit≤ tt) (refl, refl);
+      margin_start = quarters 0 (lit≤ tt) (refl, refl);
+      margin_end = quarters 0 (lit≤ tt) (refl, refl);
       area_start = quarters 0 (lit≤ tt) (refl, refl);
-      areaEnd = quarters 0 (lit≤ tt) (refl, refl);
+      area_end = quarters 0 (lit≤ tt) (refl, refl);
     })
     false≢true (quarters 404 (lit≤ tt) (refl, refl)) (quarters 404 (lit≤ tt) (refl, refl)) refl
 

@@ -17,9 +17,9 @@ use Rattle.util_exact.proofs.Exact.{Exact, any}
 use Rattle.util_exact.proofs.Sum.{sub_exact}
 use Rattle.util_exact.proofs.Same.{Same, same}
 use Rattle.mirror_axis.proofs.Model.{LineN, span_n, AxisN, Shape, shape, fills, block_n, stretch_fit_n, margins_n, place_n}
-use Rattle.mirror_axis.proofs.ExactBlock.{LineExact, ExactAxis, block-exact}
-use Rattle.mirror_axis.proofs.ExactMargins.{span-exact, stretch-exact, margins-exact, margins_eighths}
-use Rattle.mirror_axis.proofs.ExactPlace.{place-exact}
+use Rattle.mirror_axis.proofs.ExactBlock.{LineExact, ExactAxis, block_exact}
+use Rattle.mirror_axis.proofs.ExactMargins.{span_exact, stretch_exact, margins_exact, margins_eighths}
+use Rattle.mirror_axis.proofs.ExactPlace.{place_exact}
 use Rattle.mirror_axis.proofs.FlipBlock.{Flip, NotZero, image_n, image_shape, block_flip}
 use Rattle.mirror_axis.proofs.FlipMargins.{Swap, stretch_same, margins_swap, margins_fill}
 use Rattle.mirror_axis.proofs.FlipPlace.{Fill, Evens, position_fill}
@@ -50,11 +50,11 @@ module _ (L A : ℕ) (room : 10 * L + 6 * A < 16777216) (a a' : OofAxis) (h : Fa
   by_shape : (P : Shape → Type 0) → P (shape a') → P (image_shape (shape a))
   by_shape P = subst P h.shapes
 
-  pub block-left : LineExact 4 (3 * L + 2 * A) (block a) (block_n (shape a) h.α)
-  block-left = block-exact L A room a h.α h.left
+  pub block_left : LineExact 4 (3 * L + 2 * A) (block a) (block_n (shape a) h.α)
+  block_left = block_exact L A room a h.α h.left
 
-  pub block-right : LineExact 4 (3 * L + 2 * A) (block a') (block_n (image_shape (shape a)) (image_n h.α))
-  block-right = by_shape (λ σ. LineExact 4 (3 * L + 2 * A) (block a') (block_n σ (image_n h.α))) (block-exact L A room a' (image_n h.α) h.right)
+  pub block_right : LineExact 4 (3 * L + 2 * A) (block a') (block_n (image_shape (shape a)) (image_n h.α))
+  block_right = by_shape (λ σ. LineExact 4 (3 * L + 2 * A) (block a') (block_n σ (image_n h.α))) (block_exact L A room a' (image_n h.α) h.right)
 
   -- the blocks are mirrored
   pub blocks : Flip h.α.size (block_n (shape a) h.α) (block_n (image_shape (shape a)) (image_n h.α))
@@ -63,58 +63,58 @@ module _ (L A : ℕ) (room : 10 * L + 6 * A < 16777216) (a a' : OofAxis) (h : Fa
       block_flip (shape a) h.α h.wide (add_mult 2 h.α.area.start h.α.area.end e.0 e.1)
 
   -- the stretch-fit size is shared
-  pub stretch-shared : Same 4 (8 * L + 4 * A) (stretch_fit a) (stretch_fit a')
-  stretch-shared =
-      same (stretch-exact L A room a h.α h.left)
-      (by_shape (λ σ. Exact 4 (8 * L + 4 * A) (stretch_fit a') (stretch_fit_n σ (image_n h.α))) (stretch-exact L A room a' (image_n h.α) h.right))
+  pub stretch_shared : Same 4 (8 * L + 4 * A) (stretch_fit a) (stretch_fit a')
+  stretch_shared =
+      same (stretch_exact L A room a h.α h.left)
+      (by_shape (λ σ. Exact 4 (8 * L + 4 * A) (stretch_fit a') (stretch_fit_n σ (image_n h.α))) (stretch_exact L A room a' (image_n h.α) h.right))
       (sym (stretch_same (shape a) h.α blocks))
 
-  pub insets-shared : both_insets a ≡ both_insets a'
+  pub insets_shared : both_insets a ≡ both_insets a'
   unfolding both_insets
-  insets-shared = and_commute (present a.inset.start) (present a.inset.end) ∙ sym (ap (λ (σ : Shape). σ.insetStart && σ.insetEnd) h.shapes)
+  insets_shared = and_commute (present a.inset.start) (present a.inset.end) ∙ sym (ap (λ (σ : Shape). σ.insetStart && σ.insetEnd) h.shapes)
 
-  pub alignment-shared : a.alignment ≡ a'.alignment
-  alignment-shared = sym (ap (λ (σ : Shape). σ.alignment) h.shapes)
+  pub alignment_shared : a.alignment ≡ a'.alignment
+  alignment_shared = sym (ap (λ (σ : Shape). σ.alignment) h.shapes)
 
   -- whether a size is stretched is shared
-  pub stretches-shared : (plain : Bool) → stretches a plain ≡ stretches a' plain
+  pub stretches_shared : (plain : Bool) → stretches a plain ≡ stretches a' plain
   unfolding stretches
-  stretches-shared plain = ap₂ ◌&&◌ insets-shared (ap (λ (al : OofAlignment). stretching al plain) alignment-shared)
+  stretches_shared plain = ap₂ ◌&&◌ insets_shared (ap (λ (al : OofAlignment). stretching al plain) alignment_shared)
 
-  pub is-stretch-shared : is_stretch a ≡ is_stretch a'
+  pub is_stretch_shared : is_stretch a ≡ is_stretch a'
   unfolding is_stretch
-  is-stretch-shared = ap (λ (al : OofAlignment). stretching al false) alignment-shared
+  is_stretch_shared = ap (λ (al : OofAlignment). stretching al false) alignment_shared
 
 module _ (L A S : ℕ) (room : 10 * L + 6 * A + S < 16777216) (a a' : OofAxis) (h : Facing L A a a') (size size' : Float) (s : Same 4 S size size') where
-  abbrev marginsLeft : LineN
-  marginsLeft = margins_n (shape a) h.α s.a
+  abbrev margins_left : LineN
+  margins_left = margins_n (shape a) h.α s.a
 
-  abbrev marginsRight : LineN
-  marginsRight = margins_n (image_shape (shape a)) (image_n h.α) s.a
+  abbrev margins_right : LineN
+  margins_right = margins_n (image_shape (shape a)) (image_n h.α) s.a
 
-  margins-left : LineExact 2 (7 * L + 4 * A + S) (placement a size).margin marginsLeft
+  margins_left_lem : LineExact 2 (7 * L + 4 * A + S) (placement a size).margin margins_left
   unfolding placement
-  margins-left = margins_eighths L A S (filling (shape a)) (margins-exact L A S room a h.α h.left s.l)
+  margins_left_lem = margins_eighths L A S (filling (shape a)) (margins_exact L A S room a h.α h.left s.l)
 
-  margins-right : LineExact 2 (7 * L + 4 * A + S) (placement a' size').margin marginsRight
+  margins_right_lem : LineExact 2 (7 * L + 4 * A + S) (placement a' size').margin margins_right
   unfolding placement
-  margins-right =
+  margins_right_lem =
       by_shape L A (omega arith) a a' h (λ σ. LineExact 2 (7 * L + 4 * A + S) (placement a' size').margin (margins_n σ (image_n h.α) s.a))
-      (margins_eighths L A S (filling (shape a')) (margins-exact L A S room a' (image_n h.α) h.right s.r))
+      (margins_eighths L A S (filling (shape a')) (margins_exact L A S room a' (image_n h.α) h.right s.r))
 
   -- the free space is a whole number of quarters
-  free-even : Multiple 2 (sub_n (span_n (block_n (shape a) h.α)) s.a)
-  free-even = even_of 2 (sub_n (span_n (block_n (shape a) h.α)) s.a) (sub_exact (span-exact L A (omega arith) a h.α h.left) s.l (omega arith)).mult
+  free_even : Multiple 2 (sub_n (span_n (block_n (shape a) h.α)) s.a)
+  free_even = even_of 2 (sub_n (span_n (block_n (shape a) h.α)) s.a) (sub_exact (span_exact L A (omega arith) a h.α h.left) s.l (omega arith)).mult
 
-  margins-turn : Swap marginsLeft marginsRight
-  margins-turn = margins_swap (shape a) h.α (block_n (shape a) h.α) (block_n (image_shape (shape a)) (image_n h.α)) s.a (blocks L A (omega arith) a a' h) free-even
+  margins_turn : Swap margins_left margins_right
+  margins_turn = margins_swap (shape a) h.α (block_n (shape a) h.α) (block_n (image_shape (shape a)) (image_n h.α)) s.a (blocks L A (omega arith) a a' h) free_even
 
   -- the margins change places
-  pub start-is-end : Same 2 (7 * L + 4 * A + S) (placement a size).margin.start (placement a' size').margin.end
-  start-is-end = same margins-left.start margins-right.end (sym margins-turn.start)
+  pub start_is_end : Same 2 (7 * L + 4 * A + S) (placement a size).margin.start (placement a' size').margin.end
+  start_is_end = same margins_left_lem.start margins_right_lem.end (sym margins_turn.start)
 
-  pub end-is-start : Same 2 (7 * L + 4 * A + S) (placement a size).margin.end (placement a' size').margin.start
-  end-is-start = same margins-left.end margins-right.start (sym margins-turn.end)
+  pub end_is_start : Same 2 (7 * L + 4 * A + S) (placement a size).margin.end (placement a' size').margin.start
+  end_is_start = same margins_left_lem.end margins_right_lem.start (sym margins_turn.end)
 
   -- the two places, with the box between them, fill the width
   pub positions : Filled (10 * L + 6 * A + S) h.α.size s.a (placement a size).position (placement a' size').position
@@ -122,13 +122,13 @@ module _ (L A S : ℕ) (room : 10 * L + 6 * A + S < 16777216) (a a' : OofAxis) (
       record {
         a = place_n (shape a) h.α s.a;
         a' = place_n (image_shape (shape a)) (image_n h.α) s.a;
-        l = any (place-exact L A S room a h.α h.left s.l);
+        l = any (place_exact L A S room a h.α h.left s.l);
         r =
             by_shape L A (omega arith) a a' h (λ σ. Exact 1 (10 * L + 6 * A + S) (placement a' size').position (place_n σ (image_n h.α) s.a))
-            (any (place-exact L A S room a' (image_n h.α) h.right s.r));
+            (any (place_exact L A S room a' (image_n h.α) h.right s.r));
         fill =
-            position_fill (shape a).insetStart (shape a).insetEnd (shape a) h.α (block_n (shape a) h.α) (block_n (image_shape (shape a)) (image_n h.α)) marginsLeft marginsRight s.a
-            (blocks L A (omega arith) a a' h) margins-turn (even_of 2 h.α.size h.left.size.mult) (evens (block-left L A (omega arith) a a' h)) (evens h.left.area)
-            (add_mult 2 (add_n s.a marginsLeft.start) marginsLeft.end (add_mult 2 s.a marginsLeft.start (even_of 2 s.a s.l.mult) margins-left.start.mult) margins-left.end.mult)
-            (margins_fill (shape a) h.α (block_n (shape a) h.α) s.a free-even);
+            position_fill (shape a).insetStart (shape a).insetEnd (shape a) h.α (block_n (shape a) h.α) (block_n (image_shape (shape a)) (image_n h.α)) margins_left margins_right s.a
+            (blocks L A (omega arith) a a' h) margins_turn (even_of 2 h.α.size h.left.size.mult) (evens (block_left L A (omega arith) a a' h)) (evens h.left.area)
+            (add_mult 2 (add_n s.a margins_left.start) margins_left.end (add_mult 2 s.a margins_left.start (even_of 2 s.a s.l.mult) margins_left_lem.start.mult) margins_left_lem.end.mult)
+            (margins_fill (shape a) h.α (block_n (shape a) h.α) s.a free_even);
       }

@@ -29,12 +29,12 @@ image_n α =
 abbrev pub image_shape : Shape → Shape
 image_shape σ =
     record {
-      insetStart = σ.insetEnd;
-      insetEnd = σ.insetStart;
-      marginStart = σ.marginEnd;
-      marginEnd = σ.marginStart;
+      inset_start = σ.insetEnd;
+      inset_end = σ.insetStart;
+      margin_start = σ.marginEnd;
+      margin_end = σ.marginStart;
       keyword = other_edge σ.keyword;
-      placeSafety = σ.placeSafety;
+      place_safety = σ.placeSafety;
       alignment = σ.alignment;
       safety = σ.safety;
       inline = σ.inline;

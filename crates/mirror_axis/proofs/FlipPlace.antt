@@ -68,75 +68,75 @@ clamp_fill w box x x' low high low' high' fit f g h =
 
 -- ---- a margin box aligned in a line and in its image
 
-module _ (w box box' : N) (same-box : EqN box box') (even-box : Multiple 2 box) where
-  pub align-fill : (l l' : LineN) (k : AxisStaticEdge) → Flip w l l' → Evens l → Fill w box (align_n l box k) (align_n l' box' (other_edge k))
+module _ (w box box' : N) (same_box : EqN box box') (even-box : Multiple 2 box) where
+  pub align_fill : (l l' : LineN) (k : AxisStaticEdge) → Flip w l l' → Evens l → Fill w box (align_n l box k) (align_n l' box' (other_edge k))
   unfolding other_edge
-  align-fill l l' Start f ev = omega arith
-  align-fill l l' Center f ev = center l.start l.end l'.start l'.end f.start f.end (sub_mult 2 (add_n l.start l.end) box (add_mult 2 l.start l.end ev.0 ev.1) even-box)
+  align_fill l l' Start f ev = omega arith
+  align_fill l l' Center f ev = center l.start l.end l'.start l'.end f.start f.end (sub_mult 2 (add_n l.start l.end) box (add_mult 2 l.start l.end ev.0 ev.1) even-box)
     where
       center : (a b a' b' : N) → EqN (add_n a b') w → EqN (add_n b a') w → Multiple 2 (sub_n (add_n a b) box) → Fill w box (half_n (sub_n (add_n a b) box)) (half_n (sub_n (add_n a' b') box'))
       center a b a' b' p q h =
           let even : Multiple 2 (sub_n (add_n a' b') box') = (h.1 + w.p + box.n, h.0 + w.n + box.p, omega (arith, h.2)) in
           omega (arith, half_twice (sub_n (add_n a b) box) h, half_twice (sub_n (add_n a' b') box') even)
-  align-fill l l' End f ev = omega arith
+  align_fill l l' End f ev = omega arith
 
-  start-fill : (l l' : LineN) (r : Bool) → Flip w l l' → Evens l → Fill w box (align_n l box (start_of r)) (align_n l' box' (start_of (not r)))
-  start-fill l l' r f ev = rw (start_other r) (align-fill l l' (start_of r) f ev)
+  start_fill : (l l' : LineN) (r : Bool) → Flip w l l' → Evens l → Fill w box (align_n l box (start_of r)) (align_n l' box' (start_of (not r)))
+  start_fill l l' r f ev = rw (start_other r) (align_fill l l' (start_of r) f ev)
 
-  static-fill : (s : AlignmentSafety) (σ : Shape) (area l l' : LineN) → Flip w l l' → Evens l → Evens area
+  static_fill : (s : AlignmentSafety) (σ : Shape) (area l l' : LineN) → Flip w l l' → Evens l → Evens area
       → Fill w box (static_place_n s σ area l box) (static_place_n s (image_shape σ) (flipped w area) l' box')
-  static-fill s σ area l l' f ev ea = go s
+  static_fill s σ area l l' f ev ea = go s
     where
       there : Fill w box (align_n area box σ.keyword) (align_n (flipped w area) box' (other_edge σ.keyword))
-      there = align-fill area (flipped w area) σ.keyword (omega arith) ea
+      there = align_fill area (flipped w area) σ.keyword (omega arith) ea
 
       go : (s : AlignmentSafety) → Fill w box (static_place_n s σ area l box) (static_place_n s (image_shape σ) (flipped w area) l' box')
       go Default = there
       go Unsafe = there
-      go Safe = pick (Fill w box) (lt_cong (span_n l) box (span_n l') box' (span_same w l l' f) same-box) (start-fill l l' σ.reversed f ev) there
+      go Safe = pick (Fill w box) (lt_cong (span_n l) box (span_n l') box' (span_same w l l' f) same_box) (start_fill l l' σ.reversed f ev) there
 
   -- ---- kept within the limit
 
-  limit-flip : (l l' : LineN) → Flip w l l' → Flip w (limit_n w l) (limit_n w l')
-  limit-flip l l' f = record { start = omega arith; end = omega arith }
+  limit_flip : (l l' : LineN) → Flip w l l' → Flip w (limit_n w l) (limit_n w l')
+  limit_flip l l' f = record { start = omega arith; end = omega arith }
 
-  kept-fill : (lim lim' l l' : LineN) (k : AxisStaticEdge) (r : Bool) → Flip w lim lim' → Flip w l l' → Evens lim → Evens l
+  kept_fill : (lim lim' l l' : LineN) (k : AxisStaticEdge) (r : Bool) → Flip w lim lim' → Flip w l l' → Evens lim → Evens l
       → Fill w box (kept_n lim r l box k) (kept_n lim' (not r) l' box' (other_edge k))
-  kept-fill lim lim' l l' k r g f evm ev =
-      pick_when (Fill w box) (le_n box (span_n lim)) (le_cong box (span_n lim) box' (span_n lim') same-box (span_same w lim lim' g))
+  kept_fill lim lim' l l' k r g f evm ev =
+      pick_when (Fill w box) (le_n box (span_n lim)) (le_cong box (span_n lim) box' (span_n lim') same_box (span_same w lim lim' g))
       (λ t. clamp_fill w box (align_n l box k) (align_n l' box' (other_edge k)) lim.start (sub_n lim.end box) lim'.start (sub_n lim'.end box')
-      (omega (arith, leb-true (box.p + (span_n lim).n) ((span_n lim).p + box.n) t)) (align-fill l l' k f ev) (omega arith) (omega arith))
-      (λ t. start-fill lim lim' r g evm)
+      (omega (arith, leb-true (box.p + (span_n lim).n) ((span_n lim).p + box.n) t)) (align_fill l l' k f ev) (omega arith) (omega arith))
+      (λ t. start_fill lim lim' r g evm)
 
   -- the place of an edge of the limit and of its image's
-  low-fill : (lim lim' : LineN) → Flip w lim lim' → Fill w box lim.start (sub_n lim'.end box')
-  low-fill lim lim' g = omega arith
+  low_fill : (lim lim' : LineN) → Flip w lim lim' → Fill w box lim.start (sub_n lim'.end box')
+  low_fill lim lim' g = omega arith
 
-  high-fill : (lim lim' : LineN) → Flip w lim lim' → Fill w box (sub_n lim.end box) lim'.start
-  high-fill lim lim' g = omega arith
+  high_fill : (lim lim' : LineN) → Flip w lim lim' → Fill w box (sub_n lim.end box) lim'.start
+  high_fill lim lim' g = omega arith
 
-  limited-fill : (scrolls r : Bool) (l l' : LineN) (k : AxisStaticEdge) → Multiple 2 w → Flip w l l' → Evens l
+  limited_fill : (scrolls r : Bool) (l l' : LineN) (k : AxisStaticEdge) → Multiple 2 w → Flip w l l' → Evens l
       → Fill w box (limited_n scrolls r w l box k) (limited_n scrolls (not r) w l' box' (other_edge k))
-  limited-fill false r l l' k ew f ev =
-      kept-fill (limit_n w l) (limit_n w l') l l' k r (limit-flip l l' f) f (min_mult 2 l.start zero_n ev.0 (zero_mult 2), max_mult 2 l.end w ev.1 ew) ev
-  limited-fill true false l l' k ew f ev =
-      min_max w box (align_n l box k) (align_n l' box' (other_edge k)) (limit_n w l).start (sub_n (limit_n w l').end box') (align-fill l l' k f ev)
-      (low-fill (limit_n w l) (limit_n w l') (limit-flip l l' f))
-  limited-fill true true l l' k ew f ev =
-      max_min w box (align_n l box k) (align_n l' box' (other_edge k)) (sub_n (limit_n w l).end box) (limit_n w l').start (align-fill l l' k f ev)
-      (high-fill (limit_n w l) (limit_n w l') (limit-flip l l' f))
+  limited_fill false r l l' k ew f ev =
+      kept_fill (limit_n w l) (limit_n w l') l l' k r (limit_flip l l' f) f (min_mult 2 l.start zero_n ev.0 (zero_mult 2), max_mult 2 l.end w ev.1 ew) ev
+  limited_fill true false l l' k ew f ev =
+      min_max w box (align_n l box k) (align_n l' box' (other_edge k)) (limit_n w l).start (sub_n (limit_n w l').end box') (align_fill l l' k f ev)
+      (low_fill (limit_n w l) (limit_n w l') (limit_flip l l' f))
+  limited_fill true true l l' k ew f ev =
+      max_min w box (align_n l box k) (align_n l' box' (other_edge k)) (sub_n (limit_n w l).end box) (limit_n w l').start (align_fill l l' k f ev)
+      (high_fill (limit_n w l) (limit_n w l') (limit_flip l l' f))
 
-  self-fill : (s : AlignmentSafety) (σ : Shape) (l l' : LineN) (k : AxisStaticEdge) → Multiple 2 w → Flip w l l' → Evens l
+  self_fill : (s : AlignmentSafety) (σ : Shape) (l l' : LineN) (k : AxisStaticEdge) → Multiple 2 w → Flip w l l' → Evens l
       → Fill w box (self_n s σ w l box k) (self_n s (image_shape σ) w l' box' (other_edge k))
-  self-fill Unsafe σ l l' k ew f ev = align-fill l l' k f ev
-  self-fill Safe σ l l' k ew f ev = rw (lt_cong (span_n l) box (span_n l') box' (span_same w l l' f) same-box) (go (lt_n (span_n l') box'))
+  self_fill Unsafe σ l l' k ew f ev = align_fill l l' k f ev
+  self_fill Safe σ l l' k ew f ev = rw (lt_cong (span_n l) box (span_n l') box' (span_same w l l' f) same_box) (go (lt_n (span_n l') box'))
     where
       go : (t : Bool) → Fill w box (align_n l box (cond t (start_of σ.reversed) k)) (align_n l' box' (cond t (start_of (not σ.reversed)) (other_edge k)))
-      go true = start-fill l l' σ.reversed f ev
-      go false = align-fill l l' k f ev
-  self-fill Default σ l l' k ew f ev =
-      pick (Fill w box) (ap (λ (t : Bool). t || is_normal σ.alignment) (le_cong box (span_n l) box' (span_n l') same-box (span_same w l l' f)))
-      (align-fill l l' k f ev) (limited-fill σ.scrolls σ.reversed l l' k ew f ev)
+      go true = start_fill l l' σ.reversed f ev
+      go false = align_fill l l' k f ev
+  self_fill Default σ l l' k ew f ev =
+      pick (Fill w box) (ap (λ (t : Bool). t || is_normal σ.alignment) (le_cong box (span_n l) box' (span_n l') same_box (span_same w l l' f)))
+      (align_fill l l' k f ev) (limited_fill σ.scrolls σ.reversed l l' k ew f ev)
 
 -- ---- the place
 
@@ -156,7 +156,7 @@ pub position_fill : (s e : Bool) (σ : Shape) (α : AxisN) (l l' m m' : LineN) (
     → Fill α.size u (position_n s e σ α l u m) (position_n e s (image_shape σ) (image_n α) l' u m')
 position_fill false false σ α l l' m m' u f s ew ev ea eb t =
     shift_fill α.size u m m' (static_place_n σ.placeSafety σ α.area l (box_n u m)) (static_place_n σ.placeSafety (image_shape σ) (flipped α.size α.area) l' (box_n u m')) s
-    (static-fill α.size (box_n u m) (box_n u m') (box_same u m m' s) eb σ.placeSafety σ α.area l l' f ev ea)
+    (static_fill α.size (box_n u m) (box_n u m') (box_same u m m' s) eb σ.placeSafety σ α.area l l' f ev ea)
 position_fill true false σ α l l' m m' u f s ew ev ea eb t = omega arith
 position_fill false true σ α l l' m m' u f s ew ev ea eb t = omega arith
 position_fill true true σ α l l' m m' u f s ew ev ea eb t =
@@ -164,5 +164,5 @@ position_fill true true σ α l l' m m' u f s ew ev ea eb t =
     rw (align_other σ.alignment σ.reversed)
     (pick_when (Fill α.size u) (σ.marginStart && σ.marginEnd) (and_commute σ.marginStart σ.marginEnd)
     (λ h. shift_fill α.size u m m' (self_n σ.safety σ α.size l (box_n u m) k) (self_n σ.safety (image_shape σ) α.size l' (box_n u m') (other_edge k)) s
-    (self-fill α.size (box_n u m) (box_n u m') (box_same u m m' s) eb σ.safety σ l l' k ew f ev))
+    (self_fill α.size (box_n u m) (box_n u m') (box_same u m m' s) eb σ.safety σ l l' k ew f ev))
     (λ h. auto_fill α.size u l l' m m' f s (t (ap not h))))

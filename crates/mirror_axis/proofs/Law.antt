@@ -18,7 +18,7 @@ use Rattle.mirror_axis.specs.Law.{Bounded, Mirrored, AxisMirror, QuarterMirror}
 use Rattle.mirror_axis.proofs.Model.{◌toN◌, AxisN}
 use Rattle.mirror_axis.proofs.ExactBlock.{ExactAxis}
 use Rattle.mirror_axis.proofs.FlipBlock.{image_n}
-use Rattle.mirror_axis.proofs.Facing.{Facing, block-left, block-right, blocks, stretch-shared, stretches-shared, start-is-end, end-is-start, positions}
+use Rattle.mirror_axis.proofs.Facing.{Facing, block_left, block_right, blocks, stretch_shared, stretches_shared, start_is_end, end_is_start, positions}
 
 -- the numbers of an axis of whole quarter pixels, in sixteenths
 abbrev pub numbers : (L A : ℕ) (a : OofAxis) → Bounded L A a → AxisN
@@ -34,10 +34,10 @@ pub axis_exact : (L A : ℕ) (a : OofAxis) (h : Bounded L A a) → ExactAxis (4 
 axis_exact L A a h =
     record {
       size = quarters_exact h.size;
-      insetStart = maybe_exact L a.inset.start h.insetStart;
-      insetEnd = maybe_exact L a.inset.end h.insetEnd;
-      marginStart = maybe_exact L a.margin.start h.marginStart;
-      marginEnd = maybe_exact L a.margin.end h.marginEnd;
+      inset_start = maybe_exact L a.inset.start h.insetStart;
+      inset_end = maybe_exact L a.inset.end h.insetEnd;
+      margin_start = maybe_exact L a.margin.start h.marginStart;
+      margin_end = maybe_exact L a.margin.end h.marginEnd;
       area = record { start = widen (omega arith) (quarters_exact h.area_start); end = widen (omega arith) (quarters_exact h.areaEnd) };
     }
 
@@ -46,10 +46,10 @@ unfolding image exchanged reflected reflected_place
 image_exact L A a h room =
     record {
       size = quarters_exact h.size;
-      insetStart = maybe_exact L a.inset.end h.insetEnd;
-      insetEnd = maybe_exact L a.inset.start h.insetStart;
-      marginStart = maybe_exact L a.margin.end h.marginEnd;
-      marginEnd = maybe_exact L a.margin.start h.marginStart;
+      inset_start = maybe_exact L a.inset.end h.insetEnd;
+      inset_end = maybe_exact L a.inset.start h.insetStart;
+      margin_start = maybe_exact L a.margin.end h.marginEnd;
+      margin_end = maybe_exact L a.margin.start h.marginStart;
       area =
           record {
             start = sub_exact (quarters_exact h.size) (quarters_exact h.areaEnd) room;
@@ -72,17 +72,17 @@ image_faces L A a h room nz =
 -- what two axes that face each other have in common
 pub facing_mirrored : (L A S : ℕ) → 10 * L + 6 * A + S < 16777216 → (a a' : OofAxis) → Facing L A a a' → (size size' : Float) → Same 4 S size size' → Mirrored a a' size size'
 facing_mirrored L A S room a a' h size size' s =
-    let l = block-left L A (omega arith) a a' h in
-    let l' = block-right L A (omega arith) a a' h in
+    let l = block_left L A (omega arith) a a' h in
+    let l' = block_right L A (omega arith) a a' h in
     let f = blocks L A (omega arith) a a' h in
     let p = positions L A S room a a' h size size' s in
     record {
-      blockStart = two_add_up l.start l'.end h.left.size f.start;
-      blockEnd = two_add_up l.end l'.start h.left.size f.end;
-      stretch_fit = equal (turned (stretch-shared L A (omega arith) a a' h));
-      stretches = λ plain. sym (stretches-shared L A (omega arith) a a' h plain);
-      marginStart = equal (turned (end-is-start L A S room a a' h size size' s));
-      marginEnd = equal (turned (start-is-end L A S room a a' h size size' s));
+      block_start = two_add_up l.start l'.end h.left.size f.start;
+      block_end = two_add_up l.end l'.start h.left.size f.end;
+      stretch_fit = equal (turned (stretch_shared L A (omega arith) a a' h));
+      stretches = λ plain. sym (stretches_shared L A (omega arith) a a' h plain);
+      margin_start = equal (turned (end_is_start L A S room a a' h size size' s));
+      margin_end = equal (turned (start_is_end L A S room a a' h size size' s));
       position = three_add_up p.l p.r s.l h.left.size p.fill;
     }
 

@@ -33,12 +33,12 @@ pub record AxisN : Type 0 where
 
 -- all else: of insets and margins, whether they are present
 pub record Shape : Type 0 where
-  pub insetStart : Bool
-  pub insetEnd : Bool
-  pub marginStart : Bool
-  pub marginEnd : Bool
+  pub inset_start : Bool
+  pub inset_end : Bool
+  pub margin_start : Bool
+  pub margin_end : Bool
   pub keyword : AxisStaticEdge
-  pub placeSafety : AlignmentSafety
+  pub place_safety : AlignmentSafety
   pub alignment : OofAlignment
   pub safety : AlignmentSafety
   pub inline : Bool
@@ -48,12 +48,12 @@ pub record Shape : Type 0 where
 abbrev pub shape : OofAxis → Shape
 shape a =
     record {
-      insetStart = present a.inset.start;
-      insetEnd = present a.inset.end;
-      marginStart = present a.margin.start;
-      marginEnd = present a.margin.end;
+      inset_start = present a.inset.start;
+      inset_end = present a.inset.end;
+      margin_start = present a.margin.start;
+      margin_end = present a.margin.end;
       keyword = a.place.align.keyword;
-      placeSafety = a.place.align.safety;
+      place_safety = a.place.align.safety;
       alignment = a.alignment;
       safety = a.safety;
       inline = a.inline;

@@ -30,14 +30,14 @@ pub record Across (b : ℕ) (w : N) (x x' : Float) : Type 0 where
 
 pub record Opposite (L A : ℕ) (a a' : OofAxis) : Type 0 where
   pub size : Same 4 L a.size a'.size
-  pub insetStart : MaybeSame 4 L a.inset.start a'.inset.end
-  pub insetEnd : MaybeSame 4 L a.inset.end a'.inset.start
-  pub marginStart : MaybeSame 4 L a.margin.start a'.margin.end
-  pub marginEnd : MaybeSame 4 L a.margin.end a'.margin.start
+  pub inset_start : MaybeSame 4 L a.inset.start a'.inset.end
+  pub inset_end : MaybeSame 4 L a.inset.end a'.inset.start
+  pub margin_start : MaybeSame 4 L a.margin.start a'.margin.end
+  pub margin_end : MaybeSame 4 L a.margin.end a'.margin.start
   pub area_start : Across A size.a a.place.area.start a'.place.area.end
-  pub areaEnd : Across A size.a a.place.area.end a'.place.area.start
+  pub area_end : Across A size.a a.place.area.end a'.place.area.start
   pub keyword : a'.place.align.keyword ≡ other_edge a.place.align.keyword
-  pub placeSafety : a'.place.align.safety ≡ a.place.align.safety
+  pub place_safety : a'.place.align.safety ≡ a.place.align.safety
   pub alignment : a'.alignment ≡ a.alignment
   pub safety : a'.safety ≡ a.safety
   pub inline : a'.inline ≡ a.inline
@@ -76,19 +76,19 @@ opposite_faces L A a a' h nz =
       left =
           record {
             size = h.size.l;
-            insetStart = number_left h.insetStart;
-            insetEnd = number_left h.insetEnd;
-            marginStart = number_left h.marginStart;
-            marginEnd = number_left h.marginEnd;
+            inset_start = number_left h.insetStart;
+            inset_end = number_left h.insetEnd;
+            margin_start = number_left h.marginStart;
+            margin_end = number_left h.marginEnd;
             area = record { start = h.area_start.l; end = h.areaEnd.l };
           };
       right =
           record {
             size = h.size.r;
-            insetStart = number_right h.insetEnd;
-            insetEnd = number_right h.insetStart;
-            marginStart = number_right h.marginEnd;
-            marginEnd = number_right h.marginStart;
+            inset_start = number_right h.insetEnd;
+            inset_end = number_right h.insetStart;
+            margin_start = number_right h.marginEnd;
+            margin_end = number_right h.marginStart;
             area = record { start = h.areaEnd.r; end = h.area_start.r };
           };
       shapes =

@@ -14,12 +14,12 @@ use Rattle.mirror_axis.specs.Image.{image, reflected_place}
 -- whole quarter pixels: the area's size, insets and margins of L quarters at most, the static area of A
 pub record Bounded (L A : ℕ) (a : OofAxis) : Type 0 where
   pub size : Quarters L a.size
-  pub insetStart : MaybeQuarters L a.inset.start
-  pub insetEnd : MaybeQuarters L a.inset.end
-  pub marginStart : MaybeQuarters L a.margin.start
-  pub marginEnd : MaybeQuarters L a.margin.end
+  pub inset_start : MaybeQuarters L a.inset.start
+  pub inset_end : MaybeQuarters L a.inset.end
+  pub margin_start : MaybeQuarters L a.margin.start
+  pub margin_end : MaybeQuarters L a.margin.end
   pub area_start : Quarters A a.place.area.start
-  pub areaEnd : Quarters A a.place.area.end
+  pub area_end : Quarters A a.place.area.end
 
 -- the one condition on the bounds of lengths, static area and box size, in quarters: nothing that an axis computes reaches 2 ^ 20
 -- pixels, below which an f32 holds every sixteenth
@@ -29,14 +29,14 @@ Room L A S = T (ltb (16 * L + 6 * A + S) 4194304)
 -- an axis beside another of which it is the mirror image, with the box size in each
 pub record Mirrored (a a' : OofAxis) (size size' : Float) : Type 0 where
   -- the blocks are mirrored in the area
-  pub blockStart : AddUp ((block a).start ∷ (block a').end ∷ []) a.size
-  pub blockEnd : AddUp ((block a).end ∷ (block a').start ∷ []) a.size
+  pub block_start : AddUp ((block a).start ∷ (block a').end ∷ []) a.size
+  pub block_end : AddUp ((block a).end ∷ (block a').start ∷ []) a.size
   -- the sizes are shared
   pub stretch_fit : stretch_fit a' ≐ stretch_fit a
   pub stretches : (plain : Bool) → stretches a' plain ≡ stretches a plain
   -- the margins change places
-  pub marginStart : (placement a' size').margin.start ≐ (placement a size).margin.end
-  pub marginEnd : (placement a' size').margin.end ≐ (placement a size).margin.start
+  pub margin_start : (placement a' size').margin.start ≐ (placement a size).margin.end
+  pub margin_end : (placement a' size').margin.end ≐ (placement a size).margin.start
   -- the box stands as far from the left edge in one as from the right edge in the other
   pub position : AddUp ((placement a size).position ∷ (placement a' size').position ∷ size ∷ []) a.size
 

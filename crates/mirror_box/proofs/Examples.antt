@@ -218,7 +218,7 @@ met : MirroredBox panel.area (laid panel filled (candidate_at 0f Start) (replied
 unfolding of_bits of_int eq
 met =
     let zero : Quarter 0f = exactly 0 tt (refl, refl) in
-    let hb : QuarterContainer panel = record { width = exactly 400 tt (refl, refl); notZero = false≢true; offset = exactly 32 tt (refl, refl) } in
+    let hb : QuarterContainer panel = record { width = exactly 400 tt (refl, refl); not_zero = false≢true; offset = exactly 32 tt (refl, refl) } in
     let hc : QuarterCandidate (candidate_at 0f Start) = record { start = zero; end = zero } in
     lays_out_mirrored panel filled (candidate_at 0f Start) (image_candidate panel.area (candidate_at 0f Start)) (replied (quarters 121)) zero_rect hb
     (record {

@@ -35,12 +35,12 @@ use Rattle.mirror_axis.proofs.Opposite.{Opposite}
 use Rattle.mirror_box.specs.Image.{image_style}
 use Rattle.mirror_box.specs.Quarter.{QuarterLength, QuarterStyle, QuarterKeyword}
 use Rattle.mirror_box.proofs.Bounds.{length_bound, static_bound, size_bound}
-use Rattle.mirror_box.proofs.Lengths.{QuarterLimit, QuarterResolved, resolved-quarter}
-use Rattle.mirror_box.proofs.Shared.{SpaceSame, space, min, max, SizeShared, KnownShared, widen_known, clamped-shared}
+use Rattle.mirror_box.proofs.Lengths.{QuarterLimit, QuarterResolved, resolved_quarter}
+use Rattle.mirror_box.proofs.Shared.{SpaceSame, space, min, max, SizeShared, KnownShared, widen_known, clamped_shared}
 use Rattle.mirror_box.proofs.Resolve.{or_zero_lem, BoxShared}
 
 pub data KeywordSame : SizingKeywordResolution → SizingKeywordResolution → Type 0 where
-  noKeyword : KeywordSame NoKeyword NoKeyword
+  no_keyword : KeywordSame NoKeyword NoKeyword
   exact : {x x' : Float} → Same 4 size_bound x x' → KeywordSame (Exact x) (Exact x')
   measure : {s s' : AvailableSpace} → SpaceSame size_bound s s' → KeywordSame (Measure s) (Measure s')
 
@@ -79,29 +79,29 @@ by_keyword_lem keyword.Stretch q h = exact h
 
 of_resolved_lem : (r : Resolved) → QuarterResolved r → {x x' : Float} → Same 4 size_bound x x' → KeywordSame (of_resolved r x) (of_resolved r x')
 unfolding of_resolved
-of_resolved_lem NotAllowed q h = noKeyword
-of_resolved_lem Absent q h = noKeyword
-of_resolved_lem (Length x) q h = noKeyword
+of_resolved_lem NotAllowed q h = no_keyword
+of_resolved_lem Absent q h = no_keyword
+of_resolved_lem (Length x) q h = no_keyword
 of_resolved_lem (Keyword k) q h = by_keyword_lem k q h
 
 pub keyword_of_lem : (l : CompactLength) → QuarterLength l → {x x' : Float} → Same 4 size_bound x x' → {w w' : Float} → w ≡ w' → KeywordSame (keyword_of l x w) (keyword_of l x' w')
 unfolding keyword_of
-keyword_of_lem l q h {w} {w'} e = rw e (of_resolved_lem (resolved field.Size l w') (resolved-quarter field.Size l w' q) h)
+keyword_of_lem l q h {w} {w'} e = rw e (of_resolved_lem (resolved field.Size l w') (resolved_quarter field.Size l w' q) h)
 
 pub if_absent_lem : {b : ℕ} {m m' : MaybeF32} {k k' : SizingKeywordResolution} → MaybeSame 4 b m m' → KeywordSame k k' → KeywordSame (if_absent m k) (if_absent m' k')
 unfolding if_absent
-if_absent_lem (given h) k = noKeyword
+if_absent_lem (given h) k = no_keyword
 if_absent_lem absent k = k
 
 module _ (style : Style) (hs : QuarterStyle style) (box box' : ResolvedBox) (h : BoxShared box box') where
-  pub keywords-shared : KeywordsShared (size_keywords style box) (size_keywords (image_style style) box')
+  pub keywords_shared : KeywordsShared (size_keywords style box) (size_keywords (image_style style) box')
   unfolding size_keywords keywords_of image_style
-  keywords-shared = record { width = if_absent_lem h.size.width (keyword_of_lem style.size.width hs.size (stretch_size box box' h).width h.width); height = ap₂ if_absent h.size.height (ap₂ (keyword_of style.size.height) (stretch_size box box' h).height (ap (λ (a : OofAxis). a.size) h.vertical)) }
+  keywords_shared = record { width = if_absent_lem h.size.width (keyword_of_lem style.size.width hs.size (stretch_size box box' h).width h.width); height = ap₂ if_absent h.size.height (ap₂ (keyword_of style.size.height) (stretch_size box box' h).height (ap (λ (a : OofAxis). a.size) h.vertical)) }
 
   -- ratio, then clamp: there is no ratio
-  pub settled-shared : (b : ℕ) → size_bound ≤ b → (s s' : MaybeSize) → KnownShared b s s' → KnownShared b (settled None box s) (settled None box' s')
+  pub settled_shared : (b : ℕ) → size_bound ≤ b → (s s' : MaybeSize) → KnownShared b s s' → KnownShared b (settled None box s) (settled None box' s')
   unfolding settled with_ratio
-  settled-shared b i s s' k = clamped-shared (widen_known i h.min) (widen_known i h.max) k
+  settled_shared b i s s' k = clamped_shared (widen_known i h.min) (widen_known i h.max) k
 
 -- ---- the reply
 
@@ -112,12 +112,12 @@ measured_width_lem (reply.Width w) q = given (widen_same (lit≤ tt) (quarters_s
 measured_width_lem (reply.Height h) q = absent
 
 side_by_lem : {k k' : SizingKeywordResolution} {m m' n n' : MaybeF32} → KeywordSame k k' → MaybeSame 4 size_bound m m' → MaybeSame 4 size_bound n n' → MaybeSame 4 size_bound (side_by k m n) (side_by k' m' n')
-side_by_lem noKeyword m n = m
+side_by_lem no_keyword m n = m
 side_by_lem (exact h) m n = given h
 side_by_lem (measure s) m n = n
 
 keyword_told : {k k' : SizingKeywordResolution} → KeywordSame k k' → is_keyword k ≡ is_keyword k'
-keyword_told noKeyword = refl
+keyword_told no_keyword = refl
 keyword_told (exact h) = refl
 keyword_told (measure s) = refl
 
@@ -127,5 +127,5 @@ module _ (style : Style) (hs : QuarterStyle style) (box box' : ResolvedBox) (h :
   known_shared k k' e =
       rw hs.ratio
       (pick (KnownShared size_bound) (ap₂ ◌||◌ (keyword_told e.width) (ap is_keyword e.height))
-      (settled-shared style hs box box' h size_bound (lit≤ tt) _ _
+      (settled_shared style hs box box' h size_bound (lit≤ tt) _ _
       (record { width = side_by_lem e.width h.size.width (measured_width_lem r q); height = rw (e.height, h.size.height) })) h.size)

@@ -10,12 +10,12 @@ use Rattle.util_exact.proofs.Quarters.{units, quarters_exact}
 use Rattle.mirror_axis.specs.Image.{reflected, reflected_place}
 use Rattle.mirror_box.specs.Image.{other_direction, exchanged_lengths, edge_sum, image_container, image_style, image_candidate}
 use Rattle.mirror_box.specs.Law.{AsksMirrored, LaysOutMirrored, UnionsMirrored, ImageIsExact, TwiceIsOnce}
-use Rattle.mirror_box.proofs.Reflect.{edges, edges_total, mirrored-total}
-use Rattle.mirror_box.proofs.Resolve.{resolved-shared}
-use Rattle.mirror_box.proofs.Keywords.{keywords-shared}
-use Rattle.mirror_box.proofs.Stretch.{size-by}
-use Rattle.mirror_box.proofs.Questions.{asked-of}
-use Rattle.mirror_box.proofs.Place.{layout-mirrored, origin-x, origin-y}
+use Rattle.mirror_box.proofs.Reflect.{edges, edges_total, mirrored_total}
+use Rattle.mirror_box.proofs.Resolve.{resolved_shared}
+use Rattle.mirror_box.proofs.Keywords.{keywords_shared}
+use Rattle.mirror_box.proofs.Stretch.{size_by_lem}
+use Rattle.mirror_box.proofs.Questions.{asked_of_lem}
+use Rattle.mirror_box.proofs.Place.{layout_mirrored, origin_x, origin_y}
 use Rattle.mirror_box.proofs.Contribution.{contribution_same}
 use Rattle.mirror_box.proofs.Union as union
 
@@ -24,26 +24,26 @@ unfolding asked_after
 asks_mirrored container style candidate candidate' r hb hs hc hi q =
     let box = resolved_box container style candidate in
     let box' = resolved_box (image_container container) (image_style style) candidate' in
-    let h = resolved-shared container style candidate candidate' hb hs hc hi in
-    asked-of style hs box box' h (keywords-shared style hs box box' h) (sym hi.node) r q
+    let h = resolved_shared container style candidate candidate' hb hs hc hi in
+    asked_of_lem style hs box box' h (keywords_shared style hs box box' h) (sym hi.node) r q
 
 pub lays_out_mirrored : LaysOutMirrored
 unfolding layout_after box_layout resolved_box horizontal image_container image_style
 lays_out_mirrored container style candidate candidate' r overflow hb hs hc hi q qo =
     let box = resolved_box container style candidate in
     let box' = resolved_box (image_container container) (image_style style) candidate' in
-    let h = resolved-shared container style candidate candidate' hb hs hc hi in
-    let size = size-by style hs box box' h (keywords-shared style hs box box' h) r q in
+    let h = resolved_shared container style candidate candidate' hb hs hc hi in
+    let size = size_by_lem style hs box box' h (keywords_shared style hs box box' h) r q in
     record {
-      layout = layout-mirrored container hb style candidate candidate' hi box box' h refl _ _ size overflow;
+      layout = layout_mirrored container hb style candidate candidate' hi box box' h refl _ _ size overflow;
       contribution =
-          contribution_same (origin-x container hb style candidate candidate' hi box box' h refl _ _ size overflow)
-          (origin-y container hb style candidate candidate' hi box box' h refl _ _ size overflow) size overflow qo style.overflow style.contain
+          contribution_same (origin_x container hb style candidate candidate' hi box box' h refl _ _ size overflow)
+          (origin_y container hb style candidate candidate' hi box box' h refl _ _ size overflow) size overflow qo style.overflow style.contain
           (any_scroll_container container.overflow);
     }
 
 pub unions_mirrored : UnionsMirrored
-unions_mirrored = union.unions-mirrored
+unions_mirrored = union.unions_mirrored
 
 pub image_is_exact : ImageIsExact
 unfolding image_candidate edge_sum reflected reflected_place
@@ -54,8 +54,8 @@ image_is_exact container candidate hb hc =
       node = refl;
       order = refl;
       position = refl;
-      start = (sum, mirrored-total hb.offset hb.width hc.start, total);
-      end = (sum, mirrored-total hb.offset hb.width hc.end, total);
+      start = (sum, mirrored_total hb.offset hb.width hc.start, total);
+      end = (sum, mirrored_total hb.offset hb.width hc.end, total);
       align = refl;
       y = refl;
       layer = refl;

@@ -60,8 +60,8 @@ module _ (f : Field) (l : CompactLength) (basis : Float) (h : QuarterLength l) w
   at : (tag : ℕ) → eqb l.tag tag ≡ true → Keeps (rule_of tag) l.value
   at tag e = subst (λ (t : ℕ). Keeps (rule_of t) l.value) (eqb-true l.tag tag e) h
 
-  in-size-quarter : QuarterResolved (in_size l.tag l.value basis)
-  in-size-quarter =
+  in_size_quarter : QuarterResolved (in_size l.tag l.value basis)
+  in_size_quarter =
       either QuarterResolved (eqb l.tag 11) (λ _. tt)
       (λ _. either QuarterResolved (eqb l.tag 15) (λ e. absurd (at 15 e))
       (λ _. either QuarterResolved (eqb l.tag 27) (λ _. tt)
@@ -70,14 +70,14 @@ module _ (f : Field) (l : CompactLength) (basis : Float) (h : QuarterLength l) w
       (λ _. either QuarterResolved (eqb l.tag 59) (λ _. tt)
       (λ _. either QuarterResolved (eqb l.tag 75) (λ _. tt) (λ _. tt)))))))
 
-  pub resolved-quarter : QuarterResolved (resolved f l basis)
+  pub resolved_quarter : QuarterResolved (resolved f l basis)
   unfolding resolved by_tag
-  resolved-quarter =
+  resolved_quarter =
       either QuarterResolved (eqb l.tag 1) (λ e. at 1 e)
       (λ _. either QuarterResolved (eqb l.tag 3) (λ _. auto_quarter f)
       (λ _. either QuarterResolved (eqb l.tag 5) (λ e. absurd (at 5 e))
       (λ _. either QuarterResolved (eqb l.tag 129) (λ e. absurd (at 129 e))
-      (λ _. from_size_quarter f (in_size l.tag l.value basis) in-size-quarter))))
+      (λ _. from_size_quarter f (in_size l.tag l.value basis) in_size_quarter))))
 
 value_quarter : (r : Resolved) → QuarterResolved r → MaybeQuarters 16384 (value_of r)
 value_quarter NotAllowed h = tt
@@ -88,4 +88,4 @@ value_quarter (Keyword k) h = tt
 -- a length is the same number in both runs: it is the same word
 pub length_same : (f : Field) (l : CompactLength) (basis : Float) → QuarterLength l → MaybeSame 4 length_bound (maybe_resolved f l basis) (maybe_resolved f l basis)
 unfolding maybe_resolved
-length_same f l basis h = maybe_quarters_same 16384 (value_of (resolved f l basis)) (value_quarter (resolved f l basis) (resolved-quarter f l basis h))
+length_same f l basis h = maybe_quarters_same 16384 (value_of (resolved f l basis)) (value_quarter (resolved f l basis) (resolved_quarter f l basis h))

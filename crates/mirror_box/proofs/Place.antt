@@ -26,7 +26,7 @@ use Rattle.util_exact.proofs.Exact.{Exact, sixteenths, recast, widen, any}
 use Rattle.util_exact.proofs.Sum.{add_exact, sub_exact}
 use Rattle.util_exact.proofs.Quarters.{units, quarters_exact}
 use Rattle.util_exact.proofs.Same.{Same, same, equal}
-use Rattle.mirror_axis.proofs.Facing.{Filled, start-is-end, end-is-start, positions}
+use Rattle.mirror_axis.proofs.Facing.{Filled, start_is_end, end_is_start, positions}
 use Rattle.mirror_box.specs.Image.{other_direction, image_container, image_style}
 use Rattle.mirror_box.specs.Quarter.{QuarterContainer}
 use Rattle.mirror_box.specs.Mirrored.{CandidateImage, MirroredLayout}
@@ -42,17 +42,17 @@ module _ {off : Float} (qo : Quarter off) {p : Float} {a : N} (hp : Exact 1 plac
   moved = add_exact hp (any (quarters_exact qo)) (lit< tt)
 
   -- from the area's left edge
-  from-left : Exact 1 (50 * length_bound) (p ⊕ off ⊖ off) a
-  from-left = recast (omega arith) (sub_exact moved (any (quarters_exact qo)) (lit< tt))
+  from_left : Exact 1 (50 * length_bound) (p ⊕ off ⊖ off) a
+  from_left = recast (omega arith) (sub_exact moved (any (quarters_exact qo)) (lit< tt))
 
   -- from its right edge, to the far side of the box
-  from-right : {w s : Float} {ω u : N} → Exact 4 length_bound w ω → Exact 4 fit_bound s u → Exact 1 origin_bound (w ⊖ (p ⊕ off ⊖ off) ⊖ s) (sub_n (sub_n ω a) u)
-  from-right hw hs = sub_exact (sub_exact (any hw) from-left (lit< tt)) (any hs) (lit< tt)
+  from_right : {w s : Float} {ω u : N} → Exact 4 length_bound w ω → Exact 4 fit_bound s u → Exact 1 origin_bound (w ⊖ (p ⊕ off ⊖ off) ⊖ s) (sub_n (sub_n ω a) u)
+  from_right hw hs = sub_exact (sub_exact (any hw) from_left (lit< tt)) (any hs) (lit< tt)
 
 module _ {off w s s' p p' : Float} {ω : N} (qo : Quarter off) (hw : Exact 4 length_bound w ω) (hs : Same 4 fit_bound s s') (hp : Filled place_bound ω hs.a p p') where
   -- the two x and the width make 2 × offset + the area's width
-  pub x-total : Total ((p ⊕ off) ∷ (p' ⊕ off) ∷ s ∷ []) (edges (units qo) ω)
-  x-total =
+  pub x_total : Total ((p ⊕ off) ∷ (p' ⊕ off) ∷ s ∷ []) (edges (units qo) ω)
+  x_total =
       let a = add_n hp.a (units qo) in
       let a' = add_n hp.a' (units qo) in
       let u = hs.a in
@@ -60,10 +60,10 @@ module _ {off w s s' p p' : Float} {ω : N} (qo : Quarter off) (hw : Exact 4 len
       (a, add_n a' (add_n u zero_n), sixteenths (moved qo hp.l), (a', add_n u zero_n, sixteenths (moved qo hp.r), (u, zero_n, sixteenths hs.l, refl, refl), refl), omega arith)
 
   -- counted from the start edge, in either direction, the two are one number
-  pub origin-same : (d : Direction) → Same 1 origin_bound (cond (is_rtl d) (w ⊖ (p ⊕ off ⊖ off) ⊖ s) (p ⊕ off ⊖ off)) (cond (is_rtl (other_direction d)) (w ⊖ (p' ⊕ off ⊖ off) ⊖ s') (p' ⊕ off ⊖ off))
+  pub origin_same : (d : Direction) → Same 1 origin_bound (cond (is_rtl d) (w ⊖ (p ⊕ off ⊖ off) ⊖ s) (p ⊕ off ⊖ off)) (cond (is_rtl (other_direction d)) (w ⊖ (p' ⊕ off ⊖ off) ⊖ s') (p' ⊕ off ⊖ off))
   unfolding other_direction
-  origin-same Ltr = let e = hp.fill in same (widen (lit≤ tt) (from-left qo hp.l)) (from-right qo hp.r hw hs.r) (omega arith)
-  origin-same Rtl = let e = hp.fill in same (from-right qo hp.l hw hs.l) (widen (lit≤ tt) (from-left qo hp.r)) (omega arith)
+  origin_same Ltr = let e = hp.fill in same (widen (lit≤ tt) (from_left qo hp.l)) (from_right qo hp.r hw hs.r) (omega arith)
+  origin_same Rtl = let e = hp.fill in same (from_right qo hp.l hw hs.l) (widen (lit≤ tt) (from_left qo hp.r)) (omega arith)
 
 -- ---- layouts
 
@@ -79,32 +79,32 @@ module _ (container : ContainingBlock) (hb : QuarterContainer container) (style 
   downward : placement box.vertical size.height ≡ placement box'.vertical size'.height
   downward = ap₂ placement h.vertical hs.height
 
-  pub layout-mirrored : (overflow : Rect) → MirroredLayout container.area (layout_of container style candidate box size overflow) (layout_of (image_container container) (image_style style) candidate' box' size' overflow)
+  pub layout_mirrored : (overflow : Rect) → MirroredLayout container.area (layout_of container style candidate box size overflow) (layout_of (image_container container) (image_style style) candidate' box' size' overflow)
   unfolding layout_of image_container image_style
-  layout-mirrored overflow =
+  layout_mirrored overflow =
       record {
         order = sym hi.order;
         size = size_told hs;
         overflow = refl;
         scrollbar = refl;
-        x = (edges (units hb.offset) h.faces.α.size, x-total hb.offset wide hs.width places, edges_total (quarters_exact hb.offset) wide);
+        x = (edges (units hb.offset) h.faces.α.size, x_total hb.offset wide hs.width places, edges_total (quarters_exact hb.offset) wide);
         y = ap (λ (p : AxisPlacement). p.position ⊕ container.area.offset.y) downward;
         padding = h.padding;
         border = h.border;
-        marginLeft = equal (start-is-end length_bound static_bound fit_bound (lit< tt) box.horizontal box'.horizontal h.faces size.width size'.width hs.width);
-        marginRight = equal (end-is-start length_bound static_bound fit_bound (lit< tt) box.horizontal box'.horizontal h.faces size.width size'.width hs.width);
-        marginTop = ap (λ (p : AxisPlacement). p.margin.start) downward;
-        marginBottom = ap (λ (p : AxisPlacement). p.margin.end) downward;
+        margin_left = equal (start_is_end length_bound static_bound fit_bound (lit< tt) box.horizontal box'.horizontal h.faces size.width size'.width hs.width);
+        margin_right = equal (end_is_start length_bound static_bound fit_bound (lit< tt) box.horizontal box'.horizontal h.faces size.width size'.width hs.width);
+        margin_top = ap (λ (p : AxisPlacement). p.margin.start) downward;
+        margin_bottom = ap (λ (p : AxisPlacement). p.margin.end) downward;
       }
 
   -- ---- the location from the scroll origin
 
-  pub origin-x : (overflow : Rect) → Same 1 origin_bound (from_origin container (layout_of container style candidate box size overflow).location size).x
+  pub origin_x : (overflow : Rect) → Same 1 origin_bound (from_origin container (layout_of container style candidate box size overflow).location size).x
       (from_origin (image_container container) (layout_of (image_container container) (image_style style) candidate' box' size' overflow).location size').x
   unfolding from_origin layout_of image_container
-  origin-x overflow = origin-same hb.offset wide hs.width places container.direction
+  origin_x overflow = origin_same hb.offset wide hs.width places container.direction
 
-  pub origin-y : (overflow : Rect) → (from_origin container (layout_of container style candidate box size overflow).location size).y
+  pub origin_y : (overflow : Rect) → (from_origin container (layout_of container style candidate box size overflow).location size).y
       ≡ (from_origin (image_container container) (layout_of (image_container container) (image_style style) candidate' box' size' overflow).location size').y
   unfolding from_origin image_container
-  origin-y overflow = ap (λ (y : Float). y ⊖ container.area.offset.y) (layout-mirrored overflow).y
+  origin_y overflow = ap (λ (y : Float). y ⊖ container.area.offset.y) (layout_mirrored overflow).y

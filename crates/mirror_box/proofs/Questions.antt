@@ -12,7 +12,7 @@ use Rattle.oof_common.specs.declared.sizing_keyword.SizingKeywordResolution.{Siz
 use Rattle.oof_common.specs.declared.sizing_keyword.SizingKeywordResolution.TheVariants.{NoKeyword, Exact, Measure}
 use Rattle.oof_common.specs.declared.sizing_keyword.SizingKeywords.{SizingKeywords}
 use Rattle.oof_resolve.specs.declared.ResolvedBox.{ResolvedBox}
-use Rattle.oof_box.specs.Cut.{both_asked, width_asked, height_asked, keyword_asked, fill_given, is_first, or_later, size_asked, asked_of}
+use Rattle.oof_box.specs.Cut.{both_asked, width_asked, height_asked, keyword_asked, fill_given, is_first, or_later_lem, size_asked, asked_of}
 use Rattle.oof_box.specs.declared.dialogue.KeywordQuestion.{KeywordQuestion}
 use Rattle.oof_box.specs.declared.dialogue.KeywordQuestion.TheVariants as asks
 use Rattle.oof_box.specs.declared.question.Asked.{Asked}
@@ -25,8 +25,8 @@ use Rattle.mirror_box.specs.Mirrored.{none, measure_both, measure_width, measure
 use Rattle.mirror_box.proofs.Bounds.{size_bound}
 use Rattle.mirror_box.proofs.Shared.{SpaceSame, space, SizeShared, KnownShared, size_told, known_told, space_told, both_present_lem}
 use Rattle.mirror_box.proofs.Resolve.{BoxShared}
-use Rattle.mirror_box.proofs.Keywords.{KeywordSame, noKeyword, exact, measure, KeywordsShared, stretch_size}
-use Rattle.mirror_box.proofs.Stretch.{stretched-by, final-size}
+use Rattle.mirror_box.proofs.Keywords.{KeywordSame, no_keyword, exact, measure, KeywordsShared, stretch_size}
+use Rattle.mirror_box.proofs.Stretch.{stretched_by_lem, final_size_lem}
 
 data QuestionSame : KeywordQuestion → KeywordQuestion → Type 0 where
   not_asked : QuestionSame asks.None asks.None
@@ -35,8 +35,8 @@ data QuestionSame : KeywordQuestion → KeywordQuestion → Type 0 where
 -- ---- step 4
 
 module _ {node node' : ℕ} (n : node ≡ node') where
-  both-asked : {s s' : AvailableSpace} (t : AvailableSpace) → SpaceSame size_bound s s' → QuestionSame (both_asked node s t) (both_asked node' s' t)
-  both-asked t h =
+  both_asked_lem : {s s' : AvailableSpace} (t : AvailableSpace) → SpaceSame size_bound s s' → QuestionSame (both_asked node s t) (both_asked node' s' t)
+  both_asked_lem t h =
       asked
       (record {
         stage = refl;
@@ -46,16 +46,16 @@ module _ {node node' : ℕ} (n : node ≡ node') where
       })
 
   module _ {known known' : MaybeSize} (k : KnownShared size_bound known known') {stretch stretch' : Size} (s : SizeShared size_bound stretch stretch') where
-    width-asked : {a a' : AvailableSpace} → SpaceSame size_bound a a' → QuestionSame (width_asked node a known stretch) (width_asked node' a' known' stretch')
-    width-asked h =
+    width_asked_lem : {a a' : AvailableSpace} → SpaceSame size_bound a a' → QuestionSame (width_asked node a known stretch) (width_asked node' a' known' stretch')
+    width_asked_lem h =
         asked
         (record {
           stage = refl;
           question = measure_width (record { node = n; known = known_told k; space = space_told (record { width = h; height = ap Definite s.height }) });
         })
 
-    height-asked : {w w' : MaybeF32} (down : AvailableSpace) → MaybeSame 4 size_bound w w' → QuestionSame (height_asked node w down known stretch) (height_asked node' w' down known' stretch')
-    height-asked down h =
+    height_asked_lem : {w w' : MaybeF32} (down : AvailableSpace) → MaybeSame 4 size_bound w w' → QuestionSame (height_asked node w down known stretch) (height_asked node' w' down known' stretch')
+    height_asked_lem down h =
         asked
         (record {
           stage = refl;
@@ -68,41 +68,41 @@ module _ {node node' : ℕ} (n : node ≡ node') where
               });
         })
 
-    keyword-asked : {wide wide' : SizingKeywordResolution} → KeywordSame wide wide' → (tall : SizingKeywordResolution) → QuestionSame (keyword_asked node wide tall known stretch) (keyword_asked node' wide' tall known' stretch')
+    keyword_asked_lem : {wide wide' : SizingKeywordResolution} → KeywordSame wide wide' → (tall : SizingKeywordResolution) → QuestionSame (keyword_asked node wide tall known stretch) (keyword_asked node' wide' tall known' stretch')
     unfolding keyword_asked
-    keyword-asked noKeyword NoKeyword = not_asked
-    keyword-asked noKeyword (Exact x) = not_asked
-    keyword-asked noKeyword (Measure down) = height-asked down k.width
-    keyword-asked (exact h) NoKeyword = not_asked
-    keyword-asked (exact h) (Exact x) = not_asked
-    keyword-asked (exact h) (Measure down) = height-asked down (given h)
-    keyword-asked (measure h) NoKeyword = width-asked h
-    keyword-asked (measure h) (Exact x) = width-asked h
-    keyword-asked (measure h) (Measure down) = both-asked down h
+    keyword_asked_lem no_keyword NoKeyword = not_asked
+    keyword_asked_lem no_keyword (Exact x) = not_asked
+    keyword_asked_lem no_keyword (Measure down) = height_asked_lem down k.width
+    keyword_asked_lem (exact h) NoKeyword = not_asked
+    keyword_asked_lem (exact h) (Exact x) = not_asked
+    keyword_asked_lem (exact h) (Measure down) = height_asked_lem down (given h)
+    keyword_asked_lem (measure h) NoKeyword = width_asked_lem h
+    keyword_asked_lem (measure h) (Exact x) = width_asked_lem h
+    keyword_asked_lem (measure h) (Measure down) = both_asked_lem down h
 
-    keyword-asked-by : {wide wide' tall tall' : SizingKeywordResolution} → KeywordSame wide wide' → tall ≡ tall' → QuestionSame (keyword_asked node wide tall known stretch) (keyword_asked node' wide' tall' known' stretch')
-    keyword-asked-by {wide} {wide'} {tall} h e = subst (λ (t : SizingKeywordResolution). QuestionSame (keyword_asked node wide tall known stretch) (keyword_asked node' wide' t known' stretch')) e (keyword-asked h tall)
+    keyword_asked_by : {wide wide' tall tall' : SizingKeywordResolution} → KeywordSame wide wide' → tall ≡ tall' → QuestionSame (keyword_asked node wide tall known stretch) (keyword_asked node' wide' tall' known' stretch')
+    keyword_asked_by {wide} {wide'} {tall} h e = subst (λ (t : SizingKeywordResolution). QuestionSame (keyword_asked node wide tall known stretch) (keyword_asked node' wide' t known' stretch')) e (keyword_asked_lem h tall)
 
-or_later_lem : {q q' : KeywordQuestion} {a a' : Asked} → QuestionSame q q' → SameAsked a a' → SameAsked (or_later q a) (or_later q' a')
+or_later_lem : {q q' : KeywordQuestion} {a a' : Asked} → QuestionSame q q' → SameAsked a a' → SameAsked (or_later_lem q a) (or_later_lem q' a')
 or_later_lem not_asked h = h
 or_later_lem (asked k) h = k
 
 module _ (style : Style) (hs : QuarterStyle style) (box box' : ResolvedBox) (h : BoxShared box box') {keywords keywords' : SizingKeywords} (k : KeywordsShared keywords keywords')
     {node node' : ℕ} (n : node ≡ node') (r : Replies) (q : QuarterReplies r) where
   -- steps 5 and 6, lay out
-  size-asked : SameAsked (size_asked node style box keywords r) (size_asked node' (image_style style) box' keywords' r)
+  size_asked_lem : SameAsked (size_asked node style box keywords r) (size_asked node' (image_style style) box' keywords' r)
   unfolding size_asked
-  size-asked =
-      let at = stretched-by style hs box box' h k r q in
+  size_asked_lem =
+      let at = stretched_by_lem style hs box box' h k r q in
       pick SameAsked (ap (λ (t : Bool). fill_given r.fill || t) (both_present_lem at.known))
       (record {
         stage = refl;
-        question = lay_out (record { node = n; size = size_told (final-size style hs box box' h k r q at); space = space_told h.space });
+        question = lay_out (record { node = n; size = size_told (final_size_lem style hs box box' h k r q at); space = space_told h.space });
       })
       (record { stage = refl; question = measure_both (record { node = n; known = known_told at.known; space = space_told h.space }) })
 
-  pub asked-of : SameAsked (asked_of node style box keywords r) (asked_of node' (image_style style) box' keywords' r)
+  pub asked_of_lem : SameAsked (asked_of node style box keywords r) (asked_of node' (image_style style) box' keywords' r)
   unfolding asked_of
-  asked-of =
+  asked_of_lem =
       pick SameAsked {t = is_first r.keyword r.fill} refl
-      (or_later_lem (keyword-asked-by n h.size (stretch_size box box' h) k.width k.height) size-asked) size-asked
+      (or_later_lem (keyword_asked_by n h.size (stretch_size box box' h) k.width k.height) size_asked_lem) size_asked_lem

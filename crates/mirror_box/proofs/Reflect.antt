@@ -35,33 +35,33 @@ module _ {off w x : Float} (qo : Quarter off) (qw : Quarter w) (qx : Quarter x) 
   mirrored = sub_n (edges (units qo) (units qw)) (units qx)
 
   -- as document 01 writes it
-  mirrored-float : Exact 4 (4 * length_bound) (2f ⊗ off ⊕ w ⊖ x) mirrored
-  mirrored-float =
+  mirrored_float : Exact 4 (4 * length_bound) (2f ⊗ off ⊕ w ⊖ x) mirrored
+  mirrored_float =
       recast (omega arith)
       (sub_exact (add_exact (finer 2 {g = 4} (dbl_exact (quarters_exact qo) (lit< tt))) (quarters_exact qw) (lit< tt)) (quarters_exact qx) (lit< tt))
 
   -- any float that adds up with x to it
-  mirrored-exact : (x' : Float) (s : N) → Total (x ∷ x' ∷ []) s → Total (off ∷ off ∷ w ∷ []) s → Exact 4 (4 * length_bound) x' mirrored
-  mirrored-exact x' s t u =
+  mirrored_exact : (x' : Float) (s : N) → Total (x ∷ x' ∷ []) s → Total (off ∷ off ∷ w ∷ []) s → Exact 4 (4 * length_bound) x' mirrored
+  mirrored_exact x' s t u =
       let ex = one_integer x t.0 (units qx) t.2 (sixteenths (quarters_exact qx)) in
       let eo = one_integer off u.0 (units qo) u.2 (sixteenths (quarters_exact qo)) in
       let eo' = one_integer off u.3.0 (units qo) u.3.2 (sixteenths (quarters_exact qo)) in
       let ew = one_integer w u.3.3.0 (units qw) u.3.3.2 (sixteenths (quarters_exact qw)) in
       let e : EqN t.3.0 mirrored = omega (arith, t.4, t.3.3, t.3.4, u.4, u.3.4, u.3.3.3, u.3.3.4) in
-      let m = recast_mult 4 mirrored t.3.0 (sym e) mirrored-float.mult in
-      tighten (4 * length_bound) (reach mirrored-float) (recast e (of_sixteenths 4 t.3.2 m))
+      let m = recast_mult 4 mirrored t.3.0 (sym e) mirrored_float.mult in
+      tighten (4 * length_bound) (reach mirrored_float) (recast e (of_sixteenths 4 t.3.2 m))
 
-  pub mirrored-total : Total (x ∷ (2f ⊗ off ⊕ w ⊖ x) ∷ []) (edges (units qo) (units qw))
-  mirrored-total = (units qx, add_n mirrored zero_n, sixteenths (quarters_exact qx), (mirrored, zero_n, sixteenths mirrored-float, refl, refl), omega arith)
+  pub mirrored_total : Total (x ∷ (2f ⊗ off ⊕ w ⊖ x) ∷ []) (edges (units qo) (units qw))
+  mirrored_total = (units qx, add_n mirrored zero_n, sixteenths (quarters_exact qx), (mirrored, zero_n, sixteenths mirrored_float, refl, refl), omega arith)
 
   -- less the offset, both add up to the width
-  pub mirrored-across : (x' : Float) (s : N) → Total (x ∷ x' ∷ []) s → Total (off ∷ off ∷ w ∷ []) s → Across static_bound (units qw) (x ⊖ off) (x' ⊖ off)
-  mirrored-across x' s t u =
+  pub mirrored_across : (x' : Float) (s : N) → Total (x ∷ x' ∷ []) s → Total (off ∷ off ∷ w ∷ []) s → Across static_bound (units qw) (x ⊖ off) (x' ⊖ off)
+  mirrored_across x' s t u =
       let ho = quarters_exact qo in
       let hw = quarters_exact qw in
       let hx = quarters_exact qx in
       record {
         at = sub_n (units qx) (units qo);
         l = tighten static_bound (omega (arith, reach ho, reach hx)) (sub_exact hx ho (lit< tt));
-        r = tighten static_bound (omega (arith, reach ho, reach hw, reach hx)) (recast (omega arith) (sub_exact (mirrored-exact x' s t u) ho (lit< tt)));
+        r = tighten static_bound (omega (arith, reach ho, reach hw, reach hx)) (recast (omega arith) (sub_exact (mirrored_exact x' s t u) ho (lit< tt)));
       }

@@ -31,14 +31,14 @@ use Rattle.util_exact.proofs.Quarters.{units, quarters_exact}
 use Rattle.util_exact.proofs.Same.{Same, MaybeSame, quarters_same, zero_same, add_same, sub_same, larger_same, unwrap_same}
 use Rattle.mirror_axis.specs.Image.{other_align}
 use Rattle.mirror_axis.proofs.Opposite.{Opposite, opposite_faces}
-use Rattle.mirror_axis.proofs.Facing.{Facing, stretch-shared}
+use Rattle.mirror_axis.proofs.Facing.{Facing, stretch_shared}
 use Rattle.mirror_box.specs.Image.{other_direction, exchanged_lengths, exchanged_rect, image_container, image_style}
 use Rattle.mirror_box.specs.Quarter.{QuarterLength, QuarterContainer, QuarterStyle, QuarterCandidate}
 use Rattle.mirror_box.specs.Mirrored.{CandidateImage}
 use Rattle.mirror_box.proofs.Bounds.{length_bound, static_bound, edges_bound, size_bound, fit_bound}
 use Rattle.mirror_box.proofs.Lengths.{length_same}
-use Rattle.mirror_box.proofs.Reflect.{mirrored-across}
-use Rattle.mirror_box.proofs.Shared.{SizeShared, KnownShared, SpaceShared, widen_known, widen_size, zero_shared, definite_shared, smaller_shared, first_shared, added_shared, raised_shared, clamped-shared, definite_spaces_lem, spaces-shared}
+use Rattle.mirror_box.proofs.Reflect.{mirrored_across}
+use Rattle.mirror_box.proofs.Shared.{SizeShared, KnownShared, SpaceShared, widen_known, widen_size, zero_shared, definite_shared, smaller_shared, first_shared, added_shared, raised_shared, clamped_shared, definite_spaces_lem, spaces_shared}
 
 -- ---- directions
 
@@ -86,19 +86,19 @@ module _ (container : ContainingBlock) (style : Style) (candidate candidate' : O
   sides : (l : CompactLength) → QuarterLength l → MaybeSame 4 length_bound (maybe_resolved field.InsetOrMargin l area.width) (maybe_resolved field.InsetOrMargin l area.width)
   sides l = length_same field.InsetOrMargin l area.width
 
-  pub horizontal-opposite : Opposite length_bound static_bound (horizontal container style candidate) (horizontal (image_container container) (image_style style) candidate')
+  pub horizontal_opposite : Opposite length_bound static_bound (horizontal container style candidate) (horizontal (image_container container) (image_style style) candidate')
   unfolding horizontal less_offset of_each_axis of_width resolved_rect self_relative image_container image_style exchanged_lengths other_align
-  horizontal-opposite =
+  horizontal_opposite =
       record {
         size = record { a = units hb.width; l = quarters_exact hb.width; r = quarters_exact hb.width };
-        insetStart = sides style.inset.left hs.inset.left;
-        insetEnd = sides style.inset.right hs.inset.right;
-        marginStart = sides style.margin.left hs.margin.left;
-        marginEnd = sides style.margin.right hs.margin.right;
-        area_start = mirrored-across hb.offset hb.width hc.start candidate'.place.x.area.end hi.start.0 hi.start.1 hi.start.2;
-        areaEnd = mirrored-across hb.offset hb.width hc.end candidate'.place.x.area.start hi.end.0 hi.end.1 hi.end.2;
+        inset_start = sides style.inset.left hs.inset.left;
+        inset_end = sides style.inset.right hs.inset.right;
+        margin_start = sides style.margin.left hs.margin.left;
+        margin_end = sides style.margin.right hs.margin.right;
+        area_start = mirrored_across hb.offset hb.width hc.start candidate'.place.x.area.end hi.start.0 hi.start.1 hi.start.2;
+        area_end = mirrored_across hb.offset hb.width hc.end candidate'.place.x.area.start hi.end.0 hi.end.1 hi.end.2;
         keyword = ap (λ (s : AxisStaticAlign). s.keyword) hi.align;
-        placeSafety = ap (λ (s : AxisStaticAlign). s.safety) hi.align;
+        place_safety = ap (λ (s : AxisStaticAlign). s.safety) hi.align;
         alignment = ap (λ (t : Bool). from_resolved (keyword_relative style.justify.keyword t)) (differs_other style.direction container.direction);
         safety = refl;
         inline = refl;
@@ -106,22 +106,22 @@ module _ (container : ContainingBlock) (style : Style) (candidate candidate' : O
         scrolls = refl;
       }
 
-  pub vertical-same : vertical container style candidate ≡ vertical (image_container container) (image_style style) candidate'
+  pub vertical_same : vertical container style candidate ≡ vertical (image_container container) (image_style style) candidate'
   unfolding vertical of_each_axis of_width resolved_rect self_relative image_container image_style exchanged_lengths
-  vertical-same = rw hi.y
+  vertical_same = rw hi.y
 
   -- padding, or border: left and right are exchanged
-  pub padding-exchanged : (r : LengthRect) → exchanged_rect (padding_or_border r area) ≡ padding_or_border (exchanged_lengths r) area
+  pub padding_exchanged : (r : LengthRect) → exchanged_rect (padding_or_border r area) ≡ padding_or_border (exchanged_lengths r) area
   unfolding padding_or_border of_width resolved_rect rect_or_zero exchanged_rect exchanged_lengths
-  padding-exchanged r = refl
+  padding_exchanged r = refl
 
   -- ---- step 2
 
   -- padding plus border
-  pub edges-shared : SizeShared edges_bound (sums (rect_sum (padding_or_border style.padding area) (padding_or_border style.border area)))
+  pub edges_shared : SizeShared edges_bound (sums (rect_sum (padding_or_border style.padding area) (padding_or_border style.border area)))
       (sums (rect_sum (padding_or_border (image_style style).padding area) (padding_or_border (image_style style).border area)))
   unfolding sums sum_x sum_y rect_sum padding_or_border of_width resolved_rect rect_or_zero image_style exchanged_lengths
-  edges-shared =
+  edges_shared =
       record {
         width =
             sum_turned (add_same (edge style.padding.left hs.padding.left) (edge style.border.left hs.border.left) (lit< tt))
@@ -132,40 +132,40 @@ module _ (container : ContainingBlock) (style : Style) (candidate candidate' : O
       edge : (l : CompactLength) → QuarterLength l → Same 4 length_bound (or_zero (maybe_resolved field.PaddingOrBorder l area.width)) (or_zero (maybe_resolved field.PaddingOrBorder l area.width))
       edge l h = or_zero_lem (length_same field.PaddingOrBorder l area.width h)
 
-  size-shared : (f : Field) (lengths : LengthSize) → QuarterLength lengths.width → (e e' : Size) → SizeShared edges_bound e e'
+  size_shared : (f : Field) (lengths : LengthSize) → QuarterLength lengths.width → (e e' : Size) → SizeShared edges_bound e e'
       → KnownShared size_bound (style_size f lengths style area e) (style_size f lengths (image_style style) area e')
   unfolding style_size with_ratio resolved_size image_style
-  size-shared f lengths h e e' k =
+  size_shared f lengths h e e' k =
       rw hs.ratio
       (added_shared (record { width = length_same f lengths.width area.width h; height = refl }) (pick (SizeShared edges_bound) {t = is_content_box style.sizing} refl k zero_shared) (lit< tt))
 
-  min-shared : (e e' : Size) → SizeShared edges_bound e e' → KnownShared size_bound (min_size style area e) (min_size (image_style style) area e')
+  min_shared : (e e' : Size) → SizeShared edges_bound e e' → KnownShared size_bound (min_size style area e) (min_size (image_style style) area e')
   unfolding min_size image_style
-  min-shared e e' k =
+  min_shared e e' k =
       let k' = widen_size (lit≤ tt) k in
-      raised_shared (first_shared (size-shared field.MinOrMax style.min hs.min e e' k) (definite_shared k')) k'
+      raised_shared (first_shared (size_shared field.MinOrMax style.min hs.min e e' k) (definite_shared k')) k'
 
   -- ---- step 3
 
   faces : Facing length_bound static_bound (horizontal container style candidate) (horizontal (image_container container) (image_style style) candidate')
   unfolding horizontal
-  faces = opposite_faces length_bound static_bound (horizontal container style candidate) (horizontal (image_container container) (image_style style) candidate') horizontal-opposite hb.notZero
+  faces = opposite_faces length_bound static_bound (horizontal container style candidate) (horizontal (image_container container) (image_style style) candidate') horizontal_opposite hb.notZero
 
-  fit-shared : SizeShared fit_bound (record { width = stretch_fit (horizontal container style candidate); height = stretch_fit (vertical container style candidate) })
+  fit_shared : SizeShared fit_bound (record { width = stretch_fit (horizontal container style candidate); height = stretch_fit (vertical container style candidate) })
       (record {
         width = stretch_fit (horizontal (image_container container) (image_style style) candidate');
         height = stretch_fit (vertical (image_container container) (image_style style) candidate');
       })
-  fit-shared =
+  fit_shared =
       record {
-        width = stretch-shared length_bound static_bound (lit< tt) (horizontal container style candidate) (horizontal (image_container container) (image_style style) candidate') faces;
-        height = ap stretch_fit vertical-same;
+        width = stretch_shared length_bound static_bound (lit< tt) (horizontal container style candidate) (horizontal (image_container container) (image_style style) candidate') faces;
+        height = ap stretch_fit vertical_same;
       }
 
-  less-shared : SizeShared static_bound (less_margins area (rect_or_zero (of_width field.InsetOrMargin style.margin area)))
+  less_shared : SizeShared static_bound (less_margins area (rect_or_zero (of_width field.InsetOrMargin style.margin area)))
       (less_margins area (rect_or_zero (of_width field.InsetOrMargin (image_style style).margin area)))
   unfolding less_margins sum_x sum_y rect_or_zero of_width resolved_rect image_style exchanged_lengths
-  less-shared =
+  less_shared =
       record {
         width =
             larger_same
@@ -174,28 +174,28 @@ module _ (container : ContainingBlock) (style : Style) (candidate candidate' : O
         height = refl;
       }
 
-  space-shared : (fit fit' : Size) → SizeShared fit_bound fit fit' → SizeShared fit_bound (space_for style area fit) (space_for (image_style style) area fit')
+  space_shared : (fit fit' : Size) → SizeShared fit_bound fit fit' → SizeShared fit_bound (space_for style area fit) (space_for (image_style style) area fit')
   unfolding space_for image_style
-  space-shared fit fit' k = pick (SizeShared fit_bound) {t = style.table} refl (smaller_shared k (widen_size (lit≤ tt) less-shared)) k
+  space_shared fit fit' k = pick (SizeShared fit_bound) {t = style.table} refl (smaller_shared k (widen_size (lit≤ tt) less_shared)) k
 
   -- ---- all of it
 
-  pub resolved-shared : BoxShared (resolved_box container style candidate) (resolved_box (image_container container) (image_style style) candidate')
+  pub resolved_shared : BoxShared (resolved_box container style candidate) (resolved_box (image_container container) (image_style style) candidate')
   unfolding resolved_box horizontal image_container image_style
-  resolved-shared =
-      let min = min-shared _ _ edges-shared in
-      let max = size-shared field.MinOrMax style.max hs.max _ _ edges-shared in
-      let size = size-shared field.Size style.size hs.size _ _ edges-shared in
+  resolved_shared =
+      let min = min_shared _ _ edges_shared in
+      let max = size_shared field.MinOrMax style.max hs.max _ _ edges_shared in
+      let size = size_shared field.Size style.size hs.size _ _ edges_shared in
       record {
         width = refl;
         faces = faces;
-        opposite = horizontal-opposite;
-        vertical = vertical-same;
-        padding = padding-exchanged style.padding;
-        border = padding-exchanged style.border;
-        size = clamped-shared min max size;
+        opposite = horizontal_opposite;
+        vertical = vertical_same;
+        padding = padding_exchanged style.padding;
+        border = padding_exchanged style.border;
+        size = clamped_shared min max size;
         min = min;
         max = max;
-        fit = fit-shared;
-        space = spaces-shared (widen_known (lit≤ tt) min) (widen_known (lit≤ tt) max) (definite_spaces_lem (space-shared _ _ fit-shared));
+        fit = fit_shared;
+        space = spaces_shared (widen_known (lit≤ tt) min) (widen_known (lit≤ tt) max) (definite_spaces_lem (space_shared _ _ fit_shared));
       }

@@ -15,7 +15,7 @@ use Rattle.style.specs.declared.available_space.AvailableSpace.{AvailableSpace}
 use Rattle.style.specs.declared.available_space.AvailableSpace.TheVariants.{Definite, MinContent, MaxContent}
 use Rattle.style.specs.declared.available_space.AvailableSize.{AvailableSize}
 use Rattle.util_exact.proofs.Same.{Same, MaybeSame, given, absent, widen_same, zero_same, smaller_same, equal, present_same, else_same, unwrap_same, map_add_same, map_larger_same, clamped_same, map_clamped_same}
-use Rattle.mirror_box.specs.Mirrored.{SameKnown, known, none, SameSpace, definite as definiteSpace, min_content, maxContent, SameKnownSize, SameAvailableSize, SameSize}
+use Rattle.mirror_box.specs.Mirrored.{SameKnown, known, none, SameSpace, definite as definiteSpace, min_content, max_content, SameKnownSize, SameAvailableSize, SameSize}
 
 pub data SpaceSame (b : ℕ) : AvailableSpace → AvailableSpace → Type 0 where
   space : {x x' : Float} → Same 4 b x x' → SpaceSame b (Definite x) (Definite x')
@@ -43,7 +43,7 @@ known_equal absent = none
 pub space_equal : {b : ℕ} {s s' : AvailableSpace} → SpaceSame b s s' → SameSpace s s'
 space_equal (space h) = definiteSpace (equal h)
 space_equal min = min_content
-space_equal max = maxContent
+space_equal max = max_content
 
 pub size_told : {b : ℕ} {s s' : Size} → SizeShared b s s' → SameSize s s'
 size_told h = record { width = equal h.width; height = h.height }
@@ -96,23 +96,23 @@ unfolding raised_size
 raised_shared h k = record { width = map_larger_same h.width k.width; height = ap₂ map_larger h.height k.height }
 
 module _ {b : ℕ} {low low' high high' : MaybeSize} (l : KnownShared b low low') (u : KnownShared b high high') where
-  pub clamped-shared : {s s' : MaybeSize} → KnownShared b s s' → KnownShared b (clamped_size s low high) (clamped_size s' low' high')
+  pub clamped_shared : {s s' : MaybeSize} → KnownShared b s s' → KnownShared b (clamped_size s low high) (clamped_size s' low' high')
   unfolding clamped_size
-  clamped-shared h = record { width = map_clamped_same h.width l.width u.width; height = rw (h.height, l.height, u.height) }
+  clamped_shared h = record { width = map_clamped_same h.width l.width u.width; height = rw (h.height, l.height, u.height) }
 
-  pub floats-shared : {s s' : Size} → SizeShared b s s' → SizeShared b (clamped_floats s low high) (clamped_floats s' low' high')
+  pub floats_shared : {s s' : Size} → SizeShared b s s' → SizeShared b (clamped_floats s low high) (clamped_floats s' low' high')
   unfolding clamped_floats
-  floats-shared h = record { width = clamped_same h.width l.width u.width; height = rw (h.height, l.height, u.height) }
+  floats_shared h = record { width = clamped_same h.width l.width u.width; height = rw (h.height, l.height, u.height) }
 
-  spaces-same : {s s' : AvailableSpace} → SpaceSame b s s' → SpaceSame b (clamped_space s low.width high.width) (clamped_space s' low'.width high'.width)
+  spaces_same : {s s' : AvailableSpace} → SpaceSame b s s' → SpaceSame b (clamped_space s low.width high.width) (clamped_space s' low'.width high'.width)
   unfolding clamped_space
-  spaces-same (space h) = space (clamped_same h l.width u.width)
-  spaces-same min = min
-  spaces-same max = max
+  spaces_same (space h) = space (clamped_same h l.width u.width)
+  spaces_same min = min
+  spaces_same max = max
 
-  pub spaces-shared : {s s' : AvailableSize} → SpaceShared b s s' → SpaceShared b (clamped_spaces s low high) (clamped_spaces s' low' high')
+  pub spaces_shared : {s s' : AvailableSize} → SpaceShared b s s' → SpaceShared b (clamped_spaces s low high) (clamped_spaces s' low' high')
   unfolding clamped_spaces
-  spaces-shared h = record { width = spaces-same h.width; height = rw (h.height, l.height, u.height) }
+  spaces_shared h = record { width = spaces_same h.width; height = rw (h.height, l.height, u.height) }
 
 pub definite_spaces_lem : {b : ℕ} {s s' : Size} → SizeShared b s s' → SpaceShared b (definite_spaces s) (definite_spaces s')
 unfolding definite_spaces

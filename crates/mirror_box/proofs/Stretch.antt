@@ -21,13 +21,13 @@ use Rattle.oof_box.specs.declared.question.Replies.{Replies}
 use Rattle.oof_box.specs.declared.sizing.Stretched.{Stretched}
 use Rattle.util_exact.proofs.Tests.{pick}
 use Rattle.util_exact.proofs.Same.{Same, MaybeSame, given, quarters_same, widen_same, larger_same, present_same}
-use Rattle.mirror_axis.proofs.Facing.{stretches-shared}
+use Rattle.mirror_axis.proofs.Facing.{stretches_shared}
 use Rattle.mirror_box.specs.Image.{image_style}
 use Rattle.mirror_box.specs.Quarter.{QuarterStyle, QuarterFill, QuarterReplies}
 use Rattle.mirror_box.proofs.Bounds.{length_bound, static_bound, fit_bound}
-use Rattle.mirror_box.proofs.Shared.{SizeShared, KnownShared, widen_known, zero_shared, filled_shared, floats-shared}
+use Rattle.mirror_box.proofs.Shared.{SizeShared, KnownShared, widen_known, zero_shared, filled_shared, floats_shared}
 use Rattle.mirror_box.proofs.Resolve.{or_zero_lem, BoxShared}
-use Rattle.mirror_box.proofs.Keywords.{KeywordsShared, settled-shared, known_shared}
+use Rattle.mirror_box.proofs.Keywords.{KeywordsShared, settled_shared, known_shared}
 
 -- sizes of 20 times 4,096 pixels at most
 abbrev Known : MaybeSize → MaybeSize → Type 0
@@ -61,35 +61,35 @@ measured_size_lem (fill.Both s) q = record { width = widen_same (lit≤ tt) (qua
 
 module _ (style : Style) (hs : QuarterStyle style) (box box' : ResolvedBox) (h : BoxShared box box') where
   settle : (s s' : MaybeSize) → Known s s' → Known (settled None box s) (settled None box' s')
-  settle = settled-shared style hs box box' h fit_bound (lit≤ tt)
+  settle = settled_shared style hs box box' h fit_bound (lit≤ tt)
 
-  widened-shared : {t t' : Bool} {s s' : MaybeSize} → t ≡ t' → Known s s' → Known (widened None box t s) (widened None box' t' s')
+  widened_shared : {t t' : Bool} {s s' : MaybeSize} → t ≡ t' → Known s s' → Known (widened None box t s) (widened None box' t' s')
   unfolding widened
-  widened-shared e k = pick Known e (settle _ _ (record { width = given h.fit.width; height = k.height })) k
+  widened_shared e k = pick Known e (settle _ _ (record { width = given h.fit.width; height = k.height })) k
 
-  heightened-shared : {t t' : Bool} {s s' : MaybeSize} → t ≡ t' → Known s s' → Known (heightened None box t s) (heightened None box' t' s')
+  heightened_shared : {t t' : Bool} {s s' : MaybeSize} → t ≡ t' → Known s s' → Known (heightened None box t s) (heightened None box' t' s')
   unfolding heightened
-  heightened-shared e k =
+  heightened_shared e k =
       pick Known (ap₂ (λ (d : Bool) (m : MaybeF32). d && not (present m)) e k.height) (settle _ _ (record { width = k.width; height = ap Some h.fit.height })) k
 
   -- width, then height
   filled_in : {r r' : MaybeF32} {t t' u u' : Bool} {s s' : MaybeSize} → r ≡ None → r' ≡ None → t ≡ t' → u ≡ u' → Known s s'
       → Known (heightened r box u (widened r box t s)) (heightened r' box' u' (widened r' box' t' s'))
-  filled_in n n' e f k = rw (n, n') (heightened-shared f (widened-shared e k))
+  filled_in n n' e f k = rw (n, n') (heightened_shared f (widened_shared e k))
 
   -- whether an absent side is stretched
-  across-same : (plain : Bool) {s s' : MaybeSize} → Known s s' → not (present s.width) && stretches box.horizontal plain ≡ not (present s'.width) && stretches box'.horizontal plain
-  across-same plain k = ap₂ (λ (p t : Bool). not p && t) (present_same k.width) (stretches-shared length_bound static_bound (lit< tt) box.horizontal box'.horizontal h.faces plain)
+  across_same : (plain : Bool) {s s' : MaybeSize} → Known s s' → not (present s.width) && stretches box.horizontal plain ≡ not (present s'.width) && stretches box'.horizontal plain
+  across_same plain k = ap₂ (λ (p t : Bool). not p && t) (present_same k.width) (stretches_shared length_bound static_bound (lit< tt) box.horizontal box'.horizontal h.faces plain)
 
-  down-same : (plain : Bool) {s s' : MaybeSize} → Known s s' → not (present s.height) && stretches box.vertical plain ≡ not (present s'.height) && stretches box'.vertical plain
-  down-same plain k = ap₂ (λ (m : MaybeF32) (a : OofAxis). not (present m) && stretches a plain) k.height h.vertical
+  down_same : (plain : Bool) {s s' : MaybeSize} → Known s s' → not (present s.height) && stretches box.vertical plain ≡ not (present s'.height) && stretches box'.vertical plain
+  down_same plain k = ap₂ (λ (m : MaybeF32) (a : OofAxis). not (present m) && stretches a plain) k.height h.vertical
 
-  stretched-shared : (s s' : MaybeSize) → Known s s' → StretchedShared (stretched style box s) (stretched (image_style style) box' s')
+  stretched_shared : (s s' : MaybeSize) → Known s s' → StretchedShared (stretched style box s) (stretched (image_style style) box' s')
   unfolding stretched image_style
-  stretched-shared s s' k =
+  stretched_shared s s' k =
       let plain : Bool = not style.replaced && not style.table in
-      let e = across-same plain k in
-      let f = down-same plain k in
+      let e = across_same plain k in
+      let f = down_same plain k in
       let min = widen_known (lit≤ tt) h.min in
       pick StretchedShared {t = style.table} refl
       (record {
@@ -101,15 +101,15 @@ module _ (style : Style) (hs : QuarterStyle style) (box box' : ResolvedBox) (h :
   -- by the replies
   module _ {keywords keywords' : SizingKeywords} (hk : KeywordsShared keywords keywords') (r : Replies) (q : QuarterReplies r) where
     -- steps 4 and 5
-    pub stretched-by : StretchedShared (stretched_by style box keywords r) (stretched_by (image_style style) box' keywords' r)
+    pub stretched_by_lem : StretchedShared (stretched_by style box keywords r) (stretched_by (image_style style) box' keywords' r)
     unfolding stretched_by
-    stretched-by = stretched-shared _ _ (widen_known (lit≤ tt) (known_shared style hs box box' h r.keyword q.keyword _ _ hk))
+    stretched_by_lem = stretched_shared _ _ (widen_known (lit≤ tt) (known_shared style hs box box' h r.keyword q.keyword _ _ hk))
 
     -- step 6
-    pub final-size : {at at' : Stretched} → StretchedShared at at' → SizeShared fit_bound (final_size box at (measured_size r.fill)) (final_size box' at' (measured_size r.fill))
+    pub final_size_lem : {at at' : Stretched} → StretchedShared at at' → SizeShared fit_bound (final_size box at (measured_size r.fill)) (final_size box' at' (measured_size r.fill))
     unfolding final_size
-    final-size e = floats-shared e.min (widen_known (lit≤ tt) h.max) (filled_shared e.known (measured_size_lem r.fill q.fill))
+    final_size_lem e = floats_shared e.min (widen_known (lit≤ tt) h.max) (filled_shared e.known (measured_size_lem r.fill q.fill))
 
-    pub size-by : SizeShared fit_bound (size_by style box keywords r) (size_by (image_style style) box' keywords' r)
+    pub size_by_lem : SizeShared fit_bound (size_by style box keywords r) (size_by (image_style style) box' keywords' r)
     unfolding size_by
-    size-by = final-size stretched-by
+    size_by_lem = final_size_lem stretched_by_lem

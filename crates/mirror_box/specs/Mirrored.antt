@@ -48,7 +48,7 @@ pub data SameKnown : MaybeF32 → MaybeF32 → Type 0 where
 pub data SameSpace : AvailableSpace → AvailableSpace → Type 0 where
   definite : {x x' : Float} → x ≐ x' → SameSpace (Definite x) (Definite x')
   min_content : SameSpace MinContent MinContent
-  maxContent : SameSpace MaxContent MaxContent
+  max_content : SameSpace MaxContent MaxContent
 
 pub record SameKnownSize (s s' : MaybeSize) : Type 0 where
   pub width : SameKnown s.width s'.width
@@ -95,10 +95,10 @@ pub record MirroredLayout (a : OofPositioningArea) (l l' : Layout) : Type 0 wher
   pub y : l.location.y ≡ l'.location.y
   pub padding : exchanged_rect l.padding ≡ l'.padding
   pub border : exchanged_rect l.border ≡ l'.border
-  pub marginLeft : l.margin.left ≐ l'.margin.right
-  pub marginRight : l.margin.right ≐ l'.margin.left
-  pub marginTop : l.margin.top ≡ l'.margin.top
-  pub marginBottom : l.margin.bottom ≡ l'.margin.bottom
+  pub margin_left : l.margin.left ≐ l'.margin.right
+  pub margin_right : l.margin.right ≐ l'.margin.left
+  pub margin_top : l.margin.top ≡ l'.margin.top
+  pub margin_bottom : l.margin.bottom ≡ l'.margin.bottom
 
 -- overflow rectangles: x counts from the start edge in both
 pub record SameRect (r r' : Rect) : Type 0 where

@@ -20,15 +20,15 @@ use Rattle.util_exact.specs.Value.{◌≐◌, Quarter}
 -- ---- lengths, by their tag
 
 pub data TagRule : Type 0 where
-  wholeQuarters left_out free : TagRule
+  whole_quarters left_out free : TagRule
 
 -- pixels (1) and a fit-content limit in pixels (43) are whole quarters, percentages (5, 15) and sums with one (129) are left out, and the
 -- value of any other tag may be anything. So may every second value: it is of sums alone
 abbrev pub rule_of : ℕ → TagRule
-rule_of tag = cond (eqb tag 1 || eqb tag 43) wholeQuarters (cond (eqb tag 5 || eqb tag 15 || eqb tag 129) left_out free)
+rule_of tag = cond (eqb tag 1 || eqb tag 43) whole_quarters (cond (eqb tag 5 || eqb tag 15 || eqb tag 129) left_out free)
 
 abbrev pub Keeps : TagRule → Float → Type 0
-Keeps wholeQuarters x = Quarter x
+Keeps whole_quarters x = Quarter x
 Keeps left_out x = ⊥
 Keeps free x = Unit {0}
 
@@ -43,7 +43,7 @@ pub record QuarterSides (r : LengthRect) : Type 0 where
 
 pub record QuarterContainer (b : ContainingBlock) : Type 0 where
   pub width : Quarter b.area.size.width
-  pub notZero : b.area.size.width ≐ 0f → ⊥
+  pub not_zero : b.area.size.width ≐ 0f → ⊥
   pub offset : Quarter b.area.offset.x
 
 pub record QuarterStyle (s : Style) : Type 0 where

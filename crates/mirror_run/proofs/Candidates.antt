@@ -19,7 +19,7 @@ use Rattle.tree_record.specs.Candidate.{candidate_width, layer_word, candidate_k
 use Rattle.mirror_axis.specs.Image as axis
 use Rattle.mirror_box.specs.Image as box
 use Rattle.mirror_run.specs.Image.{other_edge, reflected_word, image_candidate, image_candidates}
-use Rattle.mirror_run.proofs.Words.{each-length, each_word}
+use Rattle.mirror_run.proofs.Words.{each_length, each_word}
 
 -- ---- codes
 
@@ -30,8 +30,8 @@ edge_code_lem (suc zero) = refl
 edge_code_lem (suc (suc zero)) = refl
 edge_code_lem (suc (suc (suc e))) = rw (ne_eqb (suc (suc (suc e))) 0 (λ p. omega arith), ne_eqb (suc (suc (suc e))) 2 (λ p. omega arith)) refl
 
-edge_decoded : (e : ℕ) → e < 3 → edge_of (other_edge e) ≡ axis.otherEdge (edge_of e)
-unfolding other_edge edge_of axis.otherEdge
+edge_decoded : (e : ℕ) → e < 3 → edge_of (other_edge e) ≡ axis.other_edge (edge_of e)
+unfolding other_edge edge_of axis.other_edge
 edge_decoded zero h = refl
 edge_decoded (suc zero) h = refl
 edge_decoded (suc (suc zero)) h = refl
@@ -41,9 +41,9 @@ edge_decoded (suc (suc (suc e))) h = absurd (omega arith)
 
 module _ (area : OofPositioningArea) (r : ℕ → ℕ) where
   -- it breaks the rules that the record breaks
-  image-wrong : (n k : ℕ) → wrong (get_or (candidate_kinds n) k whole) (image_candidate area r k) ≡ wrong (get_or (candidate_kinds n) k whole) (r k)
+  image_wrong : (n k : ℕ) → wrong (get_or (candidate_kinds n) k whole) (image_candidate area r k) ≡ wrong (get_or (candidate_kinds n) k whole) (r k)
   unfolding image_candidate wrong
-  image-wrong n k = go (eqb k 3) (eqb k 4) (eqb k 5) (eqb k 7) refl refl refl refl
+  image_wrong n k = go (eqb k 3) (eqb k 4) (eqb k 5) (eqb k 7) refl refl refl refl
     where
       go : (a b c d : Bool) → eqb k 3 ≡ a → eqb k 4 ≡ b → eqb k 5 ≡ c → eqb k 7 ≡ d
           → wrong (get_or (candidate_kinds n) k whole) (image_candidate area r k) ≡ wrong (get_or (candidate_kinds n) k whole) (r k)
@@ -62,33 +62,33 @@ same_every (suc n) p q f = rw (same_every n p q (λ i h. f i (omega arith)), f n
 
 module _ (area : OofPositioningArea) (ws : List ℕ) where
   pub count_kept : length (image_candidates area ws) / candidate_width ≡ length ws / candidate_width
-  count_kept = ap (λ (n : ℕ). n / candidate_width) (each-length candidate_width (image_candidate area) ws)
+  count_kept = ap (λ (n : ℕ). n / candidate_width) (each_length candidate_width (image_candidate area) ws)
 
-  same-record : (n i : ℕ) → i < length ws / candidate_width
+  same_record : (n i : ℕ) → i < length ws / candidate_width
       → good (candidate_kinds n) (image_candidates area ws) (candidate_width * i) ≡ good (candidate_kinds n) ws (candidate_width * i)
   unfolding good breaks
-  same-record n i h =
+  same_record n i h =
       same_every candidate_width (λ k. not (wrong (get_or (candidate_kinds n) k whole) (get_or (image_candidates area ws) (candidate_width * i + k) 0)))
       (λ k. not (wrong (get_or (candidate_kinds n) k whole) (get_or ws (candidate_width * i + k) 0)))
       (λ k l.
       ap (λ (w : ℕ). not (wrong (get_or (candidate_kinds n) k whole) w)) (each_word candidate_width (image_candidate area) ws i k l h)
-      ∙ ap not (image-wrong area (λ j. get_or ws (candidate_width * i + j) 0) n k))
+      ∙ ap not (image_wrong area (λ j. get_or ws (candidate_width * i + j) 0) n k))
 
-  pub same-candidates : (n : ℕ)
+  pub same_candidates : (n : ℕ)
       → good_records (candidate_kinds n) (image_candidates area ws) (length (image_candidates area ws) / candidate_width)
       ≡ good_records (candidate_kinds n) ws (length ws / candidate_width)
   unfolding good_records
-  same-candidates n =
-      rw (each-length candidate_width (image_candidate area) ws)
+  same_candidates n =
+      rw (each_length candidate_width (image_candidate area) ws)
       (ap (λ (b : Bool). leb (length ws / candidate_width) (length ws / candidate_width) && b)
-      (same_every (length ws / candidate_width) (λ i. good (candidate_kinds n) (image_candidates area ws) (candidate_width * i)) (λ i. good (candidate_kinds n) ws (candidate_width * i)) (same-record n)))
+      (same_every (length ws / candidate_width) (λ i. good (candidate_kinds n) (image_candidates area ws) (candidate_width * i)) (λ i. good (candidate_kinds n) ws (candidate_width * i)) (same_record n)))
 
 -- ---- a record decoded
 
 module _ (area : OofPositioningArea) (r r' : List ℕ) (words : (k : ℕ) → k < candidate_width → get_or r' k 0 ≡ image_candidate area (λ j. get_or r j 0) k) where
-  pub decoded-image : get_or r 5 0 < 3 → get_or r 7 0 < 3 → candidate_of r' ≡ box.imageCandidate area (candidate_of r)
-  unfolding candidate_of axis_of image_candidate reflected_word box.imageCandidate axis.reflectedPlace axis.reflected axis.otherAlign
-  decoded-image h l =
+  pub decoded_image : get_or r 5 0 < 3 → get_or r 7 0 < 3 → candidate_of r' ≡ box.image_candidate area (candidate_of r)
+  unfolding candidate_of axis_of image_candidate reflected_word box.image_candidate axis.reflected_place axis.reflected axis.other_align
+  decoded_image h l =
       rw (
         words 0 (lit< tt),
         words 1 (lit< tt),
@@ -104,26 +104,26 @@ module _ (area : OofPositioningArea) (r r' : List ℕ) (words : (k : ℕ) → k 
         words 11 (lit< tt),
         words 12 (lit< tt),
         words layer_word (lit< tt),
-        float_back (box.edgeSum area ⊖ of_bits binary32 (get_or r 4 0)) (sub-fits binary32 _ _),
-        float_back (box.edgeSum area ⊖ of_bits binary32 (get_or r 3 0)) (sub-fits binary32 _ _),
+        float_back (box.edge_sum area ⊖ of_bits binary32 (get_or r 4 0)) (sub-fits binary32 _ _),
+        float_back (box.edge_sum area ⊖ of_bits binary32 (get_or r 3 0)) (sub-fits binary32 _ _),
         edge_decoded (get_or r 5 0) h,
         edge_decoded (get_or r 7 0) l,
       )
       refl
 
-  pub decoded-position : (candidate_of r).position ≡ (candidate_of r').position
+  pub decoded_position : (candidate_of r).position ≡ (candidate_of r').position
   unfolding candidate_of image_candidate
-  decoded-position = rw (words 2 (lit< tt)) refl
+  decoded_position = rw (words 2 (lit< tt)) refl
 
-  pub decoded-node : (candidate_of r).node ≡ (candidate_of r').node
+  pub decoded_node : (candidate_of r).node ≡ (candidate_of r').node
   unfolding candidate_of image_candidate
-  decoded-node = rw (words 0 (lit< tt)) refl
+  decoded_node = rw (words 0 (lit< tt)) refl
 
 module _ (area : OofPositioningArea) (ws : List ℕ) (i : ℕ) (h : i < length ws / candidate_width) where
-  pub record-words : (k : ℕ) → k < candidate_width
+  pub record_words_lem : (k : ℕ) → k < candidate_width
       → get_or (record_at candidate_width (image_candidates area ws) i) k 0 ≡ image_candidate area (λ j. get_or (record_at candidate_width ws i) j 0) k
   unfolding image_candidate
-  record-words k l =
+  record_words_lem k l =
       word_of_record candidate_width (image_candidates area ws) i k l
       ∙ each_word candidate_width (image_candidate area) ws i k l h
       ∙ rw (← word_of_record candidate_width ws i 3 (lit< tt), ← word_of_record candidate_width ws i 4 (lit< tt), ← word_of_record candidate_width ws i k l) refl

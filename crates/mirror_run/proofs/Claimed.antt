@@ -17,7 +17,7 @@ use Rattle.tree_record.proofs.Laws.{decoded_fits}
 use Rattle.sweep.specs.Sweep.{first_candidates, candidates_in, keep, appended}
 use Rattle.sweep.specs.Laws.{AllFit}
 use Rattle.sweep.proofs.Laws.{kept_fits}
-use Rattle.sweep.proofs.Listed.{IsBelow, AllBelow, listed-good}
+use Rattle.sweep.proofs.Listed.{IsBelow, AllBelow, listed_good}
 use Rattle.run.proofs.Worlds.{list_back}
 use Rattle.oof_resolve.specs.declared.ContainingBlock.{ContainingBlock}
 use Rattle.mirror_box.specs.Quarter.{QuarterContainer, QuarterCandidate}
@@ -27,7 +27,7 @@ use Rattle.mirror_run.specs.Image.{image_candidates}
 use Rattle.mirror_run.specs.Quarter.{QuarterCandidates}
 use Rattle.mirror_run.specs.Runs.{Each, none, one, Unclaimed, surfaced, image}
 use Rattle.mirror_run.proofs.Lists.{nobody, first_by}
-use Rattle.mirror_run.proofs.Candidates.{count_kept, decoded-image, decoded-position, record-words}
+use Rattle.mirror_run.proofs.Candidates.{count_kept, decoded_image, decoded_position, record_words_lem}
 use Rattle.mirror_run.proofs.Linked.{Ready}
 
 -- ---- claimed alike, whatever the words
@@ -37,15 +37,15 @@ SamePosition c c' = c.position ≡ c'.position
 
 module _ (area : OofPositioningArea) (ws : List ℕ) {R : OofCandidate → OofCandidate → Type 0} where
   -- a slice and its image, record by record
-  by-records : ((i : ℕ) → i < length ws / candidate_width → R (candidate_of (record_at candidate_width ws i)) (candidate_of (record_at candidate_width (image_candidates area ws) i)))
+  by_records : ((i : ℕ) → i < length ws / candidate_width → R (candidate_of (record_at candidate_width ws i)) (candidate_of (record_at candidate_width (image_candidates area ws) i)))
       → Each R (candidates_in ws) (candidates_in (image_candidates area ws))
   unfolding candidates_in
-  by-records g = rw (count_kept area ws) (first_by (length ws / candidate_width) ws (image_candidates area ws) g)
+  by_records g = rw (count_kept area ws) (first_by (length ws / candidate_width) ws (image_candidates area ws) g)
 
 pub same_positions : (area : OofPositioningArea) (ws : List ℕ) → Each SamePosition (candidates_in ws) (candidates_in (image_candidates area ws))
 same_positions area ws =
-    by-records area ws
-    (λ i h. decoded-position area (record_at candidate_width ws i) (record_at candidate_width (image_candidates area ws) i) (record-words area ws i h))
+    by_records area ws
+    (λ i h. decoded_position area (record_at candidate_width ws i) (record_at candidate_width (image_candidates area ws) i) (record_words_lem area ws i h))
 
 -- ---- ready
 
@@ -56,27 +56,27 @@ module _ (n : ℕ) (ws : List ℕ) (g : good_records (candidate_kinds n) ws (len
       ap (wrong (get_or (candidate_kinds n) k whole)) (word_of_record candidate_width ws i k l)
       ∙ ((good_is_unbroken (candidate_kinds n) ws (length ws / candidate_width)).0 g).1 i k h l
 
-  pub node-there : (candidate_of (record_at candidate_width ws i)).node < n
+  pub node_there : (candidate_of (record_at candidate_width ws i)).node < n
   unfolding candidate_of wrong
-  node-there = leb-false n (get_or (record_at candidate_width ws i) 0 0) (word_good 0 (lit< tt))
+  node_there = leb-false n (get_or (record_at candidate_width ws i) 0 0) (word_good 0 (lit< tt))
 
   -- and its layer
-  pub below-there : IsBelow n (candidate_of (record_at candidate_width ws i))
+  pub below_there : IsBelow n (candidate_of (record_at candidate_width ws i))
   unfolding candidate_of wrong
-  below-there = (node-there, leb-false layer_count (get_or (record_at candidate_width ws i) layer_word 0) (word_good layer_word (lit< tt)))
+  below_there = (node_there, leb-false layer_count (get_or (record_at candidate_width ws i) layer_word 0) (word_good layer_word (lit< tt)))
 
-  pub edge-there : get_or (record_at candidate_width ws i) 5 0 < 3
+  pub edge_there : get_or (record_at candidate_width ws i) 5 0 < 3
   unfolding wrong
-  edge-there = leb-false 3 (get_or (record_at candidate_width ws i) 5 0) (word_good 5 (lit< tt))
+  edge_there = leb-false 3 (get_or (record_at candidate_width ws i) 5 0) (word_good 5 (lit< tt))
 
-  pub fallback-there : get_or (record_at candidate_width ws i) 7 0 < 3
+  pub fallback_there : get_or (record_at candidate_width ws i) 7 0 < 3
   unfolding wrong
-  fallback-there = leb-false 3 (get_or (record_at candidate_width ws i) 7 0) (word_good 7 (lit< tt))
+  fallback_there = leb-false 3 (get_or (record_at candidate_width ws i) 7 0) (word_good 7 (lit< tt))
 
 pub all_ready : (container : ContainingBlock) → QuarterContainer container → (n : ℕ) (ws : List ℕ) → good_records (candidate_kinds n) ws (length ws / candidate_width) ≡ true → QuarterCandidates ws
     → Each (Ready container.area n) (candidates_in ws) (candidates_in (image_candidates container.area ws))
 all_ready container hb n ws g q =
-    by-records container.area ws
+    by_records container.area ws
     (λ i h.
     let c = candidate_of (record_at candidate_width ws i) in
     let quarter : QuarterCandidate c = record { start = (q i h).0.0; end = (q i h).0.1 } in
@@ -84,11 +84,11 @@ all_ready container hb n ws g q =
       image =
           subst (CandidateImage container.area c)
           (sym
-          (decoded-image container.area (record_at candidate_width ws i) (record_at candidate_width (image_candidates container.area ws) i) (record-words container.area ws i h)
-          (edge-there n ws g i h) (fallback-there n ws g i h)))
+          (decoded_image container.area (record_at candidate_width ws i) (record_at candidate_width (image_candidates container.area ws) i) (record_words_lem container.area ws i h)
+          (edge_there n ws g i h) (fallback_there n ws g i h)))
           (image_is_exact container c hb quarter);
       quarter = quarter;
-      there = below-there n ws g i h;
+      there = below_there n ws g i h;
     })
 
 -- ---- a list that is filled from its front
@@ -120,4 +120,4 @@ below n (c ∷ cs) nodes = (nodes 0 (omega arith), below n cs (λ i h. nodes (su
 
 pub front_good : (w : List ℕ) (cs : List OofCandidate) → candidate_width * (0 + length cs) ≤ length w
     → (n : ℕ) → ((i : ℕ) → i < length cs → IsBelow n (get_or cs i nobody)) → good_records (candidate_kinds n) (appended w 0 cs) (length cs) ≡ true
-front_good w cs room n nodes = listed-good w cs (omega arith) n (below n cs nodes)
+front_good w cs room n nodes = listed_good w cs (omega arith) n (below n cs nodes)

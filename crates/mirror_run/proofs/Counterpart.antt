@@ -16,8 +16,8 @@ use Rattle.mirror_run.specs.Image.{other_direction, sides_words, box_words, coun
 -- a word stands across from itself, or left and right change places
 pub data Place (k : ℕ) : ℕ → Type 0 where
   stays : Place k k
-  toRight : k < box_words → k % sides_words < length_words → Place k (k + length_words)
-  toLeft : k < box_words → length_words ≤ k % sides_words → k % sides_words < 2 * length_words → Place k (k - length_words)
+  to_right : k < box_words → k % sides_words < length_words → Place k (k + length_words)
+  to_left : k < box_words → length_words ≤ k % sides_words → k % sides_words < 2 * length_words → Place k (k - length_words)
 
 pub place : (k : ℕ) → Place k (counterpart k)
 unfolding counterpart
@@ -26,9 +26,9 @@ place k = go (leb box_words k) (ltb (k % sides_words) length_words) (ltb (k % si
     go : (b c d : Bool) → leb box_words k ≡ b → ltb (k % sides_words) length_words ≡ c → ltb (k % sides_words) (2 * length_words) ≡ d
         → Place k (cond b k (cond c (k + length_words) (cond d (k - length_words) k)))
     go true c d p q r = stays
-    go false true d p q r = toRight (leb-false box_words k p) (ltb-true (k % sides_words) length_words q)
+    go false true d p q r = to_right (leb-false box_words k p) (ltb-true (k % sides_words) length_words q)
     go false false true p q r =
-        toLeft (leb-false box_words k p) (ltb-false (k % sides_words) length_words q) (ltb-true (k % sides_words) (2 * length_words) r)
+        to_left (leb-false box_words k p) (ltb-false (k % sides_words) length_words q) (ltb-true (k % sides_words) (2 * length_words) r)
     go false false false p q r = stays
 
 pub counterpart_there : (k : ℕ) → k < style_words → counterpart k < style_words
@@ -36,17 +36,17 @@ counterpart_there k h = go (counterpart k) (place k)
   where
     go : (m : ℕ) → Place k m → m < style_words
     go _ stays = h
-    go _ (toRight l p) = omega arith
-    go _ (toLeft l p q) = omega arith
+    go _ (to_right l p) = omega arith
+    go _ (to_left l p q) = omega arith
 
 module _ (k : ℕ) (l : k < box_words) where
-  on-the-left : k % sides_words < length_words → counterpart k ≡ k + length_words
+  on_the_left : k % sides_words < length_words → counterpart k ≡ k + length_words
   unfolding counterpart
-  on-the-left h = rw (lt-leb box_words k l, lt-ltb (k % sides_words) length_words h) refl
+  on_the_left h = rw (lt-leb box_words k l, lt-ltb (k % sides_words) length_words h) refl
 
-  on-the-right : length_words ≤ k % sides_words → k % sides_words < 2 * length_words → counterpart k ≡ k - length_words
+  on_the_right : length_words ≤ k % sides_words → k % sides_words < 2 * length_words → counterpart k ≡ k - length_words
   unfolding counterpart
-  on-the-right h m = rw (lt-leb box_words k l, le-ltb (k % sides_words) length_words h, lt-ltb (k % sides_words) (2 * length_words) m) refl
+  on_the_right h m = rw (lt-leb box_words k l, le-ltb (k % sides_words) length_words h, lt-ltb (k % sides_words) (2 * length_words) m) refl
 
 -- words after the sides stand across from themselves
 itself : (k : ℕ) → box_words ≤ k → counterpart k ≡ k
@@ -59,11 +59,11 @@ counterpart_twice k = go (counterpart k) (place k) refl
   where
     go : (m : ℕ) → Place k m → counterpart k ≡ m → counterpart m ≡ k
     go _ stays e = e
-    go _ (toRight l p) e = on-the-right (k + length_words) (omega arith) (omega arith) (omega arith) ∙ back k
+    go _ (to_right l p) e = on_the_right (k + length_words) (omega arith) (omega arith) (omega arith) ∙ back k
       where
         back : (k : ℕ) → k + length_words - length_words ≡ k
         back k = omega arith
-    go _ (toLeft l p q) e = on-the-left (k - length_words) (omega arith) (omega arith) ∙ back k p
+    go _ (to_left l p q) e = on_the_left (k - length_words) (omega arith) (omega arith) ∙ back k p
       where
         back : (k : ℕ) → length_words ≤ k % sides_words → k - length_words + length_words ≡ k
         back k p = omega arith
@@ -101,8 +101,8 @@ counterpart_kind k = go (counterpart k) (place k)
   where
     go : (m : ℕ) → Place k m → kind_of m ≡ kind_of k
     go _ stays = refl
-    go _ (toRight l p) = same_kind (k + length_words) k (omega arith) l (omega arith) (omega arith)
-    go _ (toLeft l p q) = same_kind (k - length_words) k (omega arith) l (omega arith) (omega arith)
+    go _ (to_right l p) = same_kind (k + length_words) k (omega arith) l (omega arith) (omega arith)
+    go _ (to_left l p q) = same_kind (k - length_words) k (omega arith) l (omega arith) (omega arith)
 
 -- ---- rules
 
@@ -129,15 +129,15 @@ module _ (r : ℕ → ℕ) where
   kept : (k : ℕ) → box_words ≤ k → (k ≡ direction_word → ⊥) → image_style r k ≡ r k
   kept k l h = moved k h ∙ ap r (itself k l)
 
-  of-lengths : (k : ℕ) → k < box_words → breaks_rule (image_style r) k ≡ breaks_rule r (counterpart k)
+  of_lengths : (k : ℕ) → k < box_words → breaks_rule (image_style r) k ≡ breaks_rule r (counterpart k)
   unfolding breaks_rule
-  of-lengths k l =
+  of_lengths k l =
       rw (moved k (λ e. omega arith), counterpart_kind k, length_kind k l)
       (before_free (length_field (k / length_words)) (k % length_words) (image_style r (k - 1)) (r (counterpart k - 1)) (r (counterpart k)))
 
-  after-sides : (k : ℕ) → box_words ≤ k → breaks_rule (image_style r) k ≡ breaks_rule r k
+  after_sides : (k : ℕ) → box_words ≤ k → breaks_rule (image_style r) k ≡ breaks_rule r k
   unfolding breaks_rule breaks_as kind_of length_kinds code_kinds length_field image_style counterpart
-  after-sides k l = go (eqb k box_words) (eqb k direction_word) (eqb k (direction_word + 1)) refl refl refl
+  after_sides k l = go (eqb k box_words) (eqb k direction_word) (eqb k (direction_word + 1)) refl refl refl
     where
       go : (a b c : Bool) → eqb k box_words ≡ a → eqb k direction_word ≡ b → eqb k (direction_word + 1) ≡ c → breaks_rule (image_style r) k ≡ breaks_rule r k
       go true b c p q s = rw (eqb-true k box_words p) refl
@@ -147,9 +147,9 @@ module _ (r : ℕ → ℕ) where
           ap (λ (w : ℕ). breaks_as (kind_of k) (image_style r (k - 1)) w) (kept k l (eqb-false k direction_word q))
           ∙ ap (λ (w : ℕ). breaks_as (kind_of k) w (r k)) (kept (k - 1) (omega (arith, eqb-false k box_words p)) (λ e. eqb-false k (direction_word + 1) s (omega arith)))
 
-  pub image-breaks : (k : ℕ) → breaks_rule (image_style r) k ≡ breaks_rule r (counterpart k)
-  image-breaks k = go (leb box_words k) refl
+  pub image_breaks : (k : ℕ) → breaks_rule (image_style r) k ≡ breaks_rule r (counterpart k)
+  image_breaks k = go (leb box_words k) refl
     where
       go : (b : Bool) → leb box_words k ≡ b → breaks_rule (image_style r) k ≡ breaks_rule r (counterpart k)
-      go true e = after-sides k (leb-true box_words k e) ∙ ap (breaks_rule r) (sym (itself k (leb-true box_words k e)))
-      go false e = of-lengths k (leb-false box_words k e)
+      go true e = after_sides k (leb-true box_words k e) ∙ ap (breaks_rule r) (sym (itself k (leb-true box_words k e)))
+      go false e = of_lengths k (leb-false box_words k e)

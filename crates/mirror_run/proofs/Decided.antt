@@ -17,7 +17,7 @@ use Rattle.style.specs.declared.compact_length.CompactLength.{CompactLength}
 use Rattle.style_record.specs.Record.{lengths, tag_word, ratio_present_word, scrollbar_word, item, items}
 use Rattle.style_record.specs.Decode.{length_at}
 use Rattle.util_exact.specs.Value.{Quarter}
-use Rattle.mirror_box.specs.Quarter.{TagRule, wholeQuarters, left_out, free, rule_of, Keeps}
+use Rattle.mirror_box.specs.Quarter.{TagRule, whole_quarters, left_out, free, rule_of, Keeps}
 use Rattle.mirror_run.specs.Quarter.{QuarterItem, QuarterTable, QuarterPlace, QuarterCandidates}
 
 both_true : (a b : Bool) → (a && b) ≡ true → (a ≡ true) × (b ≡ true)
@@ -49,12 +49,12 @@ quarter_decided (fin s m e) h =
 -- ---- styles
 
 abbrev pub is_kept : TagRule → Float → Bool
-is_kept wholeQuarters x = is_quarter x
+is_kept whole_quarters x = is_quarter x
 is_kept left_out x = false
 is_kept free x = true
 
 kept_decided : (r : TagRule) (x : Float) → is_kept r x ≡ true → Keeps r x
-kept_decided wholeQuarters x e = quarter_decided x e
+kept_decided whole_quarters x e = quarter_decided x e
 kept_decided left_out x e = no e refl
 kept_decided free x e = tt
 

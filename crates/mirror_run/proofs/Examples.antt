@@ -22,7 +22,7 @@ use Rattle.run.specs.Refusals.{lent_by}
 use Rattle.run.specs.Run.{opened}
 use Rattle.run.specs.Theorems.{own}
 use Rattle.util_exact.specs.Value.{◌≐◌, Quarter, Quarters}
-use Rattle.mirror_box.specs.Mirrored.{SameSpace, definite, min_content, maxContent, measure_both, measure_width, measure_height, lay_out}
+use Rattle.mirror_box.specs.Mirrored.{SameSpace, definite, min_content, max_content, measure_both, measure_width, measure_height, lay_out}
 use Rattle.mirror_run.specs.Image.{listed, each_record}
 use Rattle.mirror_run.specs.Quarter.{AreaInQuarters, QuarterArea, QuarterTable, QuarterCandidates, QuarterReply}
 use Rattle.mirror_run.specs.Runs.{Message, is_unread, Alike, Fair, AllFair, SameAnswer, ask, finish, refused, MirroredRuns}
@@ -44,7 +44,7 @@ unread_fair {before} {a} m u alike =
       alike = alike;
       words = λ e. no u e;
       quarters = λ e. no u (accepted_read a e);
-      surfacesNone = λ e. no u (accepted_read a e);
+      surfaces_none = λ e. no u (accepted_read a e);
     }
 
 -- the same reply to both, with their own slices
@@ -54,9 +54,9 @@ own_fair : {before : State} {a : Answer} (reply : Reply) (surfaced surfaced' : L
 own_fair reply surfaced surfaced' same quarters unclaimed =
     record {
       alike = record { reply = refl; surfaced = rw same refl; slices = refl };
-      words = λ e. record { slices = refl; imageSlices = refl; surfaced = same };
+      words = λ e. record { slices = refl; image_slices = refl; surfaced = same };
       quarters = λ e. quarters;
-      surfacesNone = λ e. unclaimed;
+      surfaces_none = λ e. unclaimed;
     }
 
 all_fair : AllFair table (opened panel four lent) replies
@@ -74,29 +74,29 @@ unfolding of_bits eq
 quarter_panel =
     record {
       quarters = record { width = quarter_decided (word 1120403456) refl; height = quarter_decided (word 1112014848) refl; x = quarter_decided (word 1090519040) refl; y = nought };
-      notZero = λ e. no e refl;
+      not_zero = λ e. no e refl;
     }
 
 -- so it is mirrored, at the end and on the way; one unclaimed record is the opening's
 met : (MirroredRuns panel.area 1 (after replies) (image_after replies)) × MirroredRuns panel.area 1 (after (wrong_kind ∷ surfaces_fixed ∷ [])) (image_after (wrong_kind ∷ surfaces_fixed ∷ []))
 unfolding of_bits every items length_at record_at candidate_of axis_of listed each_record
-met = (at_end, on-the-way)
+met = (at_end, on_the_way)
   where
-    quarter-table : QuarterTable table
-    quarter-table = table_decided table refl
+    quarter_table : QuarterTable table
+    quarter_table = table_decided table refl
 
-    quarter-four : QuarterCandidates four
-    quarter-four = candidates_decided four refl
+    quarter_four : QuarterCandidates four
+    quarter_four = candidates_decided four refl
 
     at_end : MirroredRuns panel.area 1 (after replies) (image_after replies)
     at_end =
         subst (λ (n : ℕ). MirroredRuns panel.area n (after replies) (image_after replies)) computed.atOpening
-        (mirror panel four lent lent' replies [] quarter_panel quarter-table quarter-four refl refl all_fair)
+        (mirror panel four lent lent' replies [] quarter_panel quarter_table quarter_four refl refl all_fair)
 
-    on-the-way : MirroredRuns panel.area 1 (after (wrong_kind ∷ surfaces_fixed ∷ [])) (image_after (wrong_kind ∷ surfaces_fixed ∷ []))
-    on-the-way =
+    on_the_way : MirroredRuns panel.area 1 (after (wrong_kind ∷ surfaces_fixed ∷ [])) (image_after (wrong_kind ∷ surfaces_fixed ∷ []))
+    on_the_way =
         subst (λ (n : ℕ). MirroredRuns panel.area n (after (wrong_kind ∷ surfaces_fixed ∷ [])) (image_after (wrong_kind ∷ surfaces_fixed ∷ []))) computed.atOpening
-        (mirror panel four lent lent' (wrong_kind ∷ surfaces_fixed ∷ []) (measured ∷ laid_out ∷ wrong_lengths ∷ laid_out ∷ []) quarter_panel quarter-table quarter-four refl refl all_fair)
+        (mirror panel four lent lent' (wrong_kind ∷ surfaces_fixed ∷ []) (measured ∷ laid_out ∷ wrong_lengths ∷ laid_out ∷ []) quarter_panel quarter_table quarter_four refl refl all_fair)
 
 -- ---- what it asks is needed: each screen has all but one thing
 
@@ -104,7 +104,7 @@ same_space : {s s' : AvailableSpace} → SameSpace s s' → definite_in s ≐ de
 unfolding eq of_bits
 same_space (definite e) = e
 same_space min_content = refl
-same_space maxContent = refl
+same_space max_content = refl
 
 -- the same answers tell the same number
 same_told : {a a' : Answer} → SameAnswer a a' → told a ≐ told a'
@@ -132,11 +132,11 @@ quarter_at_start = candidates_decided at_start refl
 
 quarter_small : QuarterArea small.area
 unfolding of_bits eq
-quarter_small = record { quarters = record { width = quarter_decided (word 1048576000) refl; height = quarter_decided (word 1048576000) refl; x = nought; y = nought }; notZero = λ e. no e refl }
+quarter_small = record { quarters = record { width = quarter_decided (word 1048576000) refl; height = quarter_decided (word 1048576000) refl; x = nought; y = nought }; not_zero = λ e. no e refl }
 
 quarter_wide : QuarterArea wide.area
 unfolding of_bits eq
-quarter_wide = record { quarters = record { width = quarter_decided (word 1083179008) refl; height = quarter_decided (word 1048576000) refl; x = nought; y = nought }; notZero = λ e. no e refl }
+quarter_wide = record { quarters = record { width = quarter_decided (word 1083179008) refl; height = quarter_decided (word 1048576000) refl; x = nought; y = nought }; not_zero = λ e. no e refl }
 
 -- an area whose width isn't 0: in one of 0 the run offers 0.5 and its image 0
 width_needed :
@@ -150,7 +150,7 @@ pub record ButOffset (area : OofPositioningArea) : Type 0 where
   pub width : Quarter area.size.width
   pub height : Quarter area.size.height
   pub y : Quarter area.offset.y
-  pub notZero : area.size.width ≐ 0f → ⊥
+  pub not_zero : area.size.width ≐ 0f → ⊥
 
 -- an area of whole quarter pixels: at 0.1 they differ
 quarter_areas_needed : (ButOffset aside.area × QuarterTable still × QuarterCandidates at_start) × Fails aside still at_start []
@@ -158,18 +158,18 @@ unfolding of_bits eq
 quarter_areas_needed = ((rest, quarter_still, quarter_at_start), fails computed.area)
   where
     rest : ButOffset aside.area
-    rest = record { width = quarter_decided (word 1056964608) refl; height = quarter_decided (word 1048576000) refl; y = nought; notZero = λ e. no e refl }
+    rest = record { width = quarter_decided (word 1056964608) refl; height = quarter_decided (word 1048576000) refl; y = nought; not_zero = λ e. no e refl }
 
 -- of size 4,096 at most: at 2,097,152, which is whole quarter pixels, they differ
 bound_needed : (ButOffset far.area × Quarters 8388608 far.area.offset.x × QuarterTable still × QuarterCandidates at_start) × Fails far still at_start []
 unfolding of_bits eq
-bound_needed = ((rest, far-away, quarter_still, quarter_at_start), fails computed.bound)
+bound_needed = ((rest, far_away, quarter_still, quarter_at_start), fails computed.bound)
   where
     rest : ButOffset far.area
-    rest = record { width = quarter_small.quarters.width; height = quarter_small.quarters.height; y = nought; notZero = λ e. no e refl }
+    rest = record { width = quarter_small.quarters.width; height = quarter_small.quarters.height; y = nought; not_zero = λ e. no e refl }
 
-    far-away : Quarters 8388608 far.area.offset.x
-    far-away = record { sign = false; k = 8388608; value = (refl, refl); small = omega arith }
+    far_away : Quarters 8388608 far.area.offset.x
+    far_away = record { sign = false; k = 8388608; value = (refl, refl); small = omega arith }
 
 -- lengths of whole quarter pixels
 quarter_lengths_needed : (QuarterArea small.area × QuarterCandidates at_start) × Fails small tenths at_start []

@@ -20,7 +20,7 @@ use Rattle.style_record.specs.Record.{items}
 use Rattle.style_record.specs.Decode.{style_at}
 use Rattle.sweep.specs.Sweep.{candidates_in, moved, keep, list_words, appended}
 use Rattle.sweep.specs.declared.Shift.TheVariants.{By}
-use Rattle.sweep.proofs.Steps.{kept-moved}
+use Rattle.sweep.proofs.Steps.{kept_moved}
 use Rattle.oof_box.specs.Cut.{layout_after}
 use Rattle.oof_box.specs.declared.question.Replies.{Replies}
 use Rattle.oof_place.specs.declared.OofBoxLayout.{OofBoxLayout}
@@ -28,7 +28,7 @@ use Rattle.run.specs.declared.Counts.{Counts}
 use Rattle.run.specs.Run.{box_at_hand, proceeding, laid_out}
 use Rattle.mirror_box.specs.Mirrored.{MirroredLayout}
 use Rattle.mirror_run.specs.Image.{image_styles}
-use Rattle.mirror_run.proofs.Lists.{first-each}
+use Rattle.mirror_run.proofs.Lists.{first_each}
 use Rattle.mirror_run.proofs.ReadBack.{Read}
 use Rattle.mirror_run.proofs.Linked.{Frame, Shared, Own, state_of, slices_of, Ready, box_of, Lists, Laid}
 use Rattle.mirror_run.proofs.Next.{opened_of, leaving}
@@ -64,27 +64,27 @@ pub laid_as : (f : Frame) (styles : List ℕ) (s : Shared) (p : Own) (overflow :
 unfolding laid_out box_at_hand list_words written
 laid_as f styles s p overflow surfaced e =
     let at = (placed_of styles p s.counts s.replies overflow).layout.location in
-    rw (none_kept s.claims (By at) (candidates_in surfaced) e, kept-moved s.claims false (By at) (candidates_in surfaced), add-zero s.counts.filled.working) refl
+    rw (none_kept s.claims (By at) (candidates_in surfaced) e, kept_moved s.claims false (By at) (candidates_in surfaced), add-zero s.counts.filled.working) refl
 
 -- ---- layouts
 
 module _ (ws : List ℕ) (n node : ℕ) (long : length ws ≡ layout_width * n) (there : node < n) (l : Layout) where
-  room-there : layout_width * node + layout_width ≤ length ws
-  room-there = omega (arith, mul-le-mul_left layout_width there, mul-suc layout_width node)
+  room_there : layout_width * node + layout_width ≤ length ws
+  room_there = omega (arith, mul-le-mul_left layout_width there, mul-suc layout_width node)
 
   -- read at its node's place, a layout is as it was written
-  pub written-here : (i : ℕ) → i ≡ node → record_at layout_width (written ws (layout_width * node) (layout_words l)) i ≡ layout_words l
-  written-here i e = ap (record_at layout_width (written ws (layout_width * node) (layout_words l))) e ∙ record_back layout_width node ws (layout_words l) (layout_widths.1 l) room-there
+  pub written_here : (i : ℕ) → i ≡ node → record_at layout_width (written ws (layout_width * node) (layout_words l)) i ≡ layout_words l
+  written_here i e = ap (record_at layout_width (written ws (layout_width * node) (layout_words l))) e ∙ record_back layout_width node ws (layout_words l) (layout_widths.1 l) room_there
 
   -- any other stays
   pub kept_there : (i : ℕ) → (i ≡ node → ⊥) → record_at layout_width (written ws (layout_width * node) (layout_words l)) i ≡ record_at layout_width ws i
-  kept_there i d = others_kept layout_width node i ws (layout_words l) (layout_widths.1 l) room-there d
+  kept_there i d = others_kept layout_width node i ws (layout_words l) (layout_widths.1 l) room_there d
 
 module _ (f : Frame) (c : Counts) (p p' : Own) (lists : Lists f c.filled p p') (begun : 0 < c.begun) (waiting : c.begun ≤ c.filled.working)
     (long : length p.layouts ≡ layout_width * items f.styles) (long' : length p'.layouts ≡ layout_width * items f.styles)
     (by : ContainingBlockClaims) (surfaced : List ℕ) (placed placed' : OofBoxLayout) (read : Read f.container.area placed.layout placed'.layout) where
   ready : (i : ℕ) → i < c.begun → Ready f.container.area (items f.styles) (box_of p i) (box_of p' i)
-  ready i h = first-each c.filled.working p.working p'.working lists.claimed i (omega arith)
+  ready i h = first_each c.filled.working p.working p'.working lists.claimed i (omega arith)
 
   here : ℕ
   here = (box_of p (c.begun - 1)).node
@@ -92,13 +92,13 @@ module _ (f : Frame) (c : Counts) (p p' : Own) (lists : Lists f c.filled p p') (
   here' : ℕ
   here' = (box_of p' (c.begun - 1)).node
 
-  here-there : here < items f.styles
+  here_there : here < items f.styles
   unfolding here
-  here-there = (ready (c.begun - 1) (omega arith)).there.0
+  here_there = (ready (c.begun - 1) (omega arith)).there.0
 
-  here-same : here' ≡ here
+  here_same : here' ≡ here
   unfolding here here'
-  here-same = (ready (c.begun - 1) (omega arith)).image.node
+  here_same = (ready (c.begun - 1) (omega arith)).image.node
 
   -- the box at hand and all before it
   pub laid_next : Laid f (c.begun - 1) p p' → Laid f c.begun (after f.styles by c surfaced placed p) (after (image_styles f.styles) by c surfaced placed' p')
@@ -109,7 +109,7 @@ module _ (f : Frame) (c : Counts) (p p' : Own) (lists : Lists f c.filled p p') (
       same = (ready i h).image.node
 
       there' : here' < items f.styles
-      there' = rw here-same here-there
+      there' = rw here_same here_there
 
       earlier : (i : ℕ) → i < c.begun → ((box_of p i).node ≡ here → ⊥) → i < c.begun - 1
       earlier i h d = before i c.begun h (λ e. d (ap (λ (j : ℕ). (box_of p j).node) e))
@@ -127,14 +127,14 @@ module _ (f : Frame) (c : Counts) (p p' : Own) (lists : Lists f c.filled p p') (
       go true e =
           let k = eqb-true (box_of p i).node here e in
           rw (
-            written-here p.layouts (items f.styles) here long here-there placed.layout (box_of p i).node k,
-            written-here p'.layouts (items f.styles) here' long' there' placed'.layout (box_of p' i).node (same ∙ k ∙ sym here-same),
+            written_here p.layouts (items f.styles) here long here_there placed.layout (box_of p i).node k,
+            written_here p'.layouts (items f.styles) here' long' there' placed'.layout (box_of p' i).node (same ∙ k ∙ sym here_same),
           )
           read
       go false e =
           let d = eqb-false (box_of p i).node here e in
           rw (
-            kept_there p.layouts (items f.styles) here long here-there placed.layout (box_of p i).node d,
-            kept_there p'.layouts (items f.styles) here' long' there' placed'.layout (box_of p' i).node (λ x. d (sym same ∙ x ∙ here-same)),
+            kept_there p.layouts (items f.styles) here long here_there placed.layout (box_of p i).node d,
+            kept_there p'.layouts (items f.styles) here' long' there' placed'.layout (box_of p' i).node (λ x. d (sym same ∙ x ∙ here_same)),
           )
           (laid i (earlier i h d))

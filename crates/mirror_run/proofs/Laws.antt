@@ -14,14 +14,14 @@ use Rattle.style_record.specs.Decode.{length_at}
 use Rattle.mirror_box.specs.Quarter.{rule_of, Keeps}
 use Rattle.mirror_run.specs.Image.{each_record, other_direction, counterpart, image_style, image_styles, image_candidates}
 use Rattle.mirror_run.specs.Laws.{ImageIsAsLong, PartStays, StylesTwice, StylesPass, StylesDecode, PercentagesLeftOut, CandidatesPass, CandidatesDecode}
-use Rattle.mirror_run.proofs.Words.{listed_word, each-length, each_word}
+use Rattle.mirror_run.proofs.Words.{listed_word, each_length, each_word}
 use Rattle.mirror_run.proofs.Counterpart.{counterpart_there, counterpart_twice, moved}
 use Rattle.mirror_run.proofs.Styles as styles
-use Rattle.mirror_run.proofs.Candidates.{same-candidates, decoded-image, record-words}
-use Rattle.mirror_run.proofs.Claimed.{edge-there, fallback-there}
+use Rattle.mirror_run.proofs.Candidates.{same_candidates, decoded_image, record_words_lem}
+use Rattle.mirror_run.proofs.Claimed.{edge_there, fallback_there}
 
 pub image_is_as_long : ImageIsAsLong
-image_is_as_long w image ws = each-length w image ws
+image_is_as_long w image ws = each_length w image ws
 
 pub part_stays : PartStays
 unfolding each_record
@@ -31,7 +31,7 @@ part_stays w image ws j h = go (ltb j (length ws)) refl
     go true e = listed_word (length ws) _ j (ltb-true j (length ws) e) ∙ rw (le-ltb (j / w) (length ws / w) h) refl
     go false e =
         let l = ltb-false j (length ws) e in
-        get_or-eq_default (each_record w image ws) 0 (rw (each-length w image ws) l) ∙ sym (get_or-eq_default ws 0 l)
+        get_or-eq_default (each_record w image ws) 0 (rw (each_length w image ws) l) ∙ sym (get_or-eq_default ws 0 l)
 
 -- ---- styles
 
@@ -56,10 +56,10 @@ image_twice r r' same k h = go (eqb k direction_word) refl
         moved r' k d ∙ same (counterpart k) (counterpart_there k h) ∙ moved r (counterpart k) (λ x. d (sym (counterpart_twice k) ∙ ap counterpart x)) ∙ ap r (counterpart_twice k)
 
 pub styles_twice : StylesTwice
-styles_twice ws = ext_get_or 0 (image_styles (image_styles ws)) ws (as_long ∙ each-length style_words image_style ws) word
+styles_twice ws = ext_get_or 0 (image_styles (image_styles ws)) ws (as_long ∙ each_length style_words image_style ws) word
   where
     as_long : length (image_styles (image_styles ws)) ≡ length (image_styles ws)
-    as_long = each-length style_words image_style (image_styles ws)
+    as_long = each_length style_words image_style (image_styles ws)
 
     word : (j : ℕ) → j < length (image_styles (image_styles ws)) → get_or (image_styles (image_styles ws)) j 0 ≡ get_or ws j 0
     word j h = go (ltb (j / style_words) (length ws / style_words)) refl
@@ -71,19 +71,19 @@ styles_twice ws = ext_get_or 0 (image_styles (image_styles ws)) ws (as_long ∙ 
         go true e =
             let l = ltb-true (j / style_words) (length ws / style_words) e in
             ap (λ (m : ℕ). get_or (image_styles (image_styles ws)) m 0) (there j)
-            ∙ each_word style_words image_style (image_styles ws) (j / style_words) (j % style_words) (omega arith) (rw (each-length style_words image_style ws) l)
+            ∙ each_word style_words image_style (image_styles ws) (j / style_words) (j % style_words) (omega arith) (rw (each_length style_words image_style ws) l)
             ∙ image_twice (λ k. get_or ws (style_words * (j / style_words) + k) 0) (λ k. get_or (image_styles ws) (style_words * (j / style_words) + k) 0)
             (λ k m. each_word style_words image_style ws (j / style_words) k m l) (j % style_words) (omega arith)
             ∙ ap (λ (m : ℕ). get_or ws m 0) (sym (there j))
         go false e =
             let l = ltb-false (j / style_words) (length ws / style_words) e in
-            part_stays style_words image_style (image_styles ws) j (rw (each-length style_words image_style ws) l) ∙ part_stays style_words image_style ws j l
+            part_stays style_words image_style (image_styles ws) j (rw (each_length style_words image_style ws) l) ∙ part_stays style_words image_style ws j l
 
 pub styles_pass : StylesPass
 styles_pass ws = styles.same_check ws
 
 pub styles_decode : StylesDecode
-styles_decode ws i e h = styles.image-style ws e i h
+styles_decode ws i e h = styles.image_style_lem ws e i h
 
 pub percentages_left_out : PercentagesLeftOut
 unfolding length_at
@@ -95,8 +95,8 @@ percentages_left_out ws i l quarters h k = (left_out 5, left_out 15, left_out 12
 -- ---- candidates
 
 pub candidates_pass : CandidatesPass
-candidates_pass area n ws = same-candidates area ws n
+candidates_pass area n ws = same_candidates area ws n
 
 pub candidates_decode : CandidatesDecode
 candidates_decode area n ws i g h =
-    decoded-image area (record_at candidate_width ws i) (record_at candidate_width (image_candidates area ws) i) (record-words area ws i h) (edge-there n ws g i h) (fallback-there n ws g i h)
+    decoded_image area (record_at candidate_width ws i) (record_at candidate_width (image_candidates area ws) i) (record_words_lem area ws i h) (edge_there n ws g i h) (fallback_there n ws g i h)

@@ -35,7 +35,7 @@ use Rattle.mirror_box.specs.Mirrored.{CandidateImage, MirroredLayout, SameRect}
 use Rattle.mirror_run.specs.Image.{image_styles}
 use Rattle.mirror_run.specs.Runs.{SameAnswer, Each, none, one, Unclaimed, MirroredRuns}
 use Rattle.run.specs.Theorems.{laid_count}
-use Rattle.mirror_run.proofs.Lists.{each-weaker}
+use Rattle.mirror_run.proofs.Lists.{each_weaker}
 
 -- ---- what never changes
 
@@ -141,7 +141,7 @@ mirrored (linked s p p' h a) =
       progress = refl;
       overflow = h.overflow;
       order = same_nodes h.lists.claimed;
-      claimed = each-weaker (λ c c' r. r.image) h.lists.claimed;
+      claimed = each_weaker (λ c c' r. r.image) h.lists.claimed;
       unclaimed = h.lists.unclaimed;
       laid = refl;
       boxes = h.laid;

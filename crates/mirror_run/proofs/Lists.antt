@@ -22,35 +22,35 @@ nobody = candidate_of []
 -- ---- two lists, one by one
 
 module _ {R : OofCandidate → OofCandidate → Type 0} where
-  pub each-length : {cs cs' : List OofCandidate} → Each R cs cs' → length cs ≡ length cs'
-  each-length none = refl
-  each-length (one r e) = ap suc (each-length e)
+  pub each_length : {cs cs' : List OofCandidate} → Each R cs cs' → length cs ≡ length cs'
+  each_length none = refl
+  each_length (one r e) = ap suc (each_length e)
 
   pub each_at : {cs cs' : List OofCandidate} → Each R cs cs' → (i : ℕ) → i < length cs → R (get_or cs i nobody) (get_or cs' i nobody)
   each_at none i h = absurd (not-suc-le-zero h)
   each_at (one r e) zero h = r
   each_at (one r e) (suc i) h = each_at e i (le_of_suc-le-suc h)
 
-  pub each-by : (cs cs' : List OofCandidate) → length cs ≡ length cs' → ((i : ℕ) → i < length cs → R (get_or cs i nobody) (get_or cs' i nobody)) → Each R cs cs'
-  each-by [] [] e f = none
-  each-by [] (c ∷ cs) e f = absurd (omega arith)
-  each-by (c ∷ cs) [] e f = absurd (omega arith)
-  each-by (c ∷ cs) (d ∷ ds) e f = one (f 0 (omega arith)) (each-by cs ds (omega arith) (λ i h. f (suc i) (omega arith)))
+  pub each_by : (cs cs' : List OofCandidate) → length cs ≡ length cs' → ((i : ℕ) → i < length cs → R (get_or cs i nobody) (get_or cs' i nobody)) → Each R cs cs'
+  each_by [] [] e f = none
+  each_by [] (c ∷ cs) e f = absurd (omega arith)
+  each_by (c ∷ cs) [] e f = absurd (omega arith)
+  each_by (c ∷ cs) (d ∷ ds) e f = one (f 0 (omega arith)) (each_by cs ds (omega arith) (λ i h. f (suc i) (omega arith)))
 
-  pub each-weaker : {S : OofCandidate → OofCandidate → Type 0} → ((c c' : OofCandidate) → R c c' → S c c') → {cs cs' : List OofCandidate} → Each R cs cs' → Each S cs cs'
-  each-weaker f none = none
-  each-weaker f (one {c = c} {c' = c'} r e) = one (f c c' r) (each-weaker f e)
+  pub each_weaker : {S : OofCandidate → OofCandidate → Type 0} → ((c c' : OofCandidate) → R c c' → S c c') → {cs cs' : List OofCandidate} → Each R cs cs' → Each S cs cs'
+  each_weaker f none = none
+  each_weaker f (one {c = c} {c' = c'} r e) = one (f c c' r) (each_weaker f e)
 
   -- candidates of the same position go to the same list
-  pub each-kept : (by : ContainingBlockClaims) (list : Bool) → ((c c' : OofCandidate) → R c c' → c.position ≡ c'.position)
+  pub each_kept : (by : ContainingBlockClaims) (list : Bool) → ((c c' : OofCandidate) → R c c' → c.position ≡ c'.position)
       → {cs cs' : List OofCandidate}
       → Each R cs cs'
       → Each R (keep by list cs) (keep by list cs')
   unfolding keep
-  each-kept by list f none = none
-  each-kept by list f (one {c = c} {c' = c'} {cs = cs} {cs' = cs'} r e) =
+  each_kept by list f none = none
+  each_kept by list f (one {c = c} {c' = c'} {cs = cs} {cs' = cs'} r e) =
       go (side by list c.position) (side by list c'.position) (ap (side by list) (f c c' r)) (keep by list cs) (keep by list cs')
-      (each-kept by list f e)
+      (each_kept by list f e)
     where
       go : (b b' : Bool) → b ≡ b' → (xs ys : List OofCandidate) → Each R xs ys → Each R (cond b (c ∷ xs) xs) (cond b' (c' ∷ ys) ys)
       go true true e xs ys h = one r h
@@ -77,9 +77,9 @@ module _ {R : OofCandidate → OofCandidate → Type 0} (n : ℕ) (ws ws' : List
   pub first_by : ((i : ℕ) → i < n → R (candidate_of (record_at candidate_width ws i)) (candidate_of (record_at candidate_width ws' i)))
       → Each R (first_candidates n ws) (first_candidates n ws')
   first_by f =
-      each-by (first_candidates n ws) (first_candidates n ws') (first_length n ws ∙ sym (first_length n ws'))
+      each_by (first_candidates n ws) (first_candidates n ws') (first_length n ws ∙ sym (first_length n ws'))
       (λ i h. let l : i < n = rw (first_length n ws) at h in rw (first_at n ws i l, first_at n ws' i l) (f i l))
 
-  pub first-each : Each R (first_candidates n ws) (first_candidates n ws') → (i : ℕ) → i < n
+  pub first_each : Each R (first_candidates n ws) (first_candidates n ws') → (i : ℕ) → i < n
       → R (candidate_of (record_at candidate_width ws i)) (candidate_of (record_at candidate_width ws' i))
-  first-each e i l = rw (first_at n ws i l, first_at n ws' i l) at (each_at e i (rw (first_length n ws) l))
+  first_each e i l = rw (first_at n ws i l, first_at n ws' i l) at (each_at e i (rw (first_length n ws) l))

@@ -20,10 +20,10 @@ use Rattle.mirror_run.specs.Quarter.{QuarterArea, QuarterTable, QuarterCandidate
 use Rattle.mirror_run.specs.Runs as runs
 use Rattle.mirror_run.specs.Runs.{Message, run_next, image_next, lengths_of, is_unread, Fair, AllFair, MirroredRuns, unclaimed_at_opening}
 use Rattle.mirror_run.specs.Mirror.{Mirror}
-use Rattle.mirror_run.proofs.Unread.{same-surfaced, both-refused}
+use Rattle.mirror_run.proofs.Unread.{same_surfaced, both_refused}
 use Rattle.mirror_run.proofs.Linked.{Frame, QuarterFrame, Shared, Own, state_of, outcome_of, slices_of, Links, Linked, linked, both_are, mirrored}
-use Rattle.mirror_run.proofs.Reply.{replied-linked}
-use Rattle.mirror_run.proofs.Opening.{frame, imageLent, quarter-frame, opened-linked}
+use Rattle.mirror_run.proofs.Reply.{replied_linked}
+use Rattle.mirror_run.proofs.Opening.{frame, image_lent, quarter_frame, opened_linked}
 
 -- ---- one reply
 
@@ -71,7 +71,7 @@ module _ (f : Frame) (q : QuarterFrame f) where
         let lent = lent_in f.styles p l in
         let lent' = lent_in (image_styles f.styles) p' l' in
         let r =
-        both-refused (state_of f s p) (state_of f s p') reply surfaced surfaced' lent lent'
+        both_refused (state_of f s p) (state_of f s p') reply surfaced surfaced' lent lent'
         (long f.styles p links.lists.lengths l ∙ lengths ∙ sym (long (image_styles f.styles) p' links.lists.lengths' l')) same refl refl refl
         (ap is_unread (answered f s f.styles p a heard l) ∙ u) in
         both_are f (stays f s f.styles p a heard l r.1) (stays f s (image_styles f.styles) p' a' heard' l' r.2) (linked s p p' links runs.refused)
@@ -84,8 +84,8 @@ module _ (f : Frame) (q : QuarterFrame f) where
     read : lent_by reply surfaced ≡ lent_by reply surfaced' → IfAccepted own → Linked f (leaves own) (leaves' own)
     unfolding next
     read same fair =
-        both_are f refl (sym (same-surfaced (state_of f s p') reply surfaced surfaced' (slices_of (image_styles f.styles) p') same))
-        (replied-linked f q s p p' links reply surfaced fair)
+        both_are f refl (sym (same_surfaced (state_of f s p') reply surfaced surfaced' (slices_of (image_styles f.styles) p') same))
+        (replied_linked f q s p p' links reply surfaced fair)
 
     either : (l l' : Loan) → Fair (state_of f s p) (leaves l).step.answer (record { turn = record { heard = heard; loan = l }; image = record { heard = heard'; loan = l' } })
         → Linked f (leaves l) (leaves' l')
@@ -97,9 +97,9 @@ module _ (f : Frame) (q : QuarterFrame f) where
             let same = fair.words u in
             rw (same.slices, same.imageSlices) (read same.surfaced (subst IfAccepted same.slices (λ e. (fair.quarters e, fair.surfacesNone e))))
 
-  pub one-reply : {o o' : Outcome} (m : Message) → Linked f o o' → Fair o.step.state (run_next f.styles o m).step.answer m
+  pub one_reply : {o o' : Outcome} (m : Message) → Linked f o o' → Fair o.step.state (run_next f.styles o m).step.answer m
       → Linked f (run_next f.styles o m) (image_next (image_styles f.styles) o' m)
-  one-reply m (linked s p p' {a = a} {a' = a'} links same) fair =
+  one_reply m (linked s p p' {a = a} {a' = a'} links same) fair =
       subst (λ (x : Message). Linked f (run_next f.styles (outcome_of f s p a) x) (image_next (image_styles f.styles) (outcome_of f s p' a') x)) (sym one)
       (either s p p' a a' links m.turn.heard.reply m.turn.heard.surfaced m.image.heard.surfaced m.turn.loan m.image.loan
       (subst (Fair (state_of f s p) (run_next f.styles (outcome_of f s p a) m).step.answer) one fair))
@@ -113,23 +113,23 @@ module _ (f : Frame) (q : QuarterFrame f) where
 
   -- ---- any list of them
 
-  pub all-replies : {o o' : Outcome} (ms later : List Message) → Linked f o o' → AllFair f.styles o (ms ++ later)
+  pub all_replies : {o o' : Outcome} (ms later : List Message) → Linked f o o' → AllFair f.styles o (ms ++ later)
       → Linked f (foldl (run_next f.styles) o ms) (foldl (image_next (image_styles f.styles)) o' ms)
-  all-replies [] later h fair = h
-  all-replies (m ∷ ms) later h fair = all-replies ms later (one-reply m h fair.0) fair.1
+  all_replies [] later h fair = h
+  all_replies (m ∷ ms) later h fair = all_replies ms later (one_reply m h fair.0) fair.1
 
 -- ---- from the opening on
 
 from_opening : (o : Opening) (candidates : List ℕ) (lent : Lent) (layouts working unclaimed : List ℕ) (so_far later : List Message)
     → QuarterArea o.area → QuarterTable lent.styles → QuarterCandidates candidates
-    → extents_of lent ≡ extents_of (imageLent o candidates lent layouts working unclaimed)
+    → extents_of lent ≡ extents_of (image_lent o candidates lent layouts working unclaimed)
     → AllFair lent.styles (opened o candidates lent) (so_far ++ later)
     → MirroredRuns o.area (unclaimed_at_opening o candidates lent) (foldl (run_next lent.styles) (opened o candidates lent) so_far)
-    (foldl (image_next (image_styles lent.styles)) (opened (image_opening o) (image_candidates o.area candidates) (imageLent o candidates lent layouts working unclaimed)) so_far)
+    (foldl (image_next (image_styles lent.styles)) (opened (image_opening o) (image_candidates o.area candidates) (image_lent o candidates lent layouts working unclaimed)) so_far)
 from_opening o candidates lent layouts working unclaimed so_far later area table quarter same fair =
     mirrored
-    (all-replies (frame o candidates lent layouts working unclaimed) (quarter-frame o candidates lent layouts working unclaimed same area table quarter) so_far later
-    (opened-linked o candidates lent layouts working unclaimed same area table quarter) fair)
+    (all_replies (frame o candidates lent layouts working unclaimed) (quarter_frame o candidates lent layouts working unclaimed same area table quarter) so_far later
+    (opened_linked o candidates lent layouts working unclaimed same area table quarter) fair)
 
 pub mirror : Mirror
 mirror o candidates lent lent' so_far later area table quarter image same fair =

@@ -24,7 +24,7 @@ use Rattle.mirror_box.specs.Quarter.{QuarterReplies}
 use Rattle.mirror_box.specs.Mirrored.{SameAsked, SameRect}
 use Rattle.mirror_run.specs.Image.{image_styles}
 use Rattle.mirror_run.specs.Runs.{ask, finish}
-use Rattle.mirror_run.proofs.Lists.{first-each}
+use Rattle.mirror_run.proofs.Lists.{first_each}
 use Rattle.mirror_run.proofs.Linked.{Frame, QuarterFrame, Shared, Own, outcome_of, Ready, box_of, Lists, Laid, Blocks, Linked, linked}
 use Rattle.mirror_run.proofs.Box.{asked_same}
 
@@ -39,15 +39,15 @@ module _ (f : Frame) (q : QuarterFrame f) (style : bad_style f.styles ≡ false)
   -- a box of the working list, and its image
   pub ready_at : (c : Counts) → Lists f c.filled p p' → 0 < c.begun → c.begun ≤ c.filled.working
       → Ready f.container.area (items f.styles) (box_of p (c.begun - 1)) (box_of p' (c.begun - 1))
-  ready_at c lists h l = first-each c.filled.working p.working p'.working lists.claimed (c.begun - 1) (omega arith)
+  ready_at c lists h l = first_each c.filled.working p.working p'.working lists.claimed (c.begun - 1) (omega arith)
 
   -- both ask
-  pub asks-linked : (c : Counts) (replies : Replies) → Lists f c.filled p p' → Laid f (c.begun - 1) p p' → QuarterReplies replies → 0 < c.begun
+  pub asks_linked : (c : Counts) (replies : Replies) → Lists f c.filled p p' → Laid f (c.begun - 1) p p' → QuarterReplies replies → 0 < c.begun
       → c.begun ≤ c.filled.working
       → Linked f (leaving (asking f.styles p.working (opened_of f by p) c p.overflow replies) p)
       (leaving (asking (image_styles f.styles) p'.working (opened_of f by p') c p'.overflow replies) p')
   unfolding asking box_at_hand
-  asks-linked c replies lists laid given h l =
+  asks_linked c replies lists laid given h l =
       let b = box_of p (c.begun - 1) in
       let b' = box_of p' (c.begun - 1) in
       at (asked_after p.container (style_at f.styles b.node) b replies) (asked_after p'.container (style_at (image_styles f.styles) b'.node) b' replies)
@@ -62,11 +62,11 @@ module _ (f : Frame) (q : QuarterFrame f) (style : bad_style f.styles ≡ false)
           (linked (shared a.stage) p p' (record { lists = lists; laid = laid; overflow = overflow; replies = given; blocks = λ stage s. blocks }) (ask e.question))
 
   -- both go on to the next box, or both finish
-  pub proceeds-linked : (c : Counts) → Lists f c.filled p p' → Laid f c.begun p p'
+  pub proceeds_linked : (c : Counts) → Lists f c.filled p p' → Laid f c.begun p p'
       → Linked f (leaving (proceeding f.styles p.working (opened_of f by p) c p.overflow) p)
       (leaving (proceeding (image_styles f.styles) p'.working (opened_of f by p') c p'.overflow) p')
   unfolding proceeding finishing
-  proceeds-linked c lists laid = go (ltb c.begun c.filled.working) refl
+  proceeds_linked c lists laid = go (ltb c.begun c.filled.working) refl
     where
       more : Counts
       more = record { filled = c.filled; begun = c.begun + 1; answered = c.answered }
@@ -77,7 +77,7 @@ module _ (f : Frame) (q : QuarterFrame f) (style : bad_style f.styles ≡ false)
           (leaving (cond b (asking (image_styles f.styles) p'.working (opened_of f by p') more p'.overflow no_replies) (finishing (opened_of f by p') c p'.overflow)) p')
       go true e =
           let l = ltb-true c.begun c.filled.working e in
-          asks-linked more no_replies lists (λ i h. laid i (omega arith)) (record { keyword = tt; fill = tt }) (omega arith) (omega arith)
+          asks_linked more no_replies lists (λ i h. laid i (omega arith)) (record { keyword = tt; fill = tt }) (omega arith) (omega arith)
       go false e =
           linked (record { progress = Finished; replies = no_replies; counts = c; claims = by }) p p'
           (record { lists = lists; laid = laid; overflow = overflow; replies = record { keyword = tt; fill = tt }; blocks = λ stage s. blocks })

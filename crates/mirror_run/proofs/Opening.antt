@@ -44,16 +44,16 @@ use Rattle.mirror_run.specs.Quarter.{QuarterArea, QuarterItem, QuarterTable, Qua
 use Rattle.mirror_run.specs.Runs as runs
 use Rattle.mirror_run.specs.Runs.{Each, none, Unclaimed, surfaced, unclaimed_at_opening}
 use Rattle.mirror_run.proofs.Styles.{direction_decoded, items_kept, no_ratio}
-use Rattle.mirror_run.proofs.Lists.{nobody, each-length, each_at, each-kept}
-use Rattle.mirror_run.proofs.Verdicts.{OpeningPassed, opening_passed, same-opening}
+use Rattle.mirror_run.proofs.Lists.{nobody, each_length, each_at, each_kept}
+use Rattle.mirror_run.proofs.Verdicts.{OpeningPassed, opening_passed, same_opening}
 use Rattle.mirror_run.proofs.Claimed.{same_positions, all_ready, slice_back, front_good, opened_images}
 use Rattle.mirror_run.proofs.Linked.{Frame, QuarterFrame, Shared, Own, outcome_of, Ready, Lists, Linked, linked, both_are}
-use Rattle.mirror_run.proofs.Next.{opened_of, leaving, proceeds-linked}
+use Rattle.mirror_run.proofs.Next.{opened_of, leaving, proceeds_linked}
 
 -- ---- what demand 3 asks, as the law of one box asks it
 
 pub quarter_block : (o : Opening) → QuarterArea o.area → QuarterContainer (container_of o)
-quarter_block o h = record { width = h.quarters.width; notZero = h.notZero; offset = h.quarters.x }
+quarter_block o h = record { width = h.quarters.width; not_zero = h.notZero; offset = h.quarters.x }
 
 pub quarter_style : (styles : List ℕ) → bad_style styles ≡ false → (i : ℕ) → i < items styles → QuarterItem (item styles i) → QuarterStyle (style_at styles i)
 unfolding style_at style_of rect_at size_at
@@ -102,18 +102,18 @@ module _ (o : Opening) (candidates : List ℕ) (lent : Lent) (layouts working un
   frame = record { container = container_of o; styles = lent.styles; extents = extents_of lent; at_opening = unclaimed_at_opening o candidates lent }
 
   -- the image's slices
-  abbrev pub imageLent : Lent
-  imageLent = record { styles = image_styles lent.styles; layouts = layouts; working = working; unclaimed = unclaimed }
+  abbrev pub image_lent : Lent
+  image_lent = record { styles = image_styles lent.styles; layouts = layouts; working = working; unclaimed = unclaimed }
 
   abbrev image : List ℕ
   image = image_candidates o.area candidates
 
-  module _ (same : extents_of lent ≡ extents_of imageLent) where
-    kept-alike : (list : Bool) → length (keep (claims_of o) list (candidates_in candidates)) ≡ length (keep (claims_of o) list (candidates_in image))
-    kept-alike list = each-length (each-kept (claims_of o) list (λ c c' e. e) (same_positions o.area candidates))
+  module _ (same : extents_of lent ≡ extents_of image_lent) where
+    kept_alike : (list : Bool) → length (keep (claims_of o) list (candidates_in candidates)) ≡ length (keep (claims_of o) list (candidates_in image))
+    kept_alike list = each_length (each_kept (claims_of o) list (λ c c' e. e) (same_positions o.area candidates))
 
-    same-verdict : opening_verdict o candidates lent ≡ opening_verdict (image_opening o) image imageLent
-    same-verdict = same-opening o candidates lent imageLent refl same kept-alike
+    same_verdict : opening_verdict o candidates lent ≡ opening_verdict (image_opening o) image image_lent
+    same_verdict = same_opening o candidates lent image_lent refl same kept_alike
 
     -- ---- refused: both have the state of a finished run with all counts 0
 
@@ -126,28 +126,28 @@ module _ (o : Opening) (candidates : List ℕ) (lent : Lent) (layouts working un
     abbrev untouched : Lent → Own
     untouched lent = record { container = nobodys; overflow = zero_rect; layouts = lent.layouts; working = lent.working; unclaimed = lent.unclaimed }
 
-    no-records : (styles w : List ℕ) → bad_candidate styles w 0 ≡ false
+    no_records : (styles w : List ℕ) → bad_candidate styles w 0 ≡ false
     unfolding bad_candidate good_records every
-    no-records styles w = rw (le-leb 0 (length w / candidate_width) (omega arith)) refl
+    no_records styles w = rw (le-leb 0 (length w / candidate_width) (omega arith)) refl
 
-    closed-as : (r : Refusal) → unwritten imageLent (record { state = closed imageLent; answer = Refused r }) ≡ outcome_of frame over (untouched imageLent) (Refused r)
+    closed_as : (r : Refusal) → unwritten image_lent (record { state = closed image_lent; answer = Refused r }) ≡ outcome_of frame over (untouched image_lent) (Refused r)
     unfolding closed nobodys
-    closed-as r = ap (λ (e : Extents). outcome_of (record { container = container_of o; styles = lent.styles; extents = e; at_opening = unclaimed_at_opening o candidates lent }) over (untouched imageLent) (Refused r)) (sym same)
+    closed_as r = ap (λ (e : Extents). outcome_of (record { container = container_of o; styles = lent.styles; extents = e; at_opening = unclaimed_at_opening o candidates lent }) over (untouched image_lent) (Refused r)) (sym same)
 
     turned_down : (r : Refusal) → opening_verdict o candidates lent ≡ refused r
-        → Linked frame (unwritten lent (record { state = closed lent; answer = Refused r })) (unwritten imageLent (record { state = closed imageLent; answer = Refused r }))
+        → Linked frame (unwritten lent (record { state = closed lent; answer = Refused r })) (unwritten image_lent (record { state = closed image_lent; answer = Refused r }))
     unfolding closed nobodys first_candidates records
     turned_down r d =
-        rw (closed-as r)
-        (linked over (untouched lent) (untouched imageLent)
+        rw (closed_as r)
+        (linked over (untouched lent) (untouched image_lent)
         (record {
           lists =
               record {
                 lengths = refl;
                 lengths' = sym same;
                 claimed = none;
-                good = no-records lent.styles lent.working;
-                good' = no-records (image_styles lent.styles) working;
+                good = no_records lent.styles lent.working;
+                good' = no_records (image_styles lent.styles) working;
                 unclaimed = subst (λ (n : ℕ). Unclaimed o.area n [] []) (sym (ap held (opened_as o candidates lent d))) (surfaced none);
               };
           laid = λ i h. absurd (omega arith);
@@ -163,32 +163,32 @@ module _ (o : Opening) (candidates : List ℕ) (lent : Lent) (layouts working un
     by = claims_of o
 
     -- the candidates that go to a list
-    abbrev inList : Bool → List OofCandidate
-    inList list = keep by list (candidates_in candidates)
+    abbrev in_list : Bool → List OofCandidate
+    in_list list = keep by list (candidates_in candidates)
 
-    abbrev inImage : Bool → List OofCandidate
-    inImage list = keep by list (candidates_in image)
+    abbrev in_image : Bool → List OofCandidate
+    in_image list = keep by list (candidates_in image)
 
     -- what each run has for itself
     abbrev first : Own
-    first = record { container = container_of o; overflow = zero_rect; layouts = lent.layouts; working = appended lent.working 0 (inList true); unclaimed = appended lent.unclaimed 0 (inList false) }
+    first = record { container = container_of o; overflow = zero_rect; layouts = lent.layouts; working = appended lent.working 0 (in_list true); unclaimed = appended lent.unclaimed 0 (in_list false) }
 
     abbrev second : Own
     second =
-        record { container = container_of (image_opening o); overflow = zero_rect; layouts = layouts; working = appended working 0 (inImage true); unclaimed = appended unclaimed 0 (inImage false) }
+        record { container = container_of (image_opening o); overflow = zero_rect; layouts = layouts; working = appended working 0 (in_image true); unclaimed = appended unclaimed 0 (in_image false) }
 
     abbrev counts : Counts
-    counts = record { filled = record { working = length (inList true); unclaimed = length (inList false) }; begun = 0; answered = 0 }
+    counts = record { filled = record { working = length (in_list true); unclaimed = length (in_list false) }; begun = 0; answered = 0 }
 
     begun_first : begun o candidates lent ≡ leaving (proceeding lent.styles first.working (opened_of frame by first) counts zero_rect) first
     unfolding begun
     begun_first = rw (zero-add, zero-add) refl
 
-    begun-as : begun (image_opening o) image imageLent ≡ leaving (proceeding (image_styles lent.styles) second.working (opened_of frame by second) counts zero_rect) second
+    begun_as : begun (image_opening o) image image_lent ≡ leaving (proceeding (image_styles lent.styles) second.working (opened_of frame by second) counts zero_rect) second
     unfolding begun
-    begun-as =
-        alike (extents_of imageLent) (extents_of lent) (0 + length (inImage true)) (length (inList true)) (0 + length (inImage false)) (length (inList false)) (sym same) (zero-add _ ∙ sym (kept-alike true))
-        (zero-add _ ∙ sym (kept-alike false))
+    begun_as =
+        alike (extents_of image_lent) (extents_of lent) (0 + length (in_image true)) (length (in_list true)) (0 + length (in_image false)) (length (in_list false)) (sym same) (zero-add _ ∙ sym (kept_alike true))
+        (zero-add _ ∙ sym (kept_alike false))
       where
         with : Extents → ℕ → ℕ → Outcome
         with e m n =
@@ -200,59 +200,59 @@ module _ (o : Opening) (candidates : List ℕ) (lent : Lent) (layouts working un
         alike e e' m m' n n' p q r = rw (p, q, r) refl
 
     module _ (area : QuarterArea o.area) (table : QuarterTable lent.styles) (quarter : QuarterCandidates candidates) where
-      pub quarter-frame : QuarterFrame frame
-      quarter-frame = record { container = quarter_block o area; style = λ e i h. quarter_style lent.styles e i h (table i h) }
+      pub quarter_frame : QuarterFrame frame
+      quarter_frame = record { container = quarter_block o area; style = λ e i h. quarter_style lent.styles e i h (table i h) }
 
-      module _ (d : opening_verdict o candidates lent ≡ accepted) (passed : OpeningPassed o candidates lent) (passed' : OpeningPassed (image_opening o) image imageLent) where
+      module _ (d : opening_verdict o candidates lent ≡ accepted) (passed : OpeningPassed o candidates lent) (passed' : OpeningPassed (image_opening o) image image_lent) where
         direction_there : o.direction < 2
         unfolding bad_area
         direction_there = let e = ltb-false 1 o.direction (neither _ _ (neither _ _ (neither _ _ passed.area).0).0).0 in omega arith
 
-        image_block : container_of (image_opening o) ≡ box.imageContainer (container_of o)
-        unfolding box.imageContainer
+        image_block : container_of (image_opening o) ≡ box.image_container (container_of o)
+        unfolding box.image_container
         image_block = rw (direction_decoded o.direction direction_there) refl
 
-        ready : (list : Bool) → Each (Ready o.area (items lent.styles)) (inList list) (inImage list)
+        ready : (list : Bool) → Each (Ready o.area (items lent.styles)) (in_list list) (in_image list)
         ready list =
-            each-kept by list (λ c c' r. sym r.image.position) (all_ready (container_of o) (quarter_block o area) (items lent.styles) candidates passed.candidate quarter)
+            each_kept by list (λ c c' r. sym r.image.position) (all_ready (container_of o) (quarter_block o area) (items lent.styles) candidates passed.candidate quarter)
 
-        image-back : (list : Bool) (w : List ℕ) → candidate_width * (0 + length (inImage list)) ≤ length w → first_candidates (length (inList list)) (appended w 0 (inImage list)) ≡ inImage list
-        image-back list w room = rw (kept-alike list) (slice_back by image w list room)
+        image_back : (list : Bool) (w : List ℕ) → candidate_width * (0 + length (in_image list)) ≤ length w → first_candidates (length (in_list list)) (appended w 0 (in_image list)) ≡ in_image list
+        image_back list w room = rw (kept_alike list) (slice_back by image w list room)
 
-        claimed-there : (i : ℕ) → i < length (inList true) → IsBelow (items lent.styles) (get_or (inList true) i nobody)
-        claimed-there i h = (each_at (ready true) i h).there
+        claimed_there : (i : ℕ) → i < length (in_list true) → IsBelow (items lent.styles) (get_or (in_list true) i nobody)
+        claimed_there i h = (each_at (ready true) i h).there
 
-        image-there : (i : ℕ) → i < length (inImage true) → IsBelow (items lent.styles) (get_or (inImage true) i nobody)
-        image-there i h =
-            let r = each_at (ready true) i (rw (kept-alike true) h) in
+        image_there : (i : ℕ) → i < length (in_image true) → IsBelow (items lent.styles) (get_or (in_image true) i nobody)
+        image_there i h =
+            let r = each_at (ready true) i (rw (kept_alike true) h) in
             rw (r.image.node, r.image.layer) r.there
 
         lists : Lists frame counts.filled first second
         unfolding bad_candidate
         lists =
             record {
-              lengths = rw (appended_length lent.working 0 (inList true), appended_length lent.unclaimed 0 (inList false)) refl;
-              lengths' = rw (appended_length working 0 (inImage true), appended_length unclaimed 0 (inImage false)) (sym same);
-              claimed = rw (slice_back by candidates lent.working true passed.room.0, image-back true working passed'.room.0) (ready true);
-              good = ap not (front_good lent.working (inList true) passed.room.0 (items lent.styles) claimed-there);
+              lengths = rw (appended_length lent.working 0 (in_list true), appended_length lent.unclaimed 0 (in_list false)) refl;
+              lengths' = rw (appended_length working 0 (in_image true), appended_length unclaimed 0 (in_image false)) (sym same);
+              claimed = rw (slice_back by candidates lent.working true passed.room.0, image_back true working passed'.room.0) (ready true);
+              good = ap not (front_good lent.working (in_list true) passed.room.0 (items lent.styles) claimed_there);
               good' =
-                  rw (items_kept lent.styles, kept-alike true)
-                  (ap not (front_good working (inImage true) passed'.room.0 (items lent.styles) image-there));
-              unclaimed = rw (slice_back by candidates lent.unclaimed false passed.room.1, image-back false unclaimed passed'.room.1)
-                  (subst (λ (n : ℕ). Unclaimed o.area n (inList false) (inImage false)) (sym (ap held (opened_as o candidates lent d) ∙ held_at_opening o candidates lent)) (opened_images (ready false)));
+                  rw (items_kept lent.styles, kept_alike true)
+                  (ap not (front_good working (in_image true) passed'.room.0 (items lent.styles) image_there));
+              unclaimed = rw (slice_back by candidates lent.unclaimed false passed.room.1, image_back false unclaimed passed'.room.1)
+                  (subst (λ (n : ℕ). Unclaimed o.area n (in_list false) (in_image false)) (sym (ap held (opened_as o candidates lent d) ∙ held_at_opening o candidates lent)) (opened_images (ready false)));
             }
 
-        begins : Linked frame (begun o candidates lent) (begun (image_opening o) image imageLent)
+        begins : Linked frame (begun o candidates lent) (begun (image_opening o) image image_lent)
         begins =
-            subst (λ (x : Outcome). Linked frame x (begun (image_opening o) image imageLent)) (sym begun_first)
-            (subst (Linked frame _) (sym begun-as)
-            (proceeds-linked frame quarter-frame passed.style by first second (refl, image_block) zero_rect_lem counts lists (λ i h. absurd (omega arith))))
+            subst (λ (x : Outcome). Linked frame x (begun (image_opening o) image image_lent)) (sym begun_first)
+            (subst (Linked frame _) (sym begun_as)
+            (proceeds_linked frame quarter_frame passed.style by first second (refl, image_block) zero_rect_lem counts lists (λ i h. absurd (omega arith))))
 
-      pub opened-linked : Linked frame (opened o candidates lent) (opened (image_opening o) image imageLent)
-      opened-linked = go (opening_verdict o candidates lent) refl
+      pub opened_linked : Linked frame (opened o candidates lent) (opened (image_opening o) image image_lent)
+      opened_linked = go (opening_verdict o candidates lent) refl
         where
-          go : (v : Verdict) → opening_verdict o candidates lent ≡ v → Linked frame (opened o candidates lent) (opened (image_opening o) image imageLent)
-          go (refused r) e = both_are frame (opened_as o candidates lent e) (opened_as (image_opening o) image imageLent (sym same-verdict ∙ e)) (turned_down r e)
+          go : (v : Verdict) → opening_verdict o candidates lent ≡ v → Linked frame (opened o candidates lent) (opened (image_opening o) image image_lent)
+          go (refused r) e = both_are frame (opened_as o candidates lent e) (opened_as (image_opening o) image image_lent (sym same_verdict ∙ e)) (turned_down r e)
           go accepted e =
-              both_are frame (opened_as o candidates lent e) (opened_as (image_opening o) image imageLent (sym same-verdict ∙ e))
-              (begins e (opening_passed o candidates lent e) (opening_passed (image_opening o) image imageLent (sym same-verdict ∙ e)))
+              both_are frame (opened_as o candidates lent e) (opened_as (image_opening o) image image_lent (sym same_verdict ∙ e))
+              (begins e (opening_passed o candidates lent e) (opening_passed (image_opening o) image image_lent (sym same_verdict ∙ e)))

@@ -19,14 +19,14 @@ use Rattle.oof_place.specs.Placing as place
 use Rattle.oof_box.specs.Cut.{layout_after}
 use Rattle.oof_box.specs.declared.question.Replies.{Replies}
 use Rattle.util_exact.proofs.Same.{Same, equal}
-use Rattle.mirror_axis.proofs.Facing.{start-is-end, end-is-start}
+use Rattle.mirror_axis.proofs.Facing.{start_is_end, end_is_start}
 use Rattle.mirror_box.specs.Image.{exchanged_rect, image_container, image_style}
 use Rattle.mirror_box.specs.Quarter.{QuarterContainer, QuarterStyle, QuarterCandidate, QuarterReplies, QuarterOverflow}
 use Rattle.mirror_box.specs.Mirrored.{CandidateImage, MirrorSum, MirroredLayout}
 use Rattle.mirror_box.proofs.Bounds.{length_bound, static_bound, fit_bound}
-use Rattle.mirror_box.proofs.Resolve.{resolved-shared}
-use Rattle.mirror_box.proofs.Keywords.{keywords-shared}
-use Rattle.mirror_box.proofs.Stretch.{size-by}
+use Rattle.mirror_box.proofs.Resolve.{resolved_shared}
+use Rattle.mirror_box.proofs.Keywords.{keywords_shared}
+use Rattle.mirror_box.proofs.Stretch.{size_by_lem}
 use Rattle.mirror_box.proofs.Law.{lays_out_mirrored}
 use Rattle.mirror_run.proofs.Again.{again, again_same, again_sixteenths}
 
@@ -52,8 +52,8 @@ abbrev again_size : Size → Size
 again_size s = record { width = again s.width; height = again s.height }
 
 module _ (area : OofPositioningArea) (l l' : Layout) (m : MirroredLayout area l l') (h : Held l l') where
-  sum-read : MirrorSum area (again l.location.x ∷ again l'.location.x ∷ again l.size.width ∷ [])
-  sum-read =
+  sum_read : MirrorSum area (again l.location.x ∷ again l'.location.x ∷ again l.size.width ∷ [])
+  sum_read =
       let total = m.x.1 in
       let rest = total.3 in
       let last = rest.3 in
@@ -71,14 +71,14 @@ module _ (area : OofPositioningArea) (l l' : Layout) (m : MirroredLayout area l 
         size = record { width = equal (again_same (lit< tt) h.width); height = ap again m.size.height };
         overflow = ap again_rect m.overflow;
         scrollbar = ap again_size m.scrollbar;
-        x = sum-read;
+        x = sum_read;
         y = ap again m.y;
         padding = ap again_rect m.padding;
         border = ap again_rect m.border;
-        marginLeft = equal (again_same (lit< tt) h.left);
-        marginRight = equal (again_same (lit< tt) h.right);
-        marginTop = ap again m.marginTop;
-        marginBottom = ap again m.marginBottom;
+        margin_left = equal (again_same (lit< tt) h.left);
+        margin_right = equal (again_same (lit< tt) h.right);
+        margin_top = ap again m.marginTop;
+        margin_bottom = ap again m.marginBottom;
       }
 
 -- ---- a box laid out
@@ -86,19 +86,19 @@ module _ (area : OofPositioningArea) (l l' : Layout) (m : MirroredLayout area l 
 module _ (container : ContainingBlock) (style : Style) (c c' : OofCandidate) (r : Replies) (overflow : Rect) (hb : QuarterContainer container) (hs : QuarterStyle style) (hc : QuarterCandidate c)
     (hi : CandidateImage container.area c c') (q : QuarterReplies r) (qo : QuarterOverflow overflow) where
   held : Held (layout_after container style c r overflow).layout (layout_after (image_container container) (image_style style) c' r overflow).layout
-  unfolding layout_after place.boxLayout place.layout_of
+  unfolding layout_after place.box_layout place.layout_of
   held =
       let b = resolved_box container style c in
       let b' = resolved_box (image_container container) (image_style style) c' in
-      let h = resolved-shared container style c c' hb hs hc hi in
-      let size = size-by style hs b b' h (keywords-shared style hs b b' h) r q in
+      let h = resolved_shared container style c c' hb hs hc hi in
+      let size = size_by_lem style hs b b' h (keywords_shared style hs b b' h) r q in
       record {
         width = size.width;
-        left = start-is-end length_bound static_bound fit_bound (lit< tt) b.horizontal b'.horizontal h.faces _ _ size.width;
-        right = end-is-start length_bound static_bound fit_bound (lit< tt) b.horizontal b'.horizontal h.faces _ _ size.width;
+        left = start_is_end length_bound static_bound fit_bound (lit< tt) b.horizontal b'.horizontal h.faces _ _ size.width;
+        right = end_is_start length_bound static_bound fit_bound (lit< tt) b.horizontal b'.horizontal h.faces _ _ size.width;
         x = add-fits binary32 _ _;
         x' = add-fits binary32 _ _;
       }
 
-  pub layouts-read : Read container.area (layout_after container style c r overflow).layout (layout_after (image_container container) (image_style style) c' r overflow).layout
-  layouts-read = read_back container.area _ _ (lays_out_mirrored container style c c' r overflow hb hs hc hi q qo).layout held
+  pub layouts_read : Read container.area (layout_after container style c r overflow).layout (layout_after (image_container container) (image_style style) c' r overflow).layout
+  layouts_read = read_back container.area _ _ (lays_out_mirrored container style c c' r overflow hb hs hc hi q qo).layout held

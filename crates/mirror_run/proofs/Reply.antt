@@ -33,14 +33,14 @@ use Rattle.mirror_run.specs.Image.{image_styles}
 use Rattle.mirror_run.specs.Quarter.{QuarterReply}
 use Rattle.mirror_run.specs.Runs as runs
 use Rattle.mirror_run.proofs.Styles.{items_kept}
-use Rattle.mirror_run.proofs.Verdicts.{same-reply, ReplyPassed, reply_passed}
+use Rattle.mirror_run.proofs.Verdicts.{same_reply, ReplyPassed, reply_passed}
 use Rattle.mirror_run.proofs.Unread.{was_asking, replied_as, taken_all}
-use Rattle.mirror_run.proofs.Taken.{QuarterTaken, quarter-taken}
+use Rattle.mirror_run.proofs.Taken.{QuarterTaken, quarter_taken}
 use Rattle.mirror_run.proofs.Linked as link
 use Rattle.mirror_run.proofs.Linked.{Frame, QuarterFrame, Shared, Own, state_of, slices_of, Ready, box_of, Lists, Blocks, Links, Linked, linked, both_are}
 use Rattle.mirror_run.proofs.Box.{laid_same, read_same}
-use Rattle.mirror_run.proofs.Next.{ready_at, asks-linked, proceeds-linked}
-use Rattle.mirror_run.proofs.Surfaced.{surfaced-unclaimed}
+use Rattle.mirror_run.proofs.Next.{ready_at, asks_linked, proceeds_linked}
+use Rattle.mirror_run.proofs.Surfaced.{surfaced_unclaimed}
 use Rattle.mirror_run.proofs.LaidOut.{placed_of, after, counts_after, laid_as, laid_next}
 
 -- ---- both runs
@@ -52,10 +52,10 @@ module _ (f : Frame) (q : QuarterFrame f) (s : Shared) (p p' : Own) (links : Lin
   abbrev lent' : Lent
   lent' = slices_of (image_styles f.styles) p'
 
-  same-verdict : reply_verdict (state_of f s p) reply surfaced lent ≡ reply_verdict (state_of f s p') reply surfaced lent'
+  same_verdict : reply_verdict (state_of f s p) reply surfaced lent ≡ reply_verdict (state_of f s p') reply surfaced lent'
   unfolding taken_by
-  same-verdict =
-      same-reply (state_of f s p) (state_of f s p') reply surfaced lent lent' refl (links.lists.lengths ∙ sym links.lists.lengths') refl refl refl refl
+  same_verdict =
+      same_reply (state_of f s p) (state_of f s p') reply surfaced lent lent' refl (links.lists.lengths ∙ sym links.lists.lengths') refl refl refl refl
       (links.lists.good ∙ sym links.lists.good')
 
   -- a refused reply leaves both as they were
@@ -70,7 +70,7 @@ module _ (f : Frame) (q : QuarterFrame f) (s : Shared) (p p' : Own) (links : Lin
     measures : (replies : Replies) → QuarterReplies replies → Linked f (measured_on (state_of f s p) replies lent) (measured_on (state_of f s p') replies lent')
     unfolding measured_on
     measures replies given =
-        asks-linked f q passed.style s.claims p p' (links.blocks stage asked) links.overflow
+        asks_linked f q passed.style s.claims p p' (links.blocks stage asked) links.overflow
         (record { filled = s.counts.filled; begun = s.counts.begun; answered = s.counts.answered + 1 }) replies links.lists before given passed.begun passed.waiting
 
     -- the box was laid out
@@ -98,44 +98,44 @@ module _ (f : Frame) (q : QuarterFrame f) (s : Shared) (p p' : Own) (links : Lin
       mirrored_box =
           laid_same f q p p' blocks passed.style (box_of p (s.counts.begun - 1)) (box_of p' (s.counts.begun - 1)) ready s.replies links.replies overflow given
 
-      layouts-long' : length p'.layouts ≡ layout_width * items f.styles
-      layouts-long' = passed'.layouts ∙ ap (λ (n : ℕ). layout_width * n) (items_kept f.styles)
+      layouts_long' : length p'.layouts ≡ layout_width * items f.styles
+      layouts_long' = passed'.layouts ∙ ap (λ (n : ℕ). layout_width * n) (items_kept f.styles)
 
       -- the words written change no length
-      lengths-kept : (styles : List ℕ) (p : Own) (placed : OofBoxLayout)
+      lengths_kept_lem : (styles : List ℕ) (p : Own) (placed : OofBoxLayout)
           → extents_of (slices_of styles (after styles s.claims s.counts surfaced placed p)) ≡ extents_of (slices_of styles p)
-      lengths-kept styles p placed =
+      lengths_kept_lem styles p placed =
           rw (
             written_length p.layouts (layout_width * (box_of p (s.counts.begun - 1)).node) (layout_words placed.layout),
             appended_length p.unclaimed s.counts.filled.unclaimed (keep s.claims false (map (moved (By placed.layout.location)) (candidates_in surfaced))),
           )
           refl
 
-      lists-next : Lists f (counts_after s.claims s.counts surfaced).filled next next'
-      lists-next =
+      lists_next : Lists f (counts_after s.claims s.counts surfaced).filled next next'
+      lists_next =
           let old = links.lists in
           record {
-            lengths = lengths-kept f.styles p placed ∙ old.lengths;
-            lengths' = lengths-kept (image_styles f.styles) p' placed' ∙ old.lengths';
+            lengths = lengths_kept_lem f.styles p placed ∙ old.lengths;
+            lengths' = lengths_kept_lem (image_styles f.styles) p' placed' ∙ old.lengths';
             claimed = old.claimed;
             good = old.good;
             good' = old.good';
             unclaimed =
-                surfaced-unclaimed s.claims surfaced p.unclaimed p'.unclaimed s.counts.filled.unclaimed (rw lay at passed.room.1) (rw lay at passed'.room.1)
+                surfaced_unclaimed s.claims surfaced p.unclaimed p'.unclaimed s.counts.filled.unclaimed (rw lay at passed.room.1) (rw lay at passed'.room.1)
                 placed.layout.location placed'.layout.location mirrored_box.layout.y old.unclaimed;
           }
 
       laid : link.Laid f s.counts.begun next next'
       laid =
-          laid_next f s.counts p p' links.lists passed.begun passed.waiting passed.layouts layouts-long' s.claims surfaced placed placed'
+          laid_next f s.counts p p' links.lists passed.begun passed.waiting passed.layouts layouts_long' s.claims surfaced placed placed'
           (read_same f q p p' blocks passed.style (box_of p (s.counts.begun - 1)) (box_of p' (s.counts.begun - 1)) ready s.replies links.replies overflow given) before
 
       lays_out_lem : Linked f (laid_out (state_of f s p) overflow surfaced lent) (laid_out (state_of f s p') overflow surfaced lent')
       lays_out_lem =
           both_are f (laid_as f f.styles s p overflow surfaced unclaimed) (laid_as f (image_styles f.styles) s p' overflow surfaced unclaimed)
-          (proceeds-linked f q passed.style s.claims next next' blocks
+          (proceeds_linked f q passed.style s.claims next next' blocks
           (unions_mirrored p.overflow p'.overflow placed.contribution placed'.contribution links.overflow mirrored_box.contribution)
-          (counts_after s.claims s.counts surfaced) lists-next laid)
+          (counts_after s.claims s.counts surfaced) lists_next laid)
 
   -- ---- any reply
 
@@ -144,26 +144,26 @@ module _ (f : Frame) (q : QuarterFrame f) (s : Shared) (p p' : Own) (links : Lin
       is_refused (replied (state_of f s p) reply surfaced lent).step.answer ≡ false
       → QuarterReply reply × (keep s.claims true (candidates_in (lent_by reply surfaced)) ≡ [])
 
-  pub replied-linked : Fair → Linked f (replied (state_of f s p) reply surfaced lent) (replied (state_of f s p') reply surfaced lent')
+  pub replied_linked : Fair → Linked f (replied (state_of f s p) reply surfaced lent) (replied (state_of f s p') reply surfaced lent')
   unfolding taken_by
-  replied-linked fair = go (reply_verdict (state_of f s p) reply surfaced lent) (taken_in s.progress s.replies reply) refl refl
+  replied_linked fair = go (reply_verdict (state_of f s p) reply surfaced lent) (taken_in s.progress s.replies reply) refl refl
     where
       go : (v : Verdict) (t : Taken) → reply_verdict (state_of f s p) reply surfaced lent ≡ v → taken_in s.progress s.replies reply ≡ t
           → Linked f (replied (state_of f s p) reply surfaced lent) (replied (state_of f s p') reply surfaced lent')
-      go (refused r) t d e = both_are f (replied_as _ reply surfaced lent d e) (replied_as _ reply surfaced lent' (sym same-verdict ∙ d) e) (refuses r)
-      go accepted Wrong d e = both_are f (replied_as _ reply surfaced lent d e) (replied_as _ reply surfaced lent' (sym same-verdict ∙ d) e) (refuses WrongReply)
+      go (refused r) t d e = both_are f (replied_as _ reply surfaced lent d e) (replied_as _ reply surfaced lent' (sym same_verdict ∙ d) e) (refuses r)
+      go accepted Wrong d e = both_are f (replied_as _ reply surfaced lent d e) (replied_as _ reply surfaced lent' (sym same_verdict ∙ d) e) (refuses WrongReply)
       go accepted (Kept replies) d e =
           let r = replied_as (state_of f s p) reply surfaced lent d e in
           let h = fair (ap (λ (o : Outcome). is_refused o.step.answer) r ∙ measured_accepts (state_of f s p) replies lent) in
           let at = was_asking s.progress s.replies reply (ap is_wrong e) in
-          both_are f r (replied_as _ reply surfaced lent' (sym same-verdict ∙ d) e)
+          both_are f r (replied_as _ reply surfaced lent' (sym same_verdict ∙ d) e)
           (measures at.0 at.1 (reply_passed (state_of f s p) reply surfaced lent d) replies
-          (subst QuarterTaken e (quarter-taken s.replies links.replies s.progress reply h.0)))
+          (subst QuarterTaken e (quarter_taken s.replies links.replies s.progress reply h.0)))
       go accepted (Laid overflow) d e =
           let r = replied_as (state_of f s p) reply surfaced lent d e in
           let h = fair (ap (λ (o : Outcome). is_refused o.step.answer) r ∙ laid_accepts (state_of f s p) overflow surfaced lent) in
           let at = was_asking s.progress s.replies reply (ap is_wrong e) in
           let all = taken_all (state_of f s p) reply surfaced e in
-          both_are f r (replied_as _ reply surfaced lent' (sym same-verdict ∙ d) e)
-          (lays_out_lem at.0 at.1 (reply_passed (state_of f s p) reply surfaced lent d) (reply_passed (state_of f s p') reply surfaced lent' (sym same-verdict ∙ d)) overflow
-          (subst QuarterTaken e (quarter-taken s.replies links.replies s.progress reply h.0)) all (subst (λ (ws : List ℕ). keep s.claims true (candidates_in ws) ≡ []) all h.1))
+          both_are f r (replied_as _ reply surfaced lent' (sym same_verdict ∙ d) e)
+          (lays_out_lem at.0 at.1 (reply_passed (state_of f s p) reply surfaced lent d) (reply_passed (state_of f s p') reply surfaced lent' (sym same_verdict ∙ d)) overflow
+          (subst QuarterTaken e (quarter_taken s.replies links.replies s.progress reply h.0)) all (subst (λ (ws : List ℕ). keep s.claims true (candidates_in ws) ≡ []) all h.1))

@@ -310,14 +310,14 @@ pub record Computed : Type 0 where
   -- one unclaimed record of the opening, from 30 on and up to 86; and one surfaced, moved to where its box stands
   pub at_opening : unclaimed_at_opening panel four lent ≡ 1
   pub unclaimed : unclaimed_words (after replies) ≡ 1106247680 ∷ 1108869120 ∷ []
-  pub imageUnclaimed : unclaimed_words (image_after replies) ≡ 1118568448 ∷ 1111490560 ∷ []
+  pub image_unclaimed : unclaimed_words (image_after replies) ≡ 1118568448 ∷ 1111490560 ∷ []
   -- each record on its layer, in both
   pub layers : layers_after (after replies) ≡ 9 ∷ 0 ∷ 3 ∷ 255 ∷ 4 ∷ []
-  pub imageLayers : layers_after (image_after replies) ≡ 9 ∷ 0 ∷ 3 ∷ 255 ∷ 4 ∷ []
+  pub image_layers : layers_after (image_after replies) ≡ 9 ∷ 0 ∷ 3 ∷ 255 ∷ 4 ∷ []
   -- nobody claims what is surfaced
-  pub free : sweep-sweep.claimed (after (wrong_kind ∷ [])).step.state.opened.claims (sweep-sweep.candidatesIn (surfaced_in surfaces_fixed.turn)) ≡ []
+  pub free : sweep-sweep.claimed (after (wrong_kind ∷ [])).step.state.opened.claims (sweep-sweep.candidates_in (surfaced_in surfaces_fixed.turn)) ≡ []
   -- 0.5 and 0
-  pub widthZero : Differ narrow still centered [] 1056964608 0
+  pub width_zero : Differ narrow still centered [] 1056964608 0
   -- 0.10000001 and 0.1
   pub length : Differ small tenths at_start [] 1036831950 1036831949
   -- 0.6 and 0.59999996
@@ -332,20 +332,20 @@ pub record Computed : Type 0 where
   pub surfaced : Differ small still at_start surfacing 1048576000 0
   -- -1, and over the run's own styles 0
   pub left : to_bits binary32 (told (ran wide ahead at_start (laid_out ∷ [])).step.answer) ≡ 3212836864
-  pub leftUnflipped : to_bits binary32 (told (unflipped wide ahead at_start (laid_out ∷ [])).step.answer) ≡ 0
-  pub leftDiffers : eq (told (ran wide ahead at_start (laid_out ∷ [])).step.answer) (told (unflipped wide ahead at_start (laid_out ∷ [])).step.answer) ≡ false
+  pub left_unflipped : to_bits binary32 (told (unflipped wide ahead at_start (laid_out ∷ [])).step.answer) ≡ 0
+  pub left_differs : eq (told (ran wide ahead at_start (laid_out ∷ [])).step.answer) (told (unflipped wide ahead at_start (laid_out ∷ [])).step.answer) ≡ false
   -- a finish after one answer, and a refusal 2
   pub slices : number_after (ran small still at_start shorter) ≡ 11
-  pub imageSlices : number_after (image_ran small still at_start shorter) ≡ 22
+  pub image_slices : number_after (image_ran small still at_start shorter) ≡ 22
   -- a refusal 3, and a finish after one answer
   pub table : number_after (ran small still at_start bad_table) ≡ 23
-  pub imageTable : number_after (image_ran small still at_start bad_table) ≡ 11
+  pub image_table : number_after (image_ran small still at_start bad_table) ≡ 11
   -- before a box is laid out, x and width are what stood in the words
-  pub atHand : place_words (after []) 0 ≡ 0 ∷ 0 ∷ []
-  pub imageAtHand : place_words (image_after []) 0 ≡ 7 ∷ 7 ∷ []
+  pub at_hand : place_words (after []) 0 ≡ 0 ∷ 0 ∷ []
+  pub image_at_hand : place_words (image_after []) 0 ≡ 7 ∷ 7 ∷ []
 
 pub computed : Computed
-unfolding add sub mul div neg lt le eq is_nan sum round units odd size span climb of_bits to_bits of_fields nan_bits util-order.zero_of util-order.before util-order.larger util-order.smaller util-order.magnitude util-maybe.present util-maybe.or_else util-maybe.unwrapOr util-maybe.map util-maybe.mapAdd util-maybe.mapLarger util-maybe.at_most util-maybe.at_least util-maybe.clamped util-maybe.mapClamped geometry-geometry.rectOrZero geometry-geometry.sumX geometry-geometry.sumY geometry-geometry.sums geometry-geometry.rectSum geometry-geometry.unionOf geometry-geometry.smallerSize geometry-geometry.definite geometry-geometry.bothPresent geometry-geometry.firstSize geometry-geometry.filledSize geometry-geometry.addedSize geometry-geometry.raisedSize geometry-geometry.clampedSize geometry-geometry.clampedFloats geometry-geometry.completed geometry-geometry.withRatio style-resolve.by_tag style-resolve.resolved style-resolve.takes style-resolve.maybeResolved style-resolve.resolvedRect style-resolve.resolvedSize style-values.selfRelative style-values.clampedSpace style-values.clampedSpaces style-values.definiteSpaces style-codes.sizingCode style-codes.overflowCode style-codes.directionCode style-codes.safetyCode style-codes.keywordCode style-codes.bitsCode style-codes.sizingOf style-codes.overflowOf style-codes.directionOf style-codes.safetyOf style-codes.keywordOf style-codes.alignmentOf style-codes.containOf style-record-record.lengthField style-record-record.lengthKinds style-record-record.codeKinds style-record-record.kind_of style-record-record.items style-record-check.safetyBreaks style-record-check.breaksAs style-record-check.breaksRule style-record-check.breaks style-record-check.firstFrom style-record-check.firstBroken style-record-check.orRest style-record-check.checkedFrom style-record-check.checked style-record-decode.length_at style-record-decode.rectAt style-record-decode.size_at style-record-decode.align_at style-record-decode.ratioAt style-record-decode.overflowAt style-record-decode.styleOf style-record-decode.styleAt records-records.recordAt records-records.records records-records.room records-records.written records-records.wrong records-records.every records-records.breaks records-records.good records-records.goodRecords tree-static.shiftedAxis tree-static.translated tree-record-codes.positionCode tree-record-codes.position_of tree-record-codes.edgeCode tree-record-codes.edge_of tree-record-candidate.axisOf tree-record-candidate.candidateOf tree-record-candidate.candidateWords tree-record-layout.rectOf tree-record-layout.layout_of tree-record-layout.layoutWords sweep-sweep.firstCandidates sweep-sweep.candidatesIn sweep-sweep.moved sweep-sweep.side sweep-sweep.keep sweep-sweep.listWords oof-axis-axis.fromResolved oof-axis-axis.alignIn oof-axis-axis.centeredBlock oof-axis-axis.staticBlock oof-axis-axis.insetBlock oof-axis-axis.startIsWeaker oof-axis-axis.repaired oof-axis-axis.block oof-axis-axis.bothInsets oof-axis-axis.stretchFit oof-axis-axis.stretching oof-axis-axis.stretches oof-axis-axis.isStretch oof-axis-axis.halves oof-axis-axis.filledMargins oof-axis-axis.margins oof-axis-axis.isNormal oof-axis-axis.alignEdge oof-axis-axis.limit oof-axis-axis.keptWithin oof-axis-axis.selfAligned oof-axis-axis.staticAligned oof-axis-axis.positionIn oof-axis-axis.position oof-axis-axis.placement common-sizingkeyword.byKeyword common-sizingkeyword.ofResolved common-sizingkeyword.keywordOf common-sizingkeyword.absoluteStretch common-sizingkeyword.ifAbsent common-sizingkeyword.keywordsOf common-scrollableoverflow.propagates common-scrollableoverflow.reach common-scrollableoverflow.placed_at common-scrollableoverflow.contribution oof-resolve-resolved.ofWidth oof-resolve-resolved.ofEachAxis oof-resolve-resolved.lessOffset oof-resolve-resolved.horizontal oof-resolve-resolved.vertical oof-resolve-resolved.paddingOrBorder oof-resolve-resolved.styleSize oof-resolve-resolved.minSize oof-resolve-resolved.lessMargins oof-resolve-resolved.spaceFor oof-resolve-resolved.resolvedBox oof-place-placing.scrollbarOf oof-place-placing.layout_of oof-place-placing.fromOrigin oof-place-placing.boxLayout oof-box-box.keywordStretch oof-box-box.sizeKeywords oof-box-box.settled oof-box-box.ignoresRatio oof-box-box.stretchRatio oof-box-box.widened oof-box-box.heightened oof-box-box.raisedMin oof-box-box.stretched oof-box-box.finalSize oof-box-cut.taken oof-box-cut.known_by oof-box-cut.stretchedBy oof-box-cut.sizeBy oof-box-cut.keywordAsked oof-box-cut.sizeAsked oof-box-cut.asked_of oof-box-cut.askedAfter oof-box-cut.layoutAfter run-refusals.◌when◌else◌ run-refusals.badArea run-refusals.badTable run-refusals.badList run-refusals.badSlices run-refusals.otherLengths run-refusals.badStyle run-refusals.badCandidate run-refusals.listFull run-refusals.wrongCounts run-run.boxAtHand run-run.asking run-run.finishing run-run.proceeding run-run.openingVerdict run-run.closed run-run.begun run-run.opened run-run.takenBy run-run.replyVerdict run-run.measuredOn run-run.laidOut run-run.replied mirror-box-image.edgeSum other_direction other_edge counterpart image_style reflected_word image_candidate listed each_record theorems.next
+unfolding add sub mul div neg lt le eq is_nan sum round units odd size span climb of_bits to_bits of_fields nan_bits util-order.zero_of util-order.before util-order.larger util-order.smaller util-order.magnitude util-maybe.present util-maybe.or_else util-maybe.unwrap_or util-maybe.map util-maybe.map_add util-maybe.map_larger util-maybe.at_most util-maybe.at_least util-maybe.clamped util-maybe.map_clamped geometry-geometry.rect_or_zero geometry-geometry.sum_x geometry-geometry.sum_y geometry-geometry.sums geometry-geometry.rect_sum geometry-geometry.union_of geometry-geometry.smaller_size geometry-geometry.definite geometry-geometry.both_present geometry-geometry.first_size geometry-geometry.filled_size geometry-geometry.added_size geometry-geometry.raised_size geometry-geometry.clamped_size geometry-geometry.clamped_floats geometry-geometry.completed geometry-geometry.with_ratio style-resolve.by_tag style-resolve.resolved style-resolve.takes style-resolve.maybe_resolved style-resolve.resolved_rect style-resolve.resolved_size style-values.self_relative style-values.clamped_space style-values.clamped_spaces style-values.definite_spaces style-codes.sizing_code style-codes.overflow_code style-codes.direction_code style-codes.safety_code style-codes.keyword_code style-codes.bits_code style-codes.sizing_of style-codes.overflow_of style-codes.direction_of style-codes.safety_of style-codes.keyword_of style-codes.alignment_of style-codes.contain_of style-record-record.length_field style-record-record.length_kinds style-record-record.code_kinds style-record-record.kind_of style-record-record.items style-record-check.safety_breaks style-record-check.breaks_as style-record-check.breaks_rule style-record-check.breaks style-record-check.first_from style-record-check.first_broken style-record-check.or_rest style-record-check.checked_from style-record-check.checked style-record-decode.length_at style-record-decode.rect_at style-record-decode.size_at style-record-decode.align_at style-record-decode.ratio_at style-record-decode.overflow_at style-record-decode.style_of style-record-decode.style_at records-records.record_at records-records.records records-records.room records-records.written records-records.wrong records-records.every records-records.breaks records-records.good records-records.good_records tree-static.shifted_axis tree-static.translated tree-record-codes.position_code tree-record-codes.position_of tree-record-codes.edge_code tree-record-codes.edge_of tree-record-candidate.axis_of tree-record-candidate.candidate_of tree-record-candidate.candidate_words tree-record-layout.rect_of tree-record-layout.layout_of tree-record-layout.layout_words sweep-sweep.first_candidates sweep-sweep.candidates_in sweep-sweep.moved sweep-sweep.side sweep-sweep.keep sweep-sweep.list_words oof-axis-axis.from_resolved oof-axis-axis.align_in oof-axis-axis.centered_block oof-axis-axis.static_block oof-axis-axis.inset_block oof-axis-axis.start_is_weaker oof-axis-axis.repaired oof-axis-axis.block oof-axis-axis.both_insets oof-axis-axis.stretch_fit oof-axis-axis.stretching oof-axis-axis.stretches oof-axis-axis.is_stretch oof-axis-axis.halves oof-axis-axis.filled_margins oof-axis-axis.margins oof-axis-axis.is_normal oof-axis-axis.align_edge oof-axis-axis.limit oof-axis-axis.kept_within oof-axis-axis.self_aligned oof-axis-axis.static_aligned oof-axis-axis.position_in oof-axis-axis.position oof-axis-axis.placement common-sizingkeyword.by_keyword common-sizingkeyword.of_resolved common-sizingkeyword.keyword_of common-sizingkeyword.absolute_stretch common-sizingkeyword.if_absent common-sizingkeyword.keywords_of common-scrollableoverflow.propagates common-scrollableoverflow.reach common-scrollableoverflow.placed_at common-scrollableoverflow.contribution oof-resolve-resolved.of_width oof-resolve-resolved.of_each_axis oof-resolve-resolved.less_offset oof-resolve-resolved.horizontal oof-resolve-resolved.vertical oof-resolve-resolved.padding_or_border oof-resolve-resolved.style_size oof-resolve-resolved.min_size oof-resolve-resolved.less_margins oof-resolve-resolved.space_for oof-resolve-resolved.resolved_box oof-place-placing.scrollbar_of oof-place-placing.layout_of oof-place-placing.from_origin oof-place-placing.box_layout oof-box-box.keyword_stretch oof-box-box.size_keywords oof-box-box.settled oof-box-box.ignores_ratio oof-box-box.stretch_ratio oof-box-box.widened oof-box-box.heightened oof-box-box.raised_min oof-box-box.stretched oof-box-box.final_size oof-box-cut.taken oof-box-cut.known_by oof-box-cut.stretched_by oof-box-cut.size_by oof-box-cut.keyword_asked oof-box-cut.size_asked oof-box-cut.asked_of oof-box-cut.asked_after oof-box-cut.layout_after run-refusals.◌when◌else◌ run-refusals.bad_area run-refusals.bad_table run-refusals.bad_list run-refusals.bad_slices run-refusals.other_lengths run-refusals.bad_style run-refusals.bad_candidate run-refusals.list_full run-refusals.wrong_counts run-run.box_at_hand run-run.asking run-run.finishing run-run.proceeding run-run.opening_verdict run-run.closed run-run.begun run-run.opened run-run.taken_by run-run.reply_verdict run-run.measured_on run-run.laid_out run-run.replied mirror-box-image.edge_sum other_direction other_edge counterpart image_style reflected_word image_candidate listed each_record theorems.next
 computed =
     record {
       kind = refl;
@@ -355,11 +355,11 @@ computed =
       image = refl;
       at_opening = refl;
       unclaimed = refl;
-      imageUnclaimed = refl;
+      image_unclaimed = refl;
       layers = refl;
-      imageLayers = refl;
+      image_layers = refl;
       free = refl;
-      widthZero = record { run = refl; image = refl; differ = refl };
+      width_zero = record { run = refl; image = refl; differ = refl };
       length = record { run = refl; image = refl; differ = refl };
       area = record { run = refl; image = refl; differ = refl };
       bound = record { run = refl; image = refl; differ = refl };
@@ -367,12 +367,12 @@ computed =
       reply = record { run = refl; image = refl; differ = refl };
       surfaced = record { run = refl; image = refl; differ = refl };
       left = refl;
-      leftUnflipped = refl;
-      leftDiffers = refl;
+      left_unflipped = refl;
+      left_differs = refl;
       slices = refl;
-      imageSlices = refl;
+      image_slices = refl;
       table = refl;
-      imageTable = refl;
-      atHand = refl;
-      imageAtHand = refl;
+      image_table = refl;
+      at_hand = refl;
+      image_at_hand = refl;
     }

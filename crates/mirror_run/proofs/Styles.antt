@@ -9,7 +9,7 @@ use borrow.Author.Tests.{ltb-false}
 use Rattle.util.proofs.Floats.{no}
 use Rattle.style.specs.Codes.{direction_of}
 use Rattle.util.specs.declared.math.MaybeF32.TheVariants.{None}
-use Rattle.style_record.specs.Record.{length_words, tag_word, ratio_present_word, ratio_word, box_sizing_word, flags_word, direction_word, justify_word, align_word, overflow_xWord, overflow_yWord, scrollbar_word, contain_word, code_kinds, kind_of, style_words, item, items}
+use Rattle.style_record.specs.Record.{length_words, tag_word, ratio_present_word, ratio_word, box_sizing_word, flags_word, direction_word, justify_word, align_word, overflow_x_word, overflow_y_word, scrollbar_word, contain_word, code_kinds, kind_of, style_words, item, items}
 use Rattle.style_record.specs.Check.{breaks_as, breaks_rule, breaks, checked}
 use Rattle.style_record.specs.Decode.{length_at, rect_at, size_at, align_at, ratio_at, overflow_at, style_of, style_at}
 use Rattle.style_record.specs.Laws.{NoneBreaks, First}
@@ -18,8 +18,8 @@ use Rattle.style_record.proofs.First.{TableIs, good, bad, table_is}
 use Rattle.run.specs.Refusals.{is_bad, bad_style}
 use Rattle.mirror_box.specs.Image as box
 use Rattle.mirror_run.specs.Image.{other_direction, counterpart, image_style, image_styles}
-use Rattle.mirror_run.proofs.Words.{each-length, each_word}
-use Rattle.mirror_run.proofs.Counterpart.{counterpart_there, counterpart_twice, image-breaks}
+use Rattle.mirror_run.proofs.Words.{each_length, each_word}
+use Rattle.mirror_run.proofs.Counterpart.{counterpart_there, counterpart_twice, image_breaks}
 
 -- ---- two records with the same words
 
@@ -43,9 +43,9 @@ module _ (r r' : ℕ → ℕ) (same : (k : ℕ) → k < style_words → r k ≡ 
   unfolding size_at
   same_size k h = rw (same_length k (omega arith), same_length (k + length_words) (omega arith)) refl
 
-  same-style : style_of r ≡ style_of r'
+  same_style : style_of r ≡ style_of r'
   unfolding style_of ratio_at align_at overflow_at
-  same-style =
+  same_style =
       rw (
         same_rect (tag_word 0) (lit≤ tt),
         same_rect (tag_word 4) (lit≤ tt),
@@ -63,27 +63,27 @@ module _ (r r' : ℕ → ℕ) (same : (k : ℕ) → k < style_words → r k ≡ 
         same (justify_word + 1) (lit< tt),
         same align_word (lit< tt),
         same (align_word + 1) (lit< tt),
-        same overflow_xWord (lit< tt),
-        same overflow_yWord (lit< tt),
+        same overflow_x_word (lit< tt),
+        same overflow_y_word (lit< tt),
         same scrollbar_word (lit< tt),
         same contain_word (lit< tt),
       )
       refl
 
-  same-rule : (k : ℕ) → k < style_words → breaks_rule r k ≡ breaks_rule r' k
+  same_rule : (k : ℕ) → k < style_words → breaks_rule r k ≡ breaks_rule r' k
   unfolding breaks_rule
-  same-rule k h = rw (same k h, same (k - 1) (omega arith)) refl
+  same_rule k h = rw (same k h, same (k - 1) (omega arith)) refl
 
 -- ---- a record's image, decoded
 
-pub direction_decoded : (d : ℕ) → d < 2 → direction_of (other_direction d) ≡ box.otherDirection (direction_of d)
-unfolding direction_of other_direction box.otherDirection
+pub direction_decoded : (d : ℕ) → d < 2 → direction_of (other_direction d) ≡ box.other_direction (direction_of d)
+unfolding direction_of other_direction box.other_direction
 direction_decoded zero h = refl
 direction_decoded (suc zero) h = refl
 direction_decoded (suc (suc d)) h = absurd (omega arith)
 
-image_decoded : (r : ℕ → ℕ) → r direction_word < 2 → style_of (image_style r) ≡ box.imageStyle (style_of r)
-unfolding style_of rect_at size_at length_at ratio_at align_at overflow_at image_style counterpart box.imageStyle box.exchangedLengths
+image_decoded : (r : ℕ → ℕ) → r direction_word < 2 → style_of (image_style r) ≡ box.image_style (style_of r)
+unfolding style_of rect_at size_at length_at ratio_at align_at overflow_at image_style counterpart box.image_style box.exchanged_lengths
 image_decoded r h = rw (direction_decoded (r direction_word) h) refl
 
 -- ---- a table
@@ -91,22 +91,22 @@ image_decoded r h = rw (direction_decoded (r direction_word) h) refl
 module _ (ws : List ℕ) where
   pub items_kept : items (image_styles ws) ≡ items ws
   unfolding items
-  items_kept = ap (λ (n : ℕ). n / style_words) (each-length style_words image_style ws)
+  items_kept = ap (λ (n : ℕ). n / style_words) (each_length style_words image_style ws)
 
-  item-word : (i : ℕ) → i < items ws → (k : ℕ) → k < style_words → item (image_styles ws) i k ≡ image_style (item ws i) k
+  item_word : (i : ℕ) → i < items ws → (k : ℕ) → k < style_words → item (image_styles ws) i k ≡ image_style (item ws i) k
   unfolding items
-  item-word i h k l = each_word style_words image_style ws i k l h
+  item_word i h k l = each_word style_words image_style ws i k l h
 
-  item-breaks : (i k : ℕ) → i < items ws → k < style_words → breaks (image_styles ws) i k ≡ breaks ws i (counterpart k)
+  item_breaks : (i k : ℕ) → i < items ws → k < style_words → breaks (image_styles ws) i k ≡ breaks ws i (counterpart k)
   unfolding breaks
-  item-breaks i k h l = same-rule (item (image_styles ws) i) (image_style (item ws i)) (item-word i h) k l ∙ image-breaks (item ws i) k
+  item_breaks i k h l = same_rule (item (image_styles ws) i) (image_style (item ws i)) (item_word i h) k l ∙ image_breaks (item ws i) k
 
-  image-good : NoneBreaks ws → NoneBreaks (image_styles ws)
-  image-good g i h k l = let j : i < items ws = rw items_kept at h in item-breaks i k j l ∙ g i j (counterpart k) (counterpart_there k l)
+  image_good : NoneBreaks ws → NoneBreaks (image_styles ws)
+  image_good g i h k l = let j : i < items ws = rw items_kept at h in item_breaks i k j l ∙ g i j (counterpart k) (counterpart_there k l)
 
-  good-image : NoneBreaks (image_styles ws) → NoneBreaks ws
-  good-image g i h k l =
-      ap (breaks ws i) (sym (counterpart_twice k)) ∙ sym (item-breaks i (counterpart k) h (counterpart_there k l)) ∙ g i (rw items_kept h) (counterpart k) (counterpart_there k l)
+  good_image : NoneBreaks (image_styles ws) → NoneBreaks ws
+  good_image g i h k l =
+      ap (breaks ws i) (sym (counterpart_twice k)) ∙ sym (item_breaks i (counterpart k) h (counterpart_there k l)) ∙ g i (rw items_kept h) (counterpart k) (counterpart_there k l)
 
   pub same_check : bad_style (image_styles ws) ≡ bad_style ws
   unfolding bad_style
@@ -117,13 +117,13 @@ module _ (ws : List ℕ) where
 
       go : (c d : TableCheck) → TableIs (image_styles ws) c → TableIs ws d → is_bad c ≡ is_bad d
       go _ _ (good a) (good b) = refl
-      go _ _ (good a) (bad i k f) = clash (good-image a) f
-      go _ _ (bad i k f) (good b) = clash (image-good b) f
+      go _ _ (good a) (bad i k f) = clash (good_image a) f
+      go _ _ (bad i k f) (good b) = clash (image_good b) f
       go _ _ (bad i k f) (bad j l g) = refl
 
-  none-breaks : bad_style ws ≡ false → NoneBreaks ws
+  none_breaks : bad_style ws ≡ false → NoneBreaks ws
   unfolding bad_style
-  none-breaks e = go (checked ws) (table_is ws) e
+  none_breaks e = go (checked ws) (table_is ws) e
     where
       go : (c : TableCheck) → TableIs ws c → is_bad c ≡ false → NoneBreaks ws
       go _ (good a) p = a
@@ -131,12 +131,12 @@ module _ (ws : List ℕ) where
 
   direction_there : bad_style ws ≡ false → (i : ℕ) → i < items ws → item ws i direction_word < 2
   unfolding breaks breaks_rule breaks_as kind_of code_kinds
-  direction_there e i h = omega (arith, ltb-false 1 (item ws i direction_word) (none-breaks e i h direction_word (lit< tt)))
+  direction_there e i h = omega (arith, ltb-false 1 (item ws i direction_word) (none_breaks e i h direction_word (lit< tt)))
 
   -- a ratio that isn't present is absent
   pub no_ratio : bad_style ws ≡ false → (i : ℕ) → i < items ws → (item ws i ratio_present_word ≡ 1 → ⊥) → ratio_at (item ws i) ≡ None
   unfolding breaks breaks_rule breaks_as kind_of code_kinds ratio_at
-  no_ratio e i h d = rw (absent (item ws i ratio_present_word) (ltb-false 1 (item ws i ratio_present_word) (none-breaks e i h ratio_present_word (lit< tt))) d) refl
+  no_ratio e i h d = rw (absent (item ws i ratio_present_word) (ltb-false 1 (item ws i ratio_present_word) (none_breaks e i h ratio_present_word (lit< tt))) d) refl
     where
       absent : (n : ℕ) → n ≤ 1 → (n ≡ 1 → ⊥) → n ≡ 0
       absent zero l d = refl
@@ -144,7 +144,7 @@ module _ (ws : List ℕ) where
       absent (suc (suc n)) l d = absurd (omega arith)
 
   -- in a table that passes, an item of the image is the image of the item
-  pub image-style : bad_style ws ≡ false → (i : ℕ) → i < items ws → style_at (image_styles ws) i ≡ box.imageStyle (style_at ws i)
+  pub image_style_lem : bad_style ws ≡ false → (i : ℕ) → i < items ws → style_at (image_styles ws) i ≡ box.image_style (style_at ws i)
   unfolding style_at
-  image-style e i h =
-      same-style (item (image_styles ws) i) (image_style (item ws i)) (item-word i h) ∙ image_decoded (item ws i) (direction_there e i h)
+  image_style_lem e i h =
+      same_style (item (image_styles ws) i) (image_style (item ws i)) (item_word i h) ∙ image_decoded (item ws i) (direction_there e i h)

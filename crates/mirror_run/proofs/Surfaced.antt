@@ -14,10 +14,10 @@ use Rattle.tree_record.specs.Candidate.{candidate_width}
 use Rattle.sweep.specs.Sweep.{first_candidates, candidates_in, moved, keep, appended}
 use Rattle.sweep.specs.declared.Shift.{Shift}
 use Rattle.sweep.specs.declared.Shift.TheVariants.{By}
-use Rattle.sweep.proofs.Steps.{kept-moved}
+use Rattle.sweep.proofs.Steps.{kept_moved}
 use Rattle.sweep.proofs.Laws.{swept_fits, kept_fits, appended_back}
 use Rattle.mirror_run.specs.Runs.{Each, none, one, SameButX, Unclaimed, surfaced, image}
-use Rattle.mirror_run.proofs.Lists.{each-kept}
+use Rattle.mirror_run.proofs.Lists.{each_kept}
 
 nothing : (cs : List OofCandidate) → length cs ≡ 0 → cs ≡ []
 nothing [] e = refl
@@ -25,7 +25,7 @@ nothing (c ∷ cs) e = absurd (omega arith)
 
 -- what nobody claims where it stands, nobody claims where it is moved to
 pub none_kept : (by : ContainingBlockClaims) (s : Shift) (cs : List OofCandidate) → keep by true cs ≡ [] → keep by true (map (moved s) cs) ≡ []
-none_kept by s cs e = nothing (keep by true (map (moved s) cs)) (kept-moved by true s cs ∙ ap length e)
+none_kept by s cs e = nothing (keep by true (map (moved s) cs)) (kept_moved by true s cs ∙ ap length e)
 
 each_moved : (a b : Point) → a.y ≡ b.y → (cs : List OofCandidate) → Each SameButX (map (moved (By a)) cs) (map (moved (By b)) cs)
 unfolding moved translated shifted_axis
@@ -47,19 +47,19 @@ module _ (by : ContainingBlockClaims) (words : List ℕ) where
 
   module _ (u : List ℕ) (held : ℕ) (room : candidate_width * (held + count) ≤ length u) where
     -- the unclaimed list, read back
-    pub unclaimed-back : (at : Point) → first_candidates (held + count) (appended u held (keep by false (map (moved (By at)) (candidates_in words))))
+    pub unclaimed_back : (at : Point) → first_candidates (held + count) (appended u held (keep by false (map (moved (By at)) (candidates_in words))))
         ≡ first_candidates held u ++ keep by false (map (moved (By at)) (candidates_in words))
-    unclaimed-back at =
+    unclaimed_back at =
         let cs = keep by false (map (moved (By at)) (candidates_in words)) in
-        let e : length cs ≡ count = kept-moved by false (By at) (candidates_in words) in
+        let e : length cs ≡ count = kept_moved by false (By at) (candidates_in words) in
         ap (λ (n : ℕ). first_candidates (held + n) (appended u held cs)) (sym e)
         ∙ appended_back u held cs (kept_fits by (map (moved (By at)) (candidates_in words)) (swept_fits (By at) words)).1 (rw e room)
 
-  pub surfaced-unclaimed : {area : OofPositioningArea} {n : ℕ} (u u' : List ℕ) (held : ℕ) → candidate_width * (held + count) ≤ length u → candidate_width * (held + count) ≤ length u'
+  pub surfaced_unclaimed : {area : OofPositioningArea} {n : ℕ} (u u' : List ℕ) (held : ℕ) → candidate_width * (held + count) ≤ length u → candidate_width * (held + count) ≤ length u'
       → (a b : Point) → a.y ≡ b.y
       → Unclaimed area n (first_candidates held u) (first_candidates held u')
       → Unclaimed area n (first_candidates (held + count) (appended u held (keep by false (map (moved (By a)) (candidates_in words)))))
       (first_candidates (held + count) (appended u' held (keep by false (map (moved (By b)) (candidates_in words)))))
-  surfaced-unclaimed u u' held r r' a b e h =
-      rw (unclaimed-back u held r a, unclaimed-back u' held r' b)
-      (more_unclaimed h (each-kept by false (λ c c' s. s.position) (each_moved a b e (candidates_in words))))
+  surfaced_unclaimed u u' held r r' a b e h =
+      rw (unclaimed_back u held r a, unclaimed_back u' held r' b)
+      (more_unclaimed h (each_kept by false (λ c c' s. s.position) (each_moved a b e (candidates_in words))))

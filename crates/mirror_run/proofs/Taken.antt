@@ -23,38 +23,38 @@ QuarterTaken (Kept replies) = QuarterReplies replies
 QuarterTaken (Laid overflow) = QuarterOverflow overflow
 
 module _ (r : Replies) (q : QuarterReplies r) where
-  both-taken : (s : Size) → QuarterReply (Both s) → (at : Stage) → QuarterTaken (taken_both r at s)
-  both-taken s h stage.KeywordBoth = record { keyword = h.0; fill = q.fill }
-  both-taken s h stage.KeywordWidth = tt
-  both-taken s h stage.KeywordHeight = tt
-  both-taken s h stage.Fill = record { keyword = q.keyword; fill = h.0 }
-  both-taken s h stage.LayOut = tt
+  both_taken : (s : Size) → QuarterReply (Both s) → (at : Stage) → QuarterTaken (taken_both r at s)
+  both_taken s h stage.KeywordBoth = record { keyword = h.0; fill = q.fill }
+  both_taken s h stage.KeywordWidth = tt
+  both_taken s h stage.KeywordHeight = tt
+  both_taken s h stage.Fill = record { keyword = q.keyword; fill = h.0 }
+  both_taken s h stage.LayOut = tt
 
-  width-taken : (w : Float) → QuarterReply (Width w) → (at : Stage) → QuarterTaken (taken_width r at w)
-  width-taken w h stage.KeywordBoth = tt
-  width-taken w h stage.KeywordWidth = record { keyword = h; fill = q.fill }
-  width-taken w h stage.KeywordHeight = tt
-  width-taken w h stage.Fill = tt
-  width-taken w h stage.LayOut = tt
+  width_taken : (w : Float) → QuarterReply (Width w) → (at : Stage) → QuarterTaken (taken_width r at w)
+  width_taken w h stage.KeywordBoth = tt
+  width_taken w h stage.KeywordWidth = record { keyword = h; fill = q.fill }
+  width_taken w h stage.KeywordHeight = tt
+  width_taken w h stage.Fill = tt
+  width_taken w h stage.LayOut = tt
 
-  height-taken : (x : Float) → (at : Stage) → QuarterTaken (taken_height r at x)
-  height-taken x stage.KeywordBoth = tt
-  height-taken x stage.KeywordWidth = tt
-  height-taken x stage.KeywordHeight = record { keyword = tt; fill = q.fill }
-  height-taken x stage.Fill = tt
-  height-taken x stage.LayOut = tt
+  height_taken : (x : Float) → (at : Stage) → QuarterTaken (taken_height r at x)
+  height_taken x stage.KeywordBoth = tt
+  height_taken x stage.KeywordWidth = tt
+  height_taken x stage.KeywordHeight = record { keyword = tt; fill = q.fill }
+  height_taken x stage.Fill = tt
+  height_taken x stage.LayOut = tt
 
-  laid-taken : (o : Rect) → QuarterReply (LaidOut o) → (at : Stage) → QuarterTaken (taken_laid_out at o)
-  laid-taken o h stage.KeywordBoth = tt
-  laid-taken o h stage.KeywordWidth = tt
-  laid-taken o h stage.KeywordHeight = tt
-  laid-taken o h stage.Fill = tt
-  laid-taken o h stage.LayOut = record { left = h.0; right = h.1 }
+  laid_taken : (o : Rect) → QuarterReply (LaidOut o) → (at : Stage) → QuarterTaken (taken_laid_out at o)
+  laid_taken o h stage.KeywordBoth = tt
+  laid_taken o h stage.KeywordWidth = tt
+  laid_taken o h stage.KeywordHeight = tt
+  laid_taken o h stage.Fill = tt
+  laid_taken o h stage.LayOut = record { left = h.0; right = h.1 }
 
-  pub quarter-taken : (at : Progress) (reply : Reply) → QuarterReply reply → QuarterTaken (taken_in at r reply)
+  pub quarter_taken : (at : Progress) (reply : Reply) → QuarterReply reply → QuarterTaken (taken_in at r reply)
   unfolding taken
-  quarter-taken Finished reply h = tt
-  quarter-taken (Asking at) (Both s) h = both-taken s h at
-  quarter-taken (Asking at) (Width w) h = width-taken w h at
-  quarter-taken (Asking at) (Height x) h = height-taken x at
-  quarter-taken (Asking at) (LaidOut o) h = laid-taken o h at
+  quarter_taken Finished reply h = tt
+  quarter_taken (Asking at) (Both s) h = both_taken s h at
+  quarter_taken (Asking at) (Width w) h = width_taken w h at
+  quarter_taken (Asking at) (Height x) h = height_taken x at
+  quarter_taken (Asking at) (LaidOut o) h = laid_taken o h at

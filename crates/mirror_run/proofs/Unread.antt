@@ -26,7 +26,7 @@ use Rattle.run.specs.Theorems.{is_refused}
 use Rattle.run.proofs.Ways.{lent_all, neither}
 use Rattle.run.proofs.Refusals.{measured_accepts, laid_accepts}
 use Rattle.mirror_run.specs.Runs.{is_unread}
-use Rattle.mirror_run.proofs.Verdicts.{same-slices, same-others, same-wrong}
+use Rattle.mirror_run.proofs.Verdicts.{same_slices, same_others, same_wrong}
 
 -- ---- a reply by its verdict
 
@@ -49,13 +49,13 @@ taken_all s reply surfaced {overflow} e =
 -- ---- a surfaced slice that isn't looked at
 
 module _ (s : State) (reply : Reply) (surfaced surfaced' : List ℕ) (lent : Lent) (same : lent_by reply surfaced ≡ lent_by reply surfaced') where
-  same-verdict : reply_verdict s reply surfaced lent ≡ reply_verdict s reply surfaced' lent
+  same_verdict : reply_verdict s reply surfaced lent ≡ reply_verdict s reply surfaced' lent
   unfolding reply_verdict
-  same-verdict = rw same refl
+  same_verdict = rw same refl
 
-  pub same-surfaced : replied s reply surfaced lent ≡ replied s reply surfaced' lent
-  same-surfaced =
-      replied_as s reply surfaced lent same-verdict refl
+  pub same_surfaced : replied s reply surfaced lent ≡ replied s reply surfaced' lent
+  same_surfaced =
+      replied_as s reply surfaced lent same_verdict refl
       ∙ go (reply_verdict s reply surfaced' lent) (taken_by s reply) refl
       ∙ sym (replied_as s reply surfaced' lent refl refl)
     where
@@ -92,17 +92,17 @@ abbrev wrong_reply : State → Reply → Lent → Bool
 wrong_reply s reply lent = is_wrong (taken_by s reply) || wrong_counts lent s.counts
 
 module _ (s : State) (reply : Reply) (surfaced : List ℕ) (lent : Lent) where
-  refused-2 : bad_extent s reply surfaced lent ≡ true → replied s reply surfaced lent ≡ refusing s lent BadExtent
+  refused_2 : bad_extent s reply surfaced lent ≡ true → replied s reply surfaced lent ≡ refusing s lent BadExtent
   unfolding replied reply_verdict ◌when◌else◌
-  refused-2 e = rw e refl
+  refused_2 e = rw e refl
 
-  refused-6 : bad_extent s reply surfaced lent ≡ false → wrong_reply s reply lent ≡ true → replied s reply surfaced lent ≡ refusing s lent WrongReply
+  refused_6 : bad_extent s reply surfaced lent ≡ false → wrong_reply s reply lent ≡ true → replied s reply surfaced lent ≡ refusing s lent WrongReply
   unfolding replied reply_verdict ◌when◌else◌
-  refused-6 e d = rw (e, d) refl
+  refused_6 e d = rw (e, d) refl
 
-  neither-read : bad_extent s reply surfaced lent ≡ false → wrong_reply s reply lent ≡ false → is_unread (replied s reply surfaced lent).step.answer ≡ false
+  neither_read : bad_extent s reply surfaced lent ≡ false → wrong_reply s reply lent ≡ false → is_unread (replied s reply surfaced lent).step.answer ≡ false
   unfolding replied reply_verdict ◌when◌else◌
-  neither-read e d =
+  neither_read e d =
       rw (e, d)
       (passed_read s surfaced lent (bad_style lent.styles)
       (bad_candidate lent.styles lent.working s.counts.filled.working || bad_candidates lent.styles (lent_by reply surfaced))
@@ -114,18 +114,18 @@ module _ (s : State) (reply : Reply) (surfaced : List ℕ) (lent : Lent) where
 module _ (s s' : State) (reply : Reply) (surfaced surfaced' : List ℕ) (lent lent' : Lent) (same : extents_of lent ≡ extents_of lent')
     (long : length (lent_by reply surfaced) ≡ length (lent_by reply surfaced')) (extents : s.opened.extents ≡ s'.opened.extents) (counts : s.counts ≡ s'.counts)
     (taken : taken_by s reply ≡ taken_by s' reply) where
-  same-2 : bad_extent s reply surfaced lent ≡ bad_extent s' reply surfaced' lent'
-  same-2 = rw (same-slices lent lent' same, extents, same-others lent lent' same s'.opened.extents, long) refl
+  same_2 : bad_extent s reply surfaced lent ≡ bad_extent s' reply surfaced' lent'
+  same_2 = rw (same_slices lent lent' same, extents, same_others lent lent' same s'.opened.extents, long) refl
 
-  same-6 : wrong_reply s reply lent ≡ wrong_reply s' reply lent'
-  same-6 = rw (taken, counts, same-wrong lent lent' same s'.counts) refl
+  same_6 : wrong_reply s reply lent ≡ wrong_reply s' reply lent'
+  same_6 = rw (taken, counts, same_wrong lent lent' same s'.counts) refl
 
-  pub both-refused : is_unread (replied s reply surfaced lent).step.answer ≡ true
+  pub both_refused : is_unread (replied s reply surfaced lent).step.answer ≡ true
       → (r : Refusal) × (replied s reply surfaced lent ≡ refusing s lent r) × (replied s' reply surfaced' lent' ≡ refusing s' lent' r)
-  both-refused u = go (bad_extent s reply surfaced lent) (wrong_reply s reply lent) refl refl
+  both_refused u = go (bad_extent s reply surfaced lent) (wrong_reply s reply lent) refl refl
     where
       go : (a b : Bool) → bad_extent s reply surfaced lent ≡ a → wrong_reply s reply lent ≡ b
           → (r : Refusal) × (replied s reply surfaced lent ≡ refusing s lent r) × (replied s' reply surfaced' lent' ≡ refusing s' lent' r)
-      go true b e d = (BadExtent, refused-2 s reply surfaced lent e, refused-2 s' reply surfaced' lent' (sym same-2 ∙ e))
-      go false true e d = (WrongReply, refused-6 s reply surfaced lent e d, refused-6 s' reply surfaced' lent' (sym same-2 ∙ e) (sym same-6 ∙ d))
-      go false false e d = no u (neither-read s reply surfaced lent e d)
+      go true b e d = (BadExtent, refused_2 s reply surfaced lent e, refused_2 s' reply surfaced' lent' (sym same_2 ∙ e))
+      go false true e d = (WrongReply, refused_6 s reply surfaced lent e d, refused_6 s' reply surfaced' lent' (sym same_2 ∙ e) (sym same_6 ∙ d))
+      go false false e d = no u (neither_read s reply surfaced lent e d)

@@ -31,40 +31,40 @@ use Rattle.mirror_run.specs.Image.{image_opening, image_styles, image_candidates
 use Rattle.mirror_run.proofs.Words as words
 use Rattle.mirror_run.proofs.Counterpart.{direction_code_lem}
 use Rattle.mirror_run.proofs.Styles.{items_kept, same_check}
-use Rattle.mirror_run.proofs.Candidates.{same-candidates}
+use Rattle.mirror_run.proofs.Candidates.{same_candidates}
 
 -- ---- slices of the same lengths
 
 module _ (lent lent' : Lent) (same : extents_of lent ≡ extents_of lent') where
-  styles-long : length lent.styles ≡ length lent'.styles
-  styles-long = ap (λ (e : Extents). e.styles) same
+  styles_long : length lent.styles ≡ length lent'.styles
+  styles_long = ap (λ (e : Extents). e.styles) same
 
-  layouts-long : length lent.layouts ≡ length lent'.layouts
-  layouts-long = ap (λ (e : Extents). e.layouts) same
+  layouts_long : length lent.layouts ≡ length lent'.layouts
+  layouts_long = ap (λ (e : Extents). e.layouts) same
 
-  working-long : length lent.working ≡ length lent'.working
-  working-long = ap (λ (e : Extents). e.working) same
+  working_long : length lent.working ≡ length lent'.working
+  working_long = ap (λ (e : Extents). e.working) same
 
-  unclaimed-long : length lent.unclaimed ≡ length lent'.unclaimed
-  unclaimed-long = ap (λ (e : Extents). e.unclaimed) same
+  unclaimed_long : length lent.unclaimed ≡ length lent'.unclaimed
+  unclaimed_long = ap (λ (e : Extents). e.unclaimed) same
 
-  pub same-slices : bad_slices lent ≡ bad_slices lent'
+  pub same_slices : bad_slices lent ≡ bad_slices lent'
   unfolding bad_slices bad_table bad_list items
-  same-slices = rw (styles-long, layouts-long, working-long, unclaimed-long) refl
+  same_slices = rw (styles_long, layouts_long, working_long, unclaimed_long) refl
 
-  pub same-others : (e : Extents) → other_lengths e lent ≡ other_lengths e lent'
+  pub same_others : (e : Extents) → other_lengths e lent ≡ other_lengths e lent'
   unfolding other_lengths
-  same-others e = rw (styles-long, layouts-long, working-long, unclaimed-long) refl
+  same_others e = rw (styles_long, layouts_long, working_long, unclaimed_long) refl
 
-  pub same-wrong : (c : Counts) → wrong_counts lent c ≡ wrong_counts lent' c
+  pub same_wrong : (c : Counts) → wrong_counts lent c ≡ wrong_counts lent' c
   unfolding wrong_counts
-  same-wrong c = rw (working-long, unclaimed-long) refl
+  same_wrong c = rw (working_long, unclaimed_long) refl
 
   pub same_full : (by : ContainingBlockClaims) (filled : Filled) (cs cs' : List ℕ)
       → ((list : Bool) → length (keep by list (candidates_in cs)) ≡ length (keep by list (candidates_in cs')))
       → list_full by lent filled cs ≡ list_full by lent' filled cs'
   unfolding list_full
-  same_full by filled cs cs' kept = rw (working-long, unclaimed-long, kept true, kept false) refl
+  same_full by filled cs cs' kept = rw (working_long, unclaimed_long, kept true, kept false) refl
 
 -- ---- openings
 
@@ -79,11 +79,11 @@ pub same_order : (q r s t u : Refusal) {a a' b b' c c' d d' e e' : Bool} → a �
 same_order q r s t u f g h i j = rw (f, g, h, i, j) refl
 
 module _ (styles styles' : List ℕ) (image : styles' ≡ image_styles styles) where
-  same-styles : bad_style styles ≡ bad_style styles'
-  same-styles = sym (ap bad_style image ∙ same_check styles)
+  same_styles : bad_style styles ≡ bad_style styles'
+  same_styles = sym (ap bad_style image ∙ same_check styles)
 
-  same-items : items styles ≡ items styles'
-  same-items = sym (ap items image ∙ items_kept styles)
+  same_items : items styles ≡ items styles'
+  same_items = sym (ap items image ∙ items_kept styles)
 
 -- a list is held against the number of items only
 alike : (styles styles' list : List ℕ) → items styles ≡ items styles' → bad_candidates styles list ≡ bad_candidates styles' list
@@ -91,33 +91,33 @@ unfolding bad_candidate
 alike styles styles' list e = rw e refl
 
 module _ (o : Opening) (candidates : List ℕ) (lent lent' : Lent) (image : lent'.styles ≡ image_styles lent.styles) (same : extents_of lent ≡ extents_of lent') where
-  pub same-opening : ((list : Bool) → length (keep (claims_of o) list (candidates_in candidates)) ≡ length (keep (claims_of o) list (candidates_in (image_candidates o.area candidates))))
+  pub same_opening : ((list : Bool) → length (keep (claims_of o) list (candidates_in candidates)) ≡ length (keep (claims_of o) list (candidates_in (image_candidates o.area candidates))))
       → opening_verdict o candidates lent ≡ opening_verdict (image_opening o) (image_candidates o.area candidates) lent'
   unfolding opening_verdict bad_candidate
-  same-opening kept =
+  same_opening kept =
       same_order BadArea BadExtent BadStyle BadCandidate ListFull (sym (same_area o))
-      (rw (same-slices lent lent' same, words.each-length candidate_width (image_candidate o.area) candidates) refl)
-      (same-styles lent.styles lent'.styles image)
-      (rw (← same-items lent.styles lent'.styles image, same-candidates o.area candidates (items lent.styles)) refl)
+      (rw (same_slices lent lent' same, words.each_length candidate_width (image_candidate o.area) candidates) refl)
+      (same_styles lent.styles lent'.styles image)
+      (rw (← same_items lent.styles lent'.styles image, same_candidates o.area candidates (items lent.styles)) refl)
       (same_full lent lent' same (claims_of o) none_filled candidates (image_candidates o.area candidates) kept)
 
 -- ---- replies
 
 module _ (s s' : State) (reply : Reply) (surfaced : List ℕ) (lent lent' : Lent) (image : lent'.styles ≡ image_styles lent.styles) (same : extents_of lent ≡ extents_of lent') where
-  pub same-reply : s.opened.extents ≡ s'.opened.extents → s.opened.claims ≡ s'.opened.claims → s.counts ≡ s'.counts → taken_by s reply ≡ taken_by s' reply
+  pub same_reply : s.opened.extents ≡ s'.opened.extents → s.opened.claims ≡ s'.opened.claims → s.counts ≡ s'.counts → taken_by s reply ≡ taken_by s' reply
       → bad_candidate lent.styles lent.working s.counts.filled.working ≡ bad_candidate lent'.styles lent'.working s'.counts.filled.working
       → reply_verdict s reply surfaced lent ≡ reply_verdict s' reply surfaced lent'
   unfolding reply_verdict
-  same-reply extents claims counts taken good =
+  same_reply extents claims counts taken good =
       same_order BadExtent WrongReply BadStyle BadCandidate ListFull
-      (rw (same-slices lent lent' same, extents, same-others lent lent' same s'.opened.extents) refl)
-      (rw (taken, counts, same-wrong lent lent' same s'.counts) refl)
-      (same-styles lent.styles lent'.styles image)
-      (rw good (ap (λ (b : Bool). bad_candidate lent'.styles lent'.working s'.counts.filled.working || b) surfaced-alike))
+      (rw (same_slices lent lent' same, extents, same_others lent lent' same s'.opened.extents) refl)
+      (rw (taken, counts, same_wrong lent lent' same s'.counts) refl)
+      (same_styles lent.styles lent'.styles image)
+      (rw good (ap (λ (b : Bool). bad_candidate lent'.styles lent'.working s'.counts.filled.working || b) surfaced_alike))
       (rw (claims, counts) (same_full lent lent' same s'.opened.claims s'.counts.filled (lent_by reply surfaced) (lent_by reply surfaced) (λ list. refl)))
     where
-      surfaced-alike : bad_candidates lent.styles (lent_by reply surfaced) ≡ bad_candidates lent'.styles (lent_by reply surfaced)
-      surfaced-alike = alike lent.styles lent'.styles (lent_by reply surfaced) (same-items lent.styles lent'.styles image)
+      surfaced_alike : bad_candidates lent.styles (lent_by reply surfaced) ≡ bad_candidates lent'.styles (lent_by reply surfaced)
+      surfaced_alike = alike lent.styles lent'.styles (lent_by reply surfaced) (same_items lent.styles lent'.styles image)
 
 -- ---- what an accepted call tells
 

@@ -30,26 +30,26 @@ listed_word (suc n) word (suc j) h = listed_word n (λ k. word (suc k)) j (le_of
 -- ---- word k of record i
 
 module _ (w : ℕ) (i k : ℕ) (h : k < w) where
-  record-of-word : (w * i + k) / w ≡ i
-  record-of-word = mul-add-div (omega arith) i k ∙ ap (λ (x : ℕ). i + x) (div-eq_of_lt h) ∙ add-zero i
+  record_of_word : (w * i + k) / w ≡ i
+  record_of_word = mul-add-div (omega arith) i k ∙ ap (λ (x : ℕ). i + x) (div-eq_of_lt h) ∙ add-zero i
 
-  place-of-word : (w * i + k) % w ≡ k
-  place-of-word = mul-add-mod_self_left w i k ∙ mod-eq_of_lt h
+  place_of_word : (w * i + k) % w ≡ k
+  place_of_word = mul-add-mod_self_left w i k ∙ mod-eq_of_lt h
 
 -- a word of a whole record is one of the list
 pub word_there : (w n i k : ℕ) → k < w → i < n / w → w * i + k < n
 word_there w n i k h l = omega (arith, mul-le-mul_left w l, mul-suc w i, mul-div-le n w)
 
 module _ (w : ℕ) (image : (ℕ → ℕ) → ℕ → ℕ) (ws : List ℕ) where
-  pub each-length : length (each_record w image ws) ≡ length ws
+  pub each_length : length (each_record w image ws) ≡ length ws
   unfolding each_record
-  each-length = listed_length (length ws) _
+  each_length = listed_length (length ws) _
 
   pub each_word : (i k : ℕ) → k < w → i < length ws / w → get_or (each_record w image ws) (w * i + k) 0 ≡ image (λ j. get_or ws (w * i + j) 0) k
   unfolding each_record
   each_word i k h l =
       listed_word (length ws) _ (w * i + k) (word_there w (length ws) i k h l)
-      ∙ rw (record-of-word w i k h, place-of-word w i k h, lt-ltb i (length ws / w) l) refl
+      ∙ rw (record_of_word w i k h, place_of_word w i k h, lt-ltb i (length ws / w) l) refl
 
 -- ---- computed: what each word becomes
 

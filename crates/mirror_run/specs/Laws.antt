@@ -33,7 +33,7 @@ StylesPass = (styles : List ℕ) → bad_style (image_styles styles) ≡ bad_sty
 abbrev pub StylesDecode : Type 0
 StylesDecode =
     (styles : List ℕ) (i : ℕ) → bad_style styles ≡ false → i < items styles
-    → style_at (image_styles styles) i ≡ box.imageStyle (style_at styles i)
+    → style_at (image_styles styles) i ≡ box.image_style (style_at styles i)
 
 -- where the mirror's hypotheses hold, no length of the table is a percentage, a fit-content percentage or a sum
 abbrev pub PercentagesLeftOut : Type 0
@@ -54,4 +54,4 @@ CandidatesDecode =
     (area : OofPositioningArea) (n : ℕ) (candidates : List ℕ) (i : ℕ)
     → good_records (candidate_kinds n) candidates (length candidates / candidate_width) ≡ true
     → i < length candidates / candidate_width
-    → candidate_of (record_at candidate_width (image_candidates area candidates) i) ≡ box.imageCandidate area (candidate_of (record_at candidate_width candidates i))
+    → candidate_of (record_at candidate_width (image_candidates area candidates) i) ≡ box.image_candidate area (candidate_of (record_at candidate_width candidates i))

@@ -26,7 +26,7 @@ pub record AreaInQuarters (area : OofPositioningArea) : Type 0 where
 -- and demand 3's "area width not 0"
 pub record QuarterArea (area : OofPositioningArea) : Type 0 where
   pub quarters : AreaInQuarters area
-  pub notZero : area.size.width ≐ 0f → ⊥
+  pub not_zero : area.size.width ≐ 0f → ⊥
 
 -- a style: each of its lengths by its tag, the scrollbar width; no ratio is present
 pub record QuarterItem (word : ℕ → ℕ) : Type 0 where

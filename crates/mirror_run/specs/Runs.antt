@@ -54,7 +54,7 @@ pub record Alike (at_opening : Extents) (t t' : Turn) : Type 0 where
 -- "nobody else writes the lent words": both are lent their own slices. What a box surfaces is part of its reply: the same words for both
 pub record SameWords (t t' : Turn) : Type 0 where
   pub slices : t.loan ≡ own
-  pub imageSlices : t'.loan ≡ own
+  pub image_slices : t'.loan ≡ own
   pub surfaced : surfaced_in t ≡ surfaced_in t'
 
 -- refused with 2 or 6, which go by lengths, the reply's kind and the state: so it would be with any words in the slices
@@ -70,7 +70,7 @@ pub record Fair (before : State) (answer : Answer) (m : Message) : Type 0 where
   pub words : is_unread answer ≡ false → SameWords m.turn m.image
   -- an accepted reply: its values are whole quarter pixels, and no box that it surfaces is claimed
   pub quarters : is_refused answer ≡ false → QuarterReply m.turn.heard.reply
-  pub surfacesNone : is_refused answer ≡ false → claimed before.opened.claims (candidates_in (surfaced_in m.turn)) ≡ []
+  pub surfaces_none : is_refused answer ≡ false → claimed before.opened.claims (candidates_in (surfaced_in m.turn)) ≡ []
 
 -- each reply of a list, o being what the run's last call left
 abbrev pub AllFair : List ℕ → Outcome → List Message → Type 0

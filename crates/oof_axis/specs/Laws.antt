@@ -34,8 +34,8 @@ pub record TwoInsets (a : OofAxis) : Type 0 where
 -- both insets and both margins are given: the box is aligned in the block
 pub record Aligned (a : OofAxis) : Type 0 where
   pub insets : TwoInsets a
-  pub marginStart : present a.margin.start ≡ true
-  pub marginEnd : present a.margin.end ≡ true
+  pub margin_start : present a.margin.start ≡ true
+  pub margin_end : present a.margin.end ≡ true
 
 -- the size of the margin box, auto margins being 0
 abbrev pub margin_box : OofAxis → Float → Float
@@ -69,8 +69,8 @@ EndInsetBlock =
 -- right-to-left axis
 pub record BlockIs (a : OofAxis) (start end : Float) : Type 0 where
   pub in_order : lt end start ≡ false → block a ≡ (start to end)
-  pub rightGivesWay : lt end start ≡ true → a.reversed ≡ false → block a ≡ (start to start)
-  pub leftGivesWay : lt end start ≡ true → a.reversed ≡ true → block a ≡ (end to end)
+  pub right_gives_way : lt end start ≡ true → a.reversed ≡ false → block a ≡ (start to start)
+  pub left_gives_way : lt end start ≡ true → a.reversed ≡ true → block a ≡ (end to end)
 
 -- two insets: the block is between them
 abbrev pub BlockBetweenInsets : Type 0

@@ -32,9 +32,9 @@ use Rattle.util_exact.proofs.Order.{larger_exact, smaller_exact}
 use Rattle.util_exact.proofs.Quarters.{MaybeExact, units, quarters_exact}
 use Rattle.mirror_axis.specs.Law.{Room}
 use Rattle.mirror_axis.proofs.Model.{LineN, ◌toN◌, span_n, AxisN, shape, block_n, fills, or_zero_n, margins_n, end_of, align_n, static_n, repaired_n, static_place_n, stretch_fit_n, align_of, limit_n, limited_n, self_n, box_n, place_n}
-use Rattle.mirror_axis.proofs.ExactBlock.{LineExact, ExactAxis, block-exact}
-use Rattle.mirror_axis.proofs.ExactMargins.{or_zero_exact, span-exact, stretch-exact, margins-exact, margins_eighths}
-use Rattle.mirror_axis.proofs.ExactPlace.{box-exact, span_of, place-exact}
+use Rattle.mirror_axis.proofs.ExactBlock.{LineExact, ExactAxis, block_exact}
+use Rattle.mirror_axis.proofs.ExactMargins.{or_zero_exact, span_exact, stretch_exact, margins_exact, margins_eighths}
+use Rattle.mirror_axis.proofs.ExactPlace.{box_exact, span_of, place_exact}
 use Rattle.mirror_axis.proofs.FlipMargins.{margins_fill}
 use Rattle.mirror_axis.proofs.Law.{numbers, axis_exact}
 use Rattle.oof_axis.specs.Laws.{NoInset, TwoInsets, Aligned, Overflows, margin_box}
@@ -57,8 +57,8 @@ pub record Stands (a : OofAxis) (size : Float) : Type 0 where
   pub f : ℕ
   pub within : LineExact 4 b (block a) l
   pub border : Exact 4 c size u
-  pub marginStart : Exact 2 d (placement a size).margin.start ms
-  pub marginEnd : Exact 2 e (placement a size).margin.end me
+  pub margin_start : Exact 2 d (placement a size).margin.start ms
+  pub margin_end : Exact 2 e (placement a size).margin.end me
   pub position : Exact 1 f (placement a size).position (add_n at ms)
 
 begins_at : {a : OofAxis} {size x : Float} {g b : ℕ} {ξ : N} (s : Stands a size) → Exact g b x ξ → EqN s.at ξ → BeginsAt a size x
@@ -107,7 +107,7 @@ module _ (L A S : ℕ) (room : 10 * L + 6 * A + S < 16777216) (a : OofAxis) (α 
   told = align_of a.alignment a.reversed
 
   line : LineExact 4 (3 * L + 2 * A) (block a) ℓ
-  line = block-exact L A (omega arith) a α h
+  line = block_exact L A (omega arith) a α h
 
   given_start : Exact 4 L (or_zero a.margin.start) μ.start
   given_start = or_zero_exact a.margin.start α.margin.start h.marginStart
@@ -117,15 +117,15 @@ module _ (L A S : ℕ) (room : 10 * L + 6 * A + S < 16777216) (a : OofAxis) (α 
 
   -- the margin box as a float
   box : Exact 4 (2 * L + S) (margin_box a size) (box_n u μ)
-  box = box-exact L A S room {m = or_zero a.margin.start to or_zero a.margin.end} hu (record { start = given_start; end = given_end })
+  box = box_exact L A S room {m = or_zero a.margin.start to or_zero a.margin.end} hu (record { start = given_start; end = given_end })
 
   -- any axis
   abbrev bound : ℕ
   bound = 7 * L + 4 * A + S
 
-  any-margins : LineExact 2 bound (placement a size).margin (margins_n (shape a) α u)
+  any_margins : LineExact 2 bound (placement a size).margin (margins_n (shape a) α u)
   unfolding placement
-  any-margins = margins_eighths L A S (fills (present a.inset.start) (present a.inset.end) (present a.margin.start) (present a.margin.end)) (margins-exact L A S room a α h hu)
+  any_margins = margins_eighths L A S (fills (present a.inset.start) (present a.inset.end) (present a.margin.start) (present a.margin.end)) (margins_exact L A S room a α h hu)
 
   abbrev stands : (m : LineN) (at : N) → margins_n (shape a) α u ≡ m → place_n (shape a) α u ≡ add_n at m.start → Stands a size
   stands m at e f =
@@ -142,9 +142,9 @@ module _ (L A S : ℕ) (room : 10 * L + 6 * A + S < 16777216) (a : OofAxis) (α 
         f = 10 * L + 6 * A + S;
         within = line;
         border = hu;
-        marginStart = subst (λ (x : LineN). Exact 2 bound (placement a size).margin.start x.start) e any-margins.start;
-        marginEnd = subst (λ (x : LineN). Exact 2 bound (placement a size).margin.end x.end) e any-margins.end;
-        position = subst (λ (x : N). Exact 1 (10 * L + 6 * A + S) (placement a size).position x) f (any (place-exact L A S room a α h hu));
+        margin_start = subst (λ (x : LineN). Exact 2 bound (placement a size).margin.start x.start) e any_margins.start;
+        margin_end = subst (λ (x : LineN). Exact 2 bound (placement a size).margin.end x.end) e any_margins.end;
+        position = subst (λ (x : N). Exact 1 (10 * L + 6 * A + S) (placement a size).position x) f (any (place_exact L A S room a α h hu));
       }
 
   -- two insets and two margins
@@ -168,14 +168,14 @@ module _ (L A S : ℕ) (room : 10 * L + 6 * A + S < 16777216) (a : OofAxis) (α 
 
   -- ---- what fits
 
-  fits-inside-at : Aligned a → le (margin_box a size) (span (block a)) ≡ true → BeginsFrom a size (block a).start × EndsBy a size (block a).end
-  fits-inside-at g f =
+  fits_inside_at : Aligned a → le (margin_box a size) (span (block a)) ≡ true → BeginsFrom a size (block a).start × EndsBy a size (block a).end
+  fits_inside_at g f =
       let i = align_inside ℓ (box_n u μ) told middle (at_most (box_n u μ) (span_n ℓ) (fits f)) in
       let e = fits_told a.safety (shape a) α.size ℓ (box_n u μ) told (fits f) in
       (begins_from (aligned g) line.start (rw e i.0), ends_by (aligned g) line.end (rw e i.1))
 
-  same-size-at : Aligned a → margin_box a size ≐ span (block a) → BeginsAt a size (block a).start × EndsAt a size (block a).end
-  same-size-at g q =
+  same_size_at : Aligned a → margin_box a size ≐ span (block a) → BeginsAt a size (block a).start × EndsAt a size (block a).end
+  same_size_at g q =
       let v = same_integer box (span_of L A S room line) q in
       let f = le_exact box (span_of L A S room line) ∙ le-leb ((box_n u μ).p + (span_n ℓ).n) ((span_n ℓ).p + (box_n u μ).n) (omega (arith, v)) in
       let i = align_inside ℓ (box_n u μ) told middle (at_most (box_n u μ) (span_n ℓ) (fits f)) in
@@ -183,22 +183,22 @@ module _ (L A S : ℕ) (room : 10 * L + 6 * A + S < 16777216) (a : OofAxis) (α 
       (begins_at (aligned g) line.start (rw e (omega (arith, v, i.0, i.1))), ends_at (aligned g) line.end (rw e (omega (arith, v, i.0, i.1))))
 
   -- a stretched box is as large as the block
-  stretched-at : Aligned a → size ≐ stretch_fit a → lt 0f size ≡ true → BeginsAt a size (block a).start × EndsAt a size (block a).end
-  stretched-at g q e =
-      let v = same_integer hu (stretch-exact L A (omega arith) a α h) q in
+  stretched_at : Aligned a → size ≐ stretch_fit a → lt 0f size ≡ true → BeginsAt a size (block a).start × EndsAt a size (block a).end
+  stretched_at g q e =
+      let v = same_integer hu (stretch_exact L A (omega arith) a α h) q in
       let p = below zero_n u (sym (lt_exact (zero_exact {g = 4} {b = 0}) hu) ∙ e) in
-      same-size-at g (same_number box (span_of L A S room line) (omega (arith, v, p)))
+      same_size_at g (same_number box (span_of L A S room line) (omega (arith, v, p)))
 
-  center-at : Aligned a → a.alignment ≡ align.Center → le (margin_box a size) (span (block a)) ≡ true
+  center_at : Aligned a → a.alignment ≡ align.Center → le (margin_box a size) (span (block a)) ≡ true
       → (placement a size).position ∷ (placement a size).position ∷ size ∷ (placement a size).margin.end ∷ [] =Σ (block a).start ∷ (block a).end ∷ (placement a size).margin.start ∷ []
-  center-at g c f =
+  center_at g c f =
       let s = aligned g in
       let e = fits_told a.safety (shape a) α.size ℓ (box_n u μ) told (fits f) ∙ ap (λ (k : OofAlignment). align_n ℓ (box_n u μ) (align_of k a.reversed)) c in
       let t = half_twice (sub_n (add_n ℓ.start ℓ.end) (box_n u μ)) middle in
       equal_sums (s.position and s.position and s.border and s.marginEnd and nil) (line.start and line.end and s.marginStart and nil) (rw e (omega (arith, t)))
 
-  end-at : Aligned a → a.alignment ≡ align.End → le (margin_box a size) (span (block a)) ≡ true → AtTheEnd a size
-  end-at g c f =
+  end_at : Aligned a → a.alignment ≡ align.End → le (margin_box a size) (span (block a)) ≡ true → AtTheEnd a size
+  end_at g c f =
       let s = aligned g in
       let e = fits_told a.safety (shape a) α.size ℓ (box_n u μ) told (fits f) ∙ ap (λ (k : OofAlignment). align_n ℓ (box_n u μ) (align_of k a.reversed)) c in (
         λ r. ends_at s line.end (rw (e ∙ ap (λ (r : Bool). align_n ℓ (box_n u μ) (align_of align.End r)) r) (omega arith)),
@@ -236,76 +236,76 @@ module _ (L A S : ℕ) (room : 10 * L + 6 * A + S < 16777216) (a : OofAxis) (α 
         let c = limited_covers a.scrolls a.reversed α.size ℓ (box_n u μ) told middle (omega (arith, v)) in
         (begins_by (aligned o.aligned) line.start (rw place_is c.0), ends_from (aligned o.aligned) line.end (rw place_is c.1))
 
-    within-at : a.scrolls ≡ false → le (margin_box a size) (span (bounds a)) ≡ true → BeginsFrom a size (bounds a).start × EndsBy a size (bounds a).end
-    within-at n f =
+    within_at : a.scrolls ≡ false → le (margin_box a size) (span (bounds a)) ≡ true → BeginsFrom a size (bounds a).start × EndsBy a size (bounds a).end
+    within_at n f =
         let e = place_is ∙ ap (λ (s : Bool). limited_n s a.reversed α.size ℓ (box_n u μ) told) n in
         let c = limited_within a.reversed α.size ℓ (box_n u μ) told (sym (le_exact box (sub_exact high low (omega arith))) ∙ f) in
         (begins_from (aligned o.aligned) low (rw e c.0), ends_by (aligned o.aligned) high (rw e c.1))
 
-    keeps-start-at : (a.reversed ≡ false → BeginsFrom a size (bounds a).start) × (a.reversed ≡ true → EndsBy a size (bounds a).end)
-    keeps-start-at =
+    keeps_start_at : (a.reversed ≡ false → BeginsFrom a size (bounds a).start) × (a.reversed ≡ true → EndsBy a size (bounds a).end)
+    keeps_start_at =
         let c = limited_start a.scrolls a.reversed α.size ℓ (box_n u μ) told in
         (λ r. begins_from (aligned o.aligned) low (rw place_is (c.0 r)), λ r. ends_by (aligned o.aligned) high (rw place_is (c.1 r)))
 
   -- the same box, unsafe: its place is as told
-  unsafe-exact : ExactAxis L A (with_safety Unsafe a) α
-  unsafe-exact =
+  unsafe_exact : ExactAxis L A (with_safety Unsafe a) α
+  unsafe_exact =
       record {
         size = h.size;
-        insetStart = h.insetStart;
-        insetEnd = h.insetEnd;
-        marginStart = h.marginStart;
-        marginEnd = h.marginEnd;
+        inset_start = h.insetStart;
+        inset_end = h.insetEnd;
+        margin_start = h.marginStart;
+        margin_end = h.marginEnd;
         area = h.area;
       }
 
   -- ---- margins and insets
 
   -- with an auto margin the margin box begins where the block does
-  place-from-start : TwoInsets a → present a.margin.start && present a.margin.end ≡ false → place_n (shape a) α u ≡ add_n ℓ.start (margins_n (shape a) α u).start
-  place-from-start i n = rw (i.start, i.end, n) refl
+  place_from_start : TwoInsets a → present a.margin.start && present a.margin.end ≡ false → place_n (shape a) α u ≡ add_n ℓ.start (margins_n (shape a) α u).start
+  place_from_start i n = rw (i.start, i.end, n) refl
 
-  auto-at : TwoInsets a → present a.margin.start && present a.margin.end ≡ false → BeginsAt a size (block a).start × EndsAt a size (block a).end
-  auto-at i n =
-      let s = stands (margins_n (shape a) α u) ℓ.start refl (place-from-start i n) in
-      let even = even_of 2 (sub_n (span_n ℓ) u) (sub_exact (span-exact L A (omega arith) a α h) hu (omega arith)).mult in
+  auto_at : TwoInsets a → present a.margin.start && present a.margin.end ≡ false → BeginsAt a size (block a).start × EndsAt a size (block a).end
+  auto_at i n =
+      let s = stands (margins_n (shape a) α u) ℓ.start refl (place_from_start i n) in
+      let even = even_of 2 (sub_n (span_n ℓ) u) (sub_exact (span_exact L A (omega arith) a α h) hu (omega arith)).mult in
       let t = margins_fill (shape a) α ℓ u even (rw (i.start, i.end, n) refl) in
       (begins_at s line.start (omega arith), ends_at s line.end (omega (arith, t)))
 
   -- one inset, at the end: the block ends there
-  far-end : present a.inset.start ≡ false → present a.inset.end ≡ true → ℓ.end ≡ sub_n α.size α.inset.end
-  far-end p q = rw (p, q) (go (lt_n (sub_n α.size α.inset.end) zero_n))
+  far_end : present a.inset.start ≡ false → present a.inset.end ≡ true → ℓ.end ≡ sub_n α.size α.inset.end
+  far_end p q = rw (p, q) (go (lt_n (sub_n α.size α.inset.end) zero_n))
     where
       go : (t : Bool) → (cond t (sub_n α.size α.inset.end toN sub_n α.size α.inset.end) (zero_n toN sub_n α.size α.inset.end)).end ≡ sub_n α.size α.inset.end
       go true = refl
       go false = refl
 
-  end-inset-at : (y : Float) → a.inset.start ≡ None → a.inset.end ≡ Some y → (placement a size).position ∷ size ∷ (placement a size).margin.end ∷ y ∷ [] =Σ a.size ∷ []
-  end-inset-at y p q =
+  end_inset_at : (y : Float) → a.inset.start ≡ None → a.inset.end ≡ Some y → (placement a size).position ∷ size ∷ (placement a size).margin.end ∷ y ∷ [] =Σ a.size ∷ []
+  end_inset_at y p q =
       let absent = is_absent a.inset.start p in
       let given = is_given a.inset.end y q in
-      equal_sums (place-exact L A S room a α h hu and hu and margin-end absent and inset a.inset.end y q h.insetEnd and nil) (h.size and nil)
-      (rw (place absent given, far-end absent given) (omega arith))
+      equal_sums (place_exact L A S room a α h hu and hu and margin_end_lem absent and inset a.inset.end y q h.insetEnd and nil) (h.size and nil)
+      (rw (place absent given, far_end absent given) (omega arith))
     where
       place : present a.inset.start ≡ false → present a.inset.end ≡ true → place_n (shape a) α u ≡ sub_n (sub_n ℓ.end u) μ.end
       place p q = rw (p, q) refl
 
-      margin-end : present a.inset.start ≡ false → Exact 2 bound (placement a size).margin.end μ.end
-      margin-end p =
+      margin_end_lem : present a.inset.start ≡ false → Exact 2 bound (placement a size).margin.end μ.end
+      margin_end_lem p =
           let e : margins_n (shape a) α u ≡ μ = rw p refl in
-          subst (λ (m : LineN). Exact 2 bound (placement a size).margin.end m.end) e any-margins.end
+          subst (λ (m : LineN). Exact 2 bound (placement a size).margin.end m.end) e any_margins.end
 
   -- ---- no insets
 
   abbrev area : LineN
   area = α.area
 
-  static-middle : Middle area (box_n u μ)
-  static-middle =
+  static_middle : Middle area (box_n u μ)
+  static_middle =
       sub_mult 2 (add_n area.start area.end) (box_n u μ) (add_mult 2 area.start area.end (even_of 2 area.start h.area.start.mult) (even_of 2 area.end h.area.end.mult)) (even_of 2 (box_n u μ) box.mult)
 
-  static-even : Multiple 2 (add_n area.start area.end)
-  static-even = add_mult 2 area.start area.end (even_of 2 area.start h.area.start.mult) (even_of 2 area.end h.area.end.mult)
+  static_even : Multiple 2 (add_n area.start area.end)
+  static_even = add_mult 2 area.start area.end (even_of 2 area.start h.area.start.mult) (even_of 2 area.end h.area.end.mult)
 
   abbrev unset : NoInset a → Stands a size
   unset n =
@@ -314,14 +314,14 @@ module _ (L A S : ℕ) (room : 10 * L + 6 * A + S < 16777216) (a : OofAxis) (α 
       (rw (is_absent a.inset.start n.start, is_absent a.inset.end n.end) refl)
 
   -- the block as the static position has it
-  static-line : NoInset a → ℓ ≡ repaired_n (end_of a.reversed) (static_n a.place.align.keyword area α.size)
-  static-line n = rw (is_absent a.inset.start n.start, is_absent a.inset.end n.end) refl
+  static_line : NoInset a → ℓ ≡ repaired_n (end_of a.reversed) (static_n a.place.align.keyword area α.size)
+  static_line n = rw (is_absent a.inset.start n.start, is_absent a.inset.end n.end) refl
 
-  static-safe-at : NoInset a → a.place.align.safety ≡ Safe → lt 0f (margin_box a size) ≡ true → StartKept a size
-  static-safe-at n s p =
-      let i = static_keeps a.reversed a.place.align.keyword area α.size (box_n u μ) static-middle static-even (sym (lt_exact (zero_exact {g = 2} {b = 0}) box) ∙ p) in
-      let e = ap (λ (s : AlignmentSafety). static_place_n s (shape a) area ℓ (box_n u μ)) s ∙ ap (λ (l : LineN). static_place_n Safe (shape a) area l (box_n u μ)) (static-line n) in
-      (λ r. begins_from (unset n) line.start (rw (e, static-line n) (i.0 r)), λ r. ends_by (unset n) line.end (rw (e, static-line n) (i.1 r)))
+  static_safe_at : NoInset a → a.place.align.safety ≡ Safe → lt 0f (margin_box a size) ≡ true → StartKept a size
+  static_safe_at n s p =
+      let i = static_keeps a.reversed a.place.align.keyword area α.size (box_n u μ) static_middle static_even (sym (lt_exact (zero_exact {g = 2} {b = 0}) box) ∙ p) in
+      let e = ap (λ (s : AlignmentSafety). static_place_n s (shape a) area ℓ (box_n u μ)) s ∙ ap (λ (l : LineN). static_place_n Safe (shape a) area l (box_n u μ)) (static_line n) in
+      (λ r. begins_from (unset n) line.start (rw (e, static_line n) (i.0 r)), λ r. ends_by (unset n) line.end (rw (e, static_line n) (i.1 r)))
 
 -- what the sums say of the integers
 total_is : {xs : List Float} {t : N} → Sum xs t → (u : N) → Total xs u → EqN t u
@@ -334,8 +334,8 @@ at_most_of h k e = omega (arith, total_is h e.0 e.2, total_is k e.1 e.3, e.4)
 module _ (L A S : ℕ) (room : 10 * L + 6 * A + S < 16777216) (a : OofAxis) (α : AxisN) (h : ExactAxis L A a α) {size : Float} {u : N} (hu : Exact 4 S size u) where
   abbrev unsafe : Aligned a → Stands (with_safety Unsafe a) size
   unsafe g =
-      aligned L A S room (with_safety Unsafe a) α (unsafe-exact L A S room a α h hu) hu
-      (record { insets = record { start = g.insets.start; end = g.insets.end }; marginStart = g.marginStart; marginEnd = g.marginEnd })
+      aligned L A S room (with_safety Unsafe a) α (unsafe_exact L A S room a α h hu) hu
+      (record { insets = record { start = g.insets.start; end = g.insets.end }; margin_start = g.marginStart; margin_end = g.marginEnd })
 
   module _ (o : Overflows a size) where
     abbrev s : Stands a size
@@ -353,60 +353,60 @@ module _ (L A S : ℕ) (room : 10 * L + 6 * A + S < 16777216) (a : OofAxis) (α 
     highest : Exact 4 (3 * L + 2 * A) (bounds a).end edges.end
     highest = high L A S room a α h hu
 
-    told-begins-from : BeginsFrom (with_safety Unsafe a) size (bounds a).start → LeN edges.start q.at
-    told-begins-from f = let z = at_most_of (lowest and q.marginStart and nil) (q.position and nil) f in omega (arith, z)
+    told_begins_from : BeginsFrom (with_safety Unsafe a) size (bounds a).start → LeN edges.start q.at
+    told_begins_from f = let z = at_most_of (lowest and q.marginStart and nil) (q.position and nil) f in omega (arith, z)
 
-    told-ends-by : EndsBy (with_safety Unsafe a) size (bounds a).end → LeN (add_n q.at (box_of q)) edges.end
-    told-ends-by f = let z = at_most_of (q.position and q.border and q.marginEnd and nil) (highest and nil) f in omega (arith, z)
+    told_ends_by : EndsBy (with_safety Unsafe a) size (bounds a).end → LeN (add_n q.at (box_of q)) edges.end
+    told_ends_by f = let z = at_most_of (q.position and q.border and q.marginEnd and nil) (highest and nil) f in omega (arith, z)
 
-    told-begins-by : BeginsBy (with_safety Unsafe a) size (bounds a).start → LeN q.at edges.start
-    told-begins-by f = let z = at_most_of (q.position and nil) (lowest and q.marginStart and nil) f in omega (arith, z)
+    told_begins_by : BeginsBy (with_safety Unsafe a) size (bounds a).start → LeN q.at edges.start
+    told_begins_by f = let z = at_most_of (q.position and nil) (lowest and q.marginStart and nil) f in omega (arith, z)
 
-    told-ends-from : EndsFrom (with_safety Unsafe a) size (bounds a).end → LeN edges.end (add_n q.at (box_of q))
-    told-ends-from f = let z = at_most_of (highest and nil) (q.position and q.border and q.marginEnd and nil) f in omega (arith, z)
+    told_ends_from : EndsFrom (with_safety Unsafe a) size (bounds a).end → LeN edges.end (add_n q.at (box_of q))
+    told_ends_from f = let z = at_most_of (highest and nil) (q.position and q.border and q.marginEnd and nil) f in omega (arith, z)
 
-    no-more-at : (a.scrolls && a.reversed ≡ false → BeginsFrom (with_safety Unsafe a) size (bounds a).start)
+    no_more_at : (a.scrolls && a.reversed ≡ false → BeginsFrom (with_safety Unsafe a) size (bounds a).start)
         → (a.scrolls && not a.reversed ≡ false → EndsBy (with_safety Unsafe a) size (bounds a).end)
         → (placement a size).position ∷ [] =Σ (placement (with_safety Unsafe a) size).position ∷ []
-    no-more-at f g =
-        let t = limited_told a.scrolls a.reversed α.size s.l (box_of s) (align_of a.alignment a.reversed) (λ e. told-begins-from (f e)) (λ e. told-ends-by (g e)) in
+    no_more_at f g =
+        let t = limited_told a.scrolls a.reversed α.size s.l (box_of s) (align_of a.alignment a.reversed) (λ e. told_begins_from (f e)) (λ e. told_ends_by (g e)) in
         equal_sums (s.position and nil) (q.position and nil) (rw (place_is L A S room a α h hu o) (omega (arith, t)))
 
     -- past an edge as told: it stops there
     at_low : a.scrolls && a.reversed ≡ false → (a.scrolls ≡ false → le (margin_box a size) (span (bounds a)) ≡ true)
         → BeginsBy (with_safety Unsafe a) size (bounds a).start → BeginsAt a size (bounds a).start
     at_low n f g =
-        let t = limited_low a.scrolls a.reversed α.size s.l (box_of s) (align_of a.alignment a.reversed) n (λ e. sym (le_exact (box L A S room a α h hu) (sub_exact highest lowest (omega arith))) ∙ f e) (told-begins-by g) in
+        let t = limited_low a.scrolls a.reversed α.size s.l (box_of s) (align_of a.alignment a.reversed) n (λ e. sym (le_exact (box L A S room a α h hu) (sub_exact highest lowest (omega arith))) ∙ f e) (told_begins_by g) in
         begins_at s lowest (rw (place_is L A S room a α h hu o) t)
 
     at_high : a.scrolls && not a.reversed ≡ false → (a.scrolls ≡ false → le (margin_box a size) (span (bounds a)) ≡ true)
         → EndsFrom (with_safety Unsafe a) size (bounds a).end → EndsAt a size (bounds a).end
     at_high n f g =
-        let t = limited_high a.scrolls a.reversed α.size s.l (box_of s) (align_of a.alignment a.reversed) n (λ e. sym (le_exact (box L A S room a α h hu) (sub_exact highest lowest (omega arith))) ∙ f e) (told-ends-from g) in
+        let t = limited_high a.scrolls a.reversed α.size s.l (box_of s) (align_of a.alignment a.reversed) n (λ e. sym (le_exact (box L A S room a α h hu) (sub_exact highest lowest (omega arith))) ∙ f e) (told_ends_from g) in
         ends_at s highest (rw (place_is L A S room a α h hu o) t)
 
-    too-large-at : a.scrolls ≡ false → le (margin_box a size) (span (bounds a)) ≡ false
+    too_large_at : a.scrolls ≡ false → le (margin_box a size) (span (bounds a)) ≡ false
         → (a.reversed ≡ false → BeginsAt a size (bounds a).start) × (a.reversed ≡ true → EndsAt a size (bounds a).end)
-    too-large-at n f =
+    too_large_at n f =
         let e = place_is L A S room a α h hu o ∙ ap (λ (t : Bool). limited_n t a.reversed α.size s.l (box_of s) (align_of a.alignment a.reversed)) n in
         let t = limited_large a.reversed α.size s.l (box_of s) (align_of a.alignment a.reversed) (sym (le_exact (box L A S room a α h hu) (sub_exact highest lowest (omega arith))) ∙ f) in
         (λ r. begins_at s lowest (rw e (t.0 r)), λ r. ends_at s highest (rw e (t.1 r)))
 
   -- ---- the block around the static center
 
-  around-at : NoInset a → a.place.align.keyword ≡ Center → (0f ∷ [] ≤Σ a.place.area.start ∷ a.place.area.end ∷ []) → (a.place.area.start ∷ a.place.area.end ∷ [] ≤Σ a.size ∷ a.size ∷ [])
+  around_at : NoInset a → a.place.align.keyword ≡ Center → (0f ∷ [] ≤Σ a.place.area.start ∷ a.place.area.end ∷ []) → (a.place.area.start ∷ a.place.area.end ∷ [] ≤Σ a.size ∷ a.size ∷ [])
       → AroundStaticCenter a
-  around-at n k f g =
+  around_at n k f g =
       let c = h.area.start and h.area.end and nil in
       let low0 = at_most_of (zero_exact {g = 4} {b = 0} and nil) c f in
       let high0 = at_most_of c (h.size and h.size and nil) g in
-      let e = static-line L A S room a α h hu n ∙ ap (λ (k : AxisStaticEdge). repaired_n (end_of a.reversed) (static_n k α.area α.size)) k in
-      let t = around (end_of a.reversed) α.area α.size (static-even L A S room a α h hu) (omega (arith, low0)) (omega (arith, high0)) in
+      let e = static_line L A S room a α h hu n ∙ ap (λ (k : AxisStaticEdge). repaired_n (end_of a.reversed) (static_n k α.area α.size)) k in
+      let t = around (end_of a.reversed) α.area α.size (static_even L A S room a α h hu) (omega (arith, low0)) (omega (arith, high0)) in
       let l = line L A S room a α h hu in
       record {
         even = equal_sums (l.start and l.end and nil) c (rw e (omega (arith, t.0)));
-        inStart = at_most_sums (zero_exact {g = 4} {b = 0} and nil) (l.start and nil) (rw e (omega (arith, t.1)));
-        inEnd = at_most_sums (l.end and nil) (h.size and nil) (rw e (omega (arith, t.2)));
+        in_start = at_most_sums (zero_exact {g = 4} {b = 0} and nil) (l.start and nil) (rw e (omega (arith, t.1)));
+        in_end = at_most_sums (l.end and nil) (h.size and nil) (rw e (omega (arith, t.2)));
         touches = touch a.reversed e t.3;
       }
     where
@@ -418,9 +418,9 @@ module _ (L A S : ℕ) (room : 10 * L + 6 * A + S < 16777216) (a : OofAxis) (α 
 
   -- ---- the stretch-fit size
 
-  stretch-at : StretchIs a
-  stretch-at =
-      let f = stretch-exact L A (omega arith) a α h in
+  stretch_at : StretchIs a
+  stretch_at =
+      let f = stretch_exact L A (omega arith) a α h in
       let l = line L A S room a α h hu in
       let ms = given_start L A S room a α h hu in
       let me = given_end L A S room a α h hu in
@@ -446,13 +446,13 @@ whole f a size w =
     (numbers w.lengths w.static a w.axis) (axis_exact w.lengths w.static a w.axis) size (units w.box) (quarters_exact w.box)
 
 pub fits_inside : FitsInside
-fits_inside = whole fits-inside-at
+fits_inside = whole fits_inside_at
 
 pub center_is_even : CenterIsEven
-center_is_even = whole center-at
+center_is_even = whole center_at
 
 pub end_at_end : EndAtEnd
-end_at_end = whole end-at
+end_at_end = whole end_at
 
 pub safe_keeps_start : SafeKeepsStart
 safe_keeps_start = whole safe_at
@@ -461,22 +461,22 @@ pub overflow_covers : OverflowCovers
 overflow_covers = whole covers_at
 
 pub overflow_stays_within : OverflowStaysWithin
-overflow_stays_within = whole within-at
+overflow_stays_within = whole within_at
 
 pub overflow_keeps_start : OverflowKeepsStart
-overflow_keeps_start = whole keeps-start-at
+overflow_keeps_start = whole keeps_start_at
 
 pub auto_margins_fill : AutoMarginsFill
-auto_margins_fill = whole auto-at
+auto_margins_fill = whole auto_at
 
 pub end_inset_exact : EndInsetExact
-end_inset_exact = whole end-inset-at
+end_inset_exact = whole end_inset_at
 
 pub static_safe_keeps_start : StaticSafeKeepsStart
-static_safe_keeps_start = whole static-safe-at
+static_safe_keeps_start = whole static_safe_at
 
 pub overflow_moves_no_more : OverflowMovesNoMore
-overflow_moves_no_more = whole no-more-at
+overflow_moves_no_more = whole no_more_at
 
 pub overflow_stops_at_start : OverflowStopsAtStart
 overflow_stops_at_start = whole at_low
@@ -485,16 +485,16 @@ pub overflow_stops_at_end : OverflowStopsAtEnd
 overflow_stops_at_end = whole at_high
 
 pub too_large_at_start : TooLargeAtStart
-too_large_at_start = whole too-large-at
+too_large_at_start = whole too_large_at
 
 pub block_around_static_center : BlockAroundStaticCenter
-block_around_static_center = whole around-at
+block_around_static_center = whole around_at
 
 pub stretch_fits : StretchFits
-stretch_fits = whole stretch-at
+stretch_fits = whole stretch_at
 
 pub same_size_is_the_block : SameSizeIsTheBlock
-same_size_is_the_block = whole same-size-at
+same_size_is_the_block = whole same_size_at
 
 pub stretched_box_is_the_block : StretchedBoxIsTheBlock
-stretched_box_is_the_block = whole stretched-at
+stretched_box_is_the_block = whole stretched_at

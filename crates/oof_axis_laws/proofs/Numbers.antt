@@ -149,26 +149,26 @@ limited_within r ω l v k f = kept_within_lem (limit_n ω l) r v (align_n l v k)
 pub limited_start : (s r : Bool) (ω : N) (l : LineN) (v : N) (k : AxisStaticEdge)
     → (r ≡ false → LeN (limit_n ω l).start (limited_n s r ω l v k)) × (r ≡ true → LeN (add_n (limited_n s r ω l v k) v) (limit_n ω l).end)
 limited_start false r ω l v k = kept_start (limit_n ω l) r v (align_n l v k)
-limited_start true false ω l v k = (λ h. right-larger (align_n l v k) (limit_n ω l).start, λ h. absurd (false≢true h))
+limited_start true false ω l v k = (λ h. right_larger (align_n l v k) (limit_n ω l).start, λ h. absurd (false≢true h))
   where
-    right-larger : (q x : N) → LeN x (max_n q x)
-    right-larger q x = omega arith
-limited_start true true ω l v k = (λ h. absurd (true≢false h), λ h. right-smaller (align_n l v k) (limit_n ω l).end v)
+    right_larger : (q x : N) → LeN x (max_n q x)
+    right_larger q x = omega arith
+limited_start true true ω l v k = (λ h. absurd (true≢false h), λ h. right_smaller (align_n l v k) (limit_n ω l).end v)
   where
-    right-smaller : (q x v : N) → LeN (add_n (min_n q (sub_n x v)) v) x
-    right-smaller q x v = omega arith
+    right_smaller : (q x v : N) → LeN (add_n (min_n q (sub_n x v)) v) x
+    right_smaller q x v = omega arith
 
 pub limited_told : (s r : Bool) (ω : N) (l : LineN) (v : N) (k : AxisStaticEdge)
     → (s && r ≡ false → LeN (limit_n ω l).start (align_n l v k)) → (s && not r ≡ false → LeN (add_n (align_n l v k) v) (limit_n ω l).end) → EqN (limited_n s r ω l v k) (align_n l v k)
 limited_told false r ω l v k f g = kept_told (limit_n ω l) r v (align_n l v k) (f refl) (g refl)
-limited_told true false ω l v k f g = same-larger (align_n l v k) (limit_n ω l).start (f refl)
+limited_told true false ω l v k f g = same_larger (align_n l v k) (limit_n ω l).start (f refl)
   where
-    same-larger : (q x : N) → LeN x q → EqN (max_n q x) q
-    same-larger q x h = omega arith
-limited_told true true ω l v k f g = same-smaller (align_n l v k) (limit_n ω l).end v (g refl)
+    same_larger : (q x : N) → LeN x q → EqN (max_n q x) q
+    same_larger q x h = omega arith
+limited_told true true ω l v k f g = same_smaller (align_n l v k) (limit_n ω l).end v (g refl)
   where
-    same-smaller : (q x v : N) → LeN (add_n q v) x → EqN (min_n q (sub_n x v)) q
-    same-smaller q x v h = omega arith
+    same_smaller : (q x v : N) → LeN (add_n q v) x → EqN (min_n q (sub_n x v)) q
+    same_smaller q x v h = omega arith
 
 -- past an edge as told: it stops there
 pub limited_low : (s r : Bool) (ω : N) (l : LineN) (v : N) (k : AxisStaticEdge) → s && r ≡ false → (s ≡ false → le_n v (span_n (limit_n ω l)) ≡ true) → LeN (align_n l v k) (limit_n ω l).start

@@ -188,8 +188,8 @@ TooLargeAtStart =
 -- as far from the center on either side, within the area, up to the nearer edge of it
 pub record AroundStaticCenter (a : OofAxis) : Type 0 where
   pub even : (block a).start ∷ (block a).end ∷ [] =Σ a.place.area.start ∷ a.place.area.end ∷ []
-  pub inStart : 0f ∷ [] ≤Σ (block a).start ∷ []
-  pub inEnd : (block a).end ∷ [] ≤Σ a.size ∷ []
+  pub in_start : 0f ∷ [] ≤Σ (block a).start ∷ []
+  pub in_end : (block a).end ∷ [] ≤Σ a.size ∷ []
   pub touches : ((block a).start ≐ 0f) ⊎ ((block a).end ≐ a.size)
 
 -- where the center lies in the area. (`size` is any: it only bounds.)

@@ -221,18 +221,18 @@ size_stage container style candidate box keywords r = go (fill_given r.fill || b
 
 pub stages_move_forward : StagesMoveForward
 unfolding asked_after asked_of size_asked
-stages_move_forward container style candidate r = (keyword-stage r.keyword r.fill, fill-stage r.keyword r.fill)
+stages_move_forward container style candidate r = (keyword_stage r.keyword r.fill, fill_stage r.keyword r.fill)
   where
     sized : (r : Replies) → is_keyword_stage (size_asked candidate.node style (resolved_box container style candidate) (size_keywords style (resolved_box container style candidate)) r).stage ≡ false
     sized r = size_stage container style candidate (resolved_box container style candidate) (size_keywords style (resolved_box container style candidate)) r
 
-    keyword-stage : (k : KeywordReply) (f : FillReply) → keyword_given k ≡ true → is_keyword_stage (asked_after container style candidate (record { keyword = k; fill = f })).stage ≡ false
-    keyword-stage k (fill.Both s) h = sized (record { keyword = k; fill = fill.Both s })
-    keyword-stage keyword.None fill.None h = no h refl
-    keyword-stage (keyword.Both s) fill.None h = sized (record { keyword = keyword.Both s; fill = fill.None })
-    keyword-stage (keyword.Width w) fill.None h = sized (record { keyword = keyword.Width w; fill = fill.None })
-    keyword-stage (keyword.Height g) fill.None h = sized (record { keyword = keyword.Height g; fill = fill.None })
+    keyword_stage : (k : KeywordReply) (f : FillReply) → keyword_given k ≡ true → is_keyword_stage (asked_after container style candidate (record { keyword = k; fill = f })).stage ≡ false
+    keyword_stage k (fill.Both s) h = sized (record { keyword = k; fill = fill.Both s })
+    keyword_stage keyword.None fill.None h = no h refl
+    keyword_stage (keyword.Both s) fill.None h = sized (record { keyword = keyword.Both s; fill = fill.None })
+    keyword_stage (keyword.Width w) fill.None h = sized (record { keyword = keyword.Width w; fill = fill.None })
+    keyword_stage (keyword.Height g) fill.None h = sized (record { keyword = keyword.Height g; fill = fill.None })
 
-    fill-stage : (k : KeywordReply) (f : FillReply) → fill_given f ≡ true → (asked_after container style candidate (record { keyword = k; fill = f })).stage ≡ stage.LayOut
-    fill-stage k (fill.Both s) h = refl
-    fill-stage k fill.None h = no h refl
+    fill_stage : (k : KeywordReply) (f : FillReply) → fill_given f ≡ true → (asked_after container style candidate (record { keyword = k; fill = f })).stage ≡ stage.LayOut
+    fill_stage k (fill.Both s) h = refl
+    fill_stage k fill.None h = no h refl

@@ -85,9 +85,9 @@ module _ (at : Point) (size : Size) (own : Rect) (overflow : OverflowPoint) (con
   abbrev down : Line
   down = reach (propagates overflow.y overflow contain) size.height (line_y own)
 
-  pub zeros-or-placed : (scrolls : Bool) → let r = contribution at size own overflow contain scrolls in (r ≡ zero_rect) ⊎ (r ≡ rect_of (placed_at at.x across) (placed_at at.y down))
+  pub zeros_or_placed : (scrolls : Bool) → let r = contribution at size own overflow contain scrolls in (r ≡ zero_rect) ⊎ (r ≡ rect_of (placed_at at.x across) (placed_at at.y down))
   unfolding contribution
-  zeros-or-placed scrolls = go (le across.end 0f || le down.end 0f) (scrolls && (le (placed_at at.x across).end 0f || le (placed_at at.y down).end 0f))
+  zeros_or_placed scrolls = go (le across.end 0f || le down.end 0f) (scrolls && (le (placed_at at.x across).end 0f || le (placed_at at.y down).end 0f))
     where
       go : (b c : Bool) → let r = cond b zero_rect (cond c zero_rect (rect_of (placed_at at.x across) (placed_at at.y down))) in (r ≡ zero_rect) ⊎ (r ≡ rect_of (placed_at at.x across) (placed_at at.y down))
       go true c = inl refl
@@ -247,46 +247,46 @@ module _ (container : ContainingBlock) (style : Style) (l : Layout) (h : Fine co
   abbrev origin : Point
   origin = from_origin container l.location l.size
 
-  abbrev x-shows : Bool
-  x-shows = propagates style.overflow.x style.overflow style.contain
+  abbrev x_shows : Bool
+  x_shows = propagates style.overflow.x style.overflow style.contain
 
-  abbrev y-shows : Bool
-  y-shows = propagates style.overflow.y style.overflow style.contain
+  abbrev y_shows : Bool
+  y_shows = propagates style.overflow.y style.overflow style.contain
 
-  abbrev x-line : Line
-  x-line = reach x-shows l.size.width (line_x l.overflow)
+  abbrev x_line : Line
+  x_line = reach x_shows l.size.width (line_x l.overflow)
 
-  abbrev y-line : Line
-  y-line = reach y-shows l.size.height (line_y l.overflow)
+  abbrev y_line : Line
+  y_line = reach y_shows l.size.height (line_y l.overflow)
 
-  x-reach : Reached x-shows l.size.width (line_x l.overflow) (units h.sizeX) (units h.left) (units h.right)
-  x-reach = reached x-shows (exactly h.sizeX) (exactly h.left) (exactly h.right)
+  x_reach : Reached x_shows l.size.width (line_x l.overflow) (units h.sizeX) (units h.left) (units h.right)
+  x_reach = reached x_shows (exactly h.sizeX) (exactly h.left) (exactly h.right)
 
-  y-reach : Reached y-shows l.size.height (line_y l.overflow) (units h.sizeY) (units h.top) (units h.bottom)
-  y-reach = reached y-shows (exactly h.sizeY) (exactly h.top) (exactly h.bottom)
+  y_reach : Reached y_shows l.size.height (line_y l.overflow) (units h.sizeY) (units h.top) (units h.bottom)
+  y_reach = reached y_shows (exactly h.sizeY) (exactly h.top) (exactly h.bottom)
 
   -- lines that the reach holds
-  across-held : (x : Line) {α β : N} → Exact 1 bound x.start α → Exact 1 bound x.end β → LeN x-reach.first α → LeN β x-reach.last → HoldsAcross container l (placed_at origin.x x-line) x
+  across_held : (x : Line) {α β : N} → Exact 1 bound x.start α → Exact 1 bound x.end β → LeN x_reach.first α → LeN β x_reach.last → HoldsAcross container l (placed_at origin.x x_line) x
   unfolding from_origin
-  across-held x a b i j = (
-    λ e. rw e (forwards (exactly h.offset_x) (exactly h.x) (exactly h.width) (exactly h.sizeX) x-reach.start x-reach.end a b i j),
-    λ e. rw e (backwards (exactly h.offset_x) (exactly h.x) (exactly h.width) (exactly h.sizeX) x-reach.start x-reach.end a b i j),
+  across_held x a b i j = (
+    λ e. rw e (forwards (exactly h.offset_x) (exactly h.x) (exactly h.width) (exactly h.sizeX) x_reach.start x_reach.end a b i j),
+    λ e. rw e (backwards (exactly h.offset_x) (exactly h.x) (exactly h.width) (exactly h.sizeX) x_reach.start x_reach.end a b i j),
   )
 
-  down-held : (y : Line) {α β : N} → Exact 1 bound y.start α → Exact 1 bound y.end β → LeN y-reach.first α → LeN β y-reach.last → HoldsDown container l (placed_at origin.y y-line) y
+  down_held : (y : Line) {α β : N} → Exact 1 bound y.start α → Exact 1 bound y.end β → LeN y_reach.first α → LeN β y_reach.last → HoldsDown container l (placed_at origin.y y_line) y
   unfolding from_origin
-  down-held y a b i j = forwards (exactly h.offset_y) (exactly h.y) (exactly h.width) (exactly h.sizeY) y-reach.start y-reach.end a b i j
+  down_held y a b i j = forwards (exactly h.offset_y) (exactly h.y) (exactly h.width) (exactly h.sizeY) y_reach.start y_reach.end a b i j
 
-  box-held : HoldsTheBox container l (rect_of (placed_at origin.x x-line) (placed_at origin.y y-line))
-  box-held = (across-held (0f to l.size.width) zero (exactly h.sizeX) x-reach.low x-reach.high, down-held (0f to l.size.height) zero (exactly h.sizeY) y-reach.low y-reach.high)
+  box_held : HoldsTheBox container l (rect_of (placed_at origin.x x_line) (placed_at origin.y y_line))
+  box_held = (across_held (0f to l.size.width) zero (exactly h.sizeX) x_reach.low x_reach.high, down_held (0f to l.size.height) zero (exactly h.sizeY) y_reach.low y_reach.high)
 
   abbrev found : Rect
   found = contribution origin l.size l.overflow style.overflow style.contain (any_scroll_container container.overflow)
 
-  or-zeros : (P : Rect → Type 0) → P (rect_of (placed_at origin.x x-line) (placed_at origin.y y-line)) → (found ≡ zero_rect) ⊎ P found
-  or-zeros P k = go (zeros-or-placed origin l.size l.overflow style.overflow style.contain (any_scroll_container container.overflow))
+  or_zeros : (P : Rect → Type 0) → P (rect_of (placed_at origin.x x_line) (placed_at origin.y y_line)) → (found ≡ zero_rect) ⊎ P found
+  or_zeros P k = go (zeros_or_placed origin l.size l.overflow style.overflow style.contain (any_scroll_container container.overflow))
     where
-      go : (found ≡ zero_rect) ⊎ (found ≡ rect_of (placed_at origin.x x-line) (placed_at origin.y y-line)) → (found ≡ zero_rect) ⊎ P found
+      go : (found ≡ zero_rect) ⊎ (found ≡ rect_of (placed_at origin.x x_line) (placed_at origin.y y_line)) → (found ≡ zero_rect) ⊎ P found
       go (inl e) = inl e
       go (inr e) = inr (subst P (sym e) k)
 
@@ -295,7 +295,7 @@ unfolding box_layout layout_of
 contribution_holds_the_box container style candidate =
     placed_always _ container style candidate
     (λ size laid h. (let l = layout_of container style candidate (resolved_box container style candidate) size laid.overflow in
-    or-zeros container style l h (HoldsTheBox container l) (box-held container style l h)))
+    or_zeros container style l h (HoldsTheBox container l) (box_held container style l h)))
 
 visible : (o : Overflow) (p : OverflowPoint) (c : Contain) → o ≡ Visible → NoScroller p → NotContained c → propagates o p c ≡ true
 unfolding propagates
@@ -306,12 +306,12 @@ unfolding box_layout layout_of
 contribution_holds_its_overflow container style candidate f n =
     placed_always _ container style candidate
     (λ size laid h. (let l = layout_of container style candidate (resolved_box container style candidate) size laid.overflow in
-    let x = x-reach container style l h in
-    let y = y-reach container style l h in
-    or-zeros container style l h
+    let x = x_reach container style l h in
+    let y = y_reach container style l h in
+    or_zeros container style l h
     (λ r. (style.overflow.x ≡ Visible → HoldsAcross container l (line_x r) (line_x laid.overflow)) × (style.overflow.y ≡ Visible → HoldsDown container l (line_y r) (line_y laid.overflow))) (
-      λ e. (let s = visible style.overflow.x style.overflow style.contain e f n in across-held container style l h (line_x laid.overflow) (exactly h.left) (exactly h.right) (x.low_own s) (x.high_own s)),
-      λ e. (let s = visible style.overflow.y style.overflow style.contain e f n in down-held container style l h (line_y laid.overflow) (exactly h.top) (exactly h.bottom) (y.low_own s) (y.high_own s)),
+      λ e. (let s = visible style.overflow.x style.overflow style.contain e f n in across_held container style l h (line_x laid.overflow) (exactly h.left) (exactly h.right) (x.low_own s) (x.high_own s)),
+      λ e. (let s = visible style.overflow.y style.overflow style.contain e f n in down_held container style l h (line_y laid.overflow) (exactly h.top) (exactly h.bottom) (y.low_own s) (y.high_own s)),
     )))
 
 -- ---- no zeros
@@ -338,47 +338,47 @@ unfolding contribution
 not_zeros at size own overflow contain scrolls e f = rw (e, f) refl
 
 module _ (container : ContainingBlock) (style : Style) (l : Layout) (h : Fine container l) where
-  abbrev x : Reached (x-shows container style l h) l.size.width (line_x l.overflow) (units h.sizeX) (units h.left) (units h.right)
-  x = x-reach container style l h
+  abbrev x : Reached (x_shows container style l h) l.size.width (line_x l.overflow) (units h.sizeX) (units h.left) (units h.right)
+  x = x_reach container style l h
 
-  abbrev y : Reached (y-shows container style l h) l.size.height (line_y l.overflow) (units h.sizeY) (units h.top) (units h.bottom)
-  y = y-reach container style l h
+  abbrev y : Reached (y_shows container style l h) l.size.height (line_y l.overflow) (units h.sizeY) (units h.top) (units h.bottom)
+  y = y_reach container style l h
 
   -- an extent above 0
-  wide : lt 0f l.size.width ≡ true → le (x-line container style l h).end 0f ≡ false
+  wide : lt 0f l.size.width ≡ true → le (x_line container style l h).end 0f ≡ false
   wide e = let p = below zero_n (units h.sizeX) (sym (lt_exact zero (exactly h.sizeX)) ∙ e) in le_exact x.end zero ∙ at_most_false x.last zero_n (λ q. omega (arith, p, q, x.high))
 
-  tall : lt 0f l.size.height ≡ true → le (y-line container style l h).end 0f ≡ false
+  tall : lt 0f l.size.height ≡ true → le (y_line container style l h).end 0f ≡ false
   tall e = let p = below zero_n (units h.sizeY) (sym (lt_exact zero (exactly h.sizeY)) ∙ e) in le_exact y.end zero ∙ at_most_false y.last zero_n (λ q. omega (arith, p, q, y.high))
 
   -- an end after the start edge
-  left-to-right : (l.location.x ∷ l.size.width ∷ [] ≤Σ container.area.offset.x ∷ [] → ⊥) → le (l.location.x ⊖ container.area.offset.x ⊕ (x-line container style l h).end) 0f ≡ false
-  left-to-right f =
+  left_to_right_lem : (l.location.x ∷ l.size.width ∷ [] ≤Σ container.area.offset.x ∷ [] → ⊥) → le (l.location.x ⊖ container.area.offset.x ⊕ (x_line container style l h).end) 0f ≡ false
+  left_to_right_lem f =
       le_exact (add_exact (sub_exact (exactly h.x) (exactly h.offset_x) (lit< tt)) x.end (lit< tt)) zero
       ∙ at_most_false (add_n (sub_n (units h.x) (units h.offset_x)) x.last) zero_n
       (λ q. f (at_most_sums (exactly h.x and exactly h.sizeX and nil) (exactly h.offset_x and nil) (omega (arith, q, x.high))))
 
-  right-to-left : (container.area.offset.x ∷ container.area.size.width ∷ [] ≤Σ l.location.x ∷ [] → ⊥)
-      → le (container.area.size.width ⊖ (l.location.x ⊖ container.area.offset.x) ⊖ l.size.width ⊕ (x-line container style l h).end) 0f ≡ false
-  right-to-left f =
+  right_to_left_lem : (container.area.offset.x ∷ container.area.size.width ∷ [] ≤Σ l.location.x ∷ [] → ⊥)
+      → le (container.area.size.width ⊖ (l.location.x ⊖ container.area.offset.x) ⊖ l.size.width ⊕ (x_line container style l h).end) 0f ≡ false
+  right_to_left_lem f =
       le_exact (add_exact (sub_exact (sub_exact (exactly h.width) (sub_exact (exactly h.x) (exactly h.offset_x) (lit< tt)) (lit< tt)) (exactly h.sizeX) (lit< tt)) x.end (lit< tt)) zero
       ∙ at_most_false (add_n (sub_n (sub_n (units h.width) (sub_n (units h.x) (units h.offset_x))) (units h.sizeX)) x.last) zero_n
       (λ q. f (at_most_sums (exactly h.offset_x and exactly h.width and nil) (exactly h.x and nil) (omega (arith, q, x.high))))
 
-  downwards : (l.location.y ∷ l.size.height ∷ [] ≤Σ container.area.offset.y ∷ [] → ⊥) → le (l.location.y ⊖ container.area.offset.y ⊕ (y-line container style l h).end) 0f ≡ false
+  downwards : (l.location.y ∷ l.size.height ∷ [] ≤Σ container.area.offset.y ∷ [] → ⊥) → le (l.location.y ⊖ container.area.offset.y ⊕ (y_line container style l h).end) 0f ≡ false
   downwards f =
       le_exact (add_exact (sub_exact (exactly h.y) (exactly h.offset_y) (lit< tt)) y.end (lit< tt)) zero
       ∙ at_most_false (add_n (sub_n (units h.y) (units h.offset_y)) y.last) zero_n
       (λ q. f (at_most_sums (exactly h.y and exactly h.sizeY and nil) (exactly h.offset_y and nil) (omega (arith, q, y.high))))
 
-  past : PastTheStart container l → le (placed_at (origin container style l h).x (x-line container style l h)).end 0f || le (placed_at (origin container style l h).y (y-line container style l h)).end 0f ≡ false
+  past : PastTheStart container l → le (placed_at (origin container style l h).x (x_line container style l h)).end 0f || le (placed_at (origin container style l h).y (y_line container style l h)).end 0f ≡ false
   unfolding from_origin placed_at
   past p = neither _ _ (go container.direction refl) (downwards p.2)
     where
       go : (d : Direction) → container.direction ≡ d
-          → le (cond (is_rtl d) (container.area.size.width ⊖ (l.location.x ⊖ container.area.offset.x) ⊖ l.size.width) (l.location.x ⊖ container.area.offset.x) ⊕ (x-line container style l h).end) 0f ≡ false
-      go Ltr e = left-to-right (p.0 e)
-      go Rtl e = right-to-left (p.1 e)
+          → le (cond (is_rtl d) (container.area.size.width ⊖ (l.location.x ⊖ container.area.offset.x) ⊖ l.size.width) (l.location.x ⊖ container.area.offset.x) ⊕ (x_line container style l h).end) 0f ≡ false
+      go Ltr e = left_to_right_lem (p.0 e)
+      go Rtl e = right_to_left_lem (p.1 e)
 
   counts : lt 0f l.size.width ≡ true → lt 0f l.size.height ≡ true → (Scroller container.overflow → PastTheStart container l) → HoldsTheBox container l (found container style l h)
   counts w t p =
@@ -386,7 +386,7 @@ module _ (container : ContainingBlock) (style : Style) (l : Layout) (h : Fine co
       (sym
       (not_zeros (origin container style l h) l.size l.overflow style.overflow style.contain (any_scroll_container container.overflow) (neither _ _ (wide w) (tall t))
       (where_scrolling (any_scroll_container container.overflow) _ (λ s. past (p (scroller container.overflow s))))))
-      (box-held container style l h)
+      (box_held container style l h)
 
 pub contribution_counts : ContributionCounts
 unfolding box_layout layout_of
@@ -402,26 +402,26 @@ unfolding placed_at
 as_long hp hu hs he i j = equal_sums (add_exact hp hs (lit< tt) and hu and nil) (add_exact hp he (lit< tt) and nil) (omega (arith, i, j))
 
 module _ (container : ContainingBlock) (style : Style) (l : Layout) (h : Fine container l) where
-  x-from : (d : Direction) → (o : N) × Exact 1 (4 * bound) (cond (is_rtl d) (container.area.size.width ⊖ (l.location.x ⊖ container.area.offset.x) ⊖ l.size.width) (l.location.x ⊖ container.area.offset.x)) o
-  x-from Ltr = (_, widen (lit≤ tt) (sub_exact (exactly h.x) (exactly h.offset_x) (lit< tt)))
-  x-from Rtl = (_, sub_exact (sub_exact (exactly h.width) (sub_exact (exactly h.x) (exactly h.offset_x) (lit< tt)) (lit< tt)) (exactly h.sizeX) (lit< tt))
+  x_from : (d : Direction) → (o : N) × Exact 1 (4 * bound) (cond (is_rtl d) (container.area.size.width ⊖ (l.location.x ⊖ container.area.offset.x) ⊖ l.size.width) (l.location.x ⊖ container.area.offset.x)) o
+  x_from Ltr = (_, widen (lit≤ tt) (sub_exact (exactly h.x) (exactly h.offset_x) (lit< tt)))
+  x_from Rtl = (_, sub_exact (sub_exact (exactly h.width) (sub_exact (exactly h.x) (exactly h.offset_x) (lit< tt)) (lit< tt)) (exactly h.sizeX) (lit< tt))
 
-  x-origin : (o : N) × Exact 1 (4 * bound) (origin container style l h).x o
+  x_origin : (o : N) × Exact 1 (4 * bound) (origin container style l h).x o
   unfolding from_origin
-  x-origin = x-from container.direction
+  x_origin = x_from container.direction
 
-  y-origin : (o : N) × Exact 1 (4 * bound) (origin container style l h).y o
+  y_origin : (o : N) × Exact 1 (4 * bound) (origin container style l h).y o
   unfolding from_origin
-  y-origin = (_, widen (lit≤ tt) (sub_exact (exactly h.y) (exactly h.offset_y) (lit< tt)))
+  y_origin = (_, widen (lit≤ tt) (sub_exact (exactly h.y) (exactly h.offset_y) (lit< tt)))
 
   no_more : WithinTheBox l → let r = found container style l h in (r ≡ zero_rect) ⊎ ((r.left ∷ l.size.width ∷ [] =Σ r.right ∷ []) × (r.top ∷ l.size.height ∷ [] =Σ r.bottom ∷ []))
   no_more i =
-      let x = x-reach container style l h in
-      let y = y-reach container style l h in
-      or-zeros container style l h (λ r. (r.left ∷ l.size.width ∷ [] =Σ r.right ∷ []) × (r.top ∷ l.size.height ∷ [] =Σ r.bottom ∷ [])) (
-        as_long x-origin.1 (exactly h.sizeX) x.start x.end (x.low_within (at_most zero_n (units h.left) (sym (le_exact zero (exactly h.left)) ∙ i.0)))
+      let x = x_reach container style l h in
+      let y = y_reach container style l h in
+      or_zeros container style l h (λ r. (r.left ∷ l.size.width ∷ [] =Σ r.right ∷ []) × (r.top ∷ l.size.height ∷ [] =Σ r.bottom ∷ [])) (
+        as_long x_origin.1 (exactly h.sizeX) x.start x.end (x.low_within (at_most zero_n (units h.left) (sym (le_exact zero (exactly h.left)) ∙ i.0)))
             (x.high_within (at_most (units h.right) (units h.sizeX) (sym (le_exact (exactly h.right) (exactly h.sizeX)) ∙ i.1))),
-        as_long y-origin.1 (exactly h.sizeY) y.start y.end (y.low_within (at_most zero_n (units h.top) (sym (le_exact zero (exactly h.top)) ∙ i.2)))
+        as_long y_origin.1 (exactly h.sizeY) y.start y.end (y.low_within (at_most zero_n (units h.top) (sym (le_exact zero (exactly h.top)) ∙ i.2)))
             (y.high_within (at_most (units h.bottom) (units h.sizeY) (sym (le_exact (exactly h.bottom) (exactly h.sizeY)) ∙ i.3))),
       )
 
@@ -451,16 +451,16 @@ reaches style along size own =
 
 module _ {offset at width size : Float} {o ξ ω u : N} (ho : Exact 1 bound offset o) (hx : Exact 1 bound at ξ) (hw : Exact 1 bound width ω) (hu : Exact 1 bound size u)
     {r : Line} {σ ε : N} (hs : Exact 1 bound r.start σ) (he : Exact 1 bound r.end ε) where
-  is-forwards : IsForwards (placed_at (at ⊖ offset) r) offset at r
+  is_forwards : IsForwards (placed_at (at ⊖ offset) r) offset at r
   unfolding placed_at
-  is-forwards = (
+  is_forwards = (
     equal_sums (add_exact (from_start ho hx) hs (lit< tt) and ho and nil) (hx and hs and nil) (omega arith),
     equal_sums (add_exact (from_start ho hx) he (lit< tt) and ho and nil) (hx and he and nil) (omega arith),
   )
 
-  is-backwards : IsBackwards (placed_at (width ⊖ (at ⊖ offset) ⊖ size) r) offset width at size r
+  is_backwards : IsBackwards (placed_at (width ⊖ (at ⊖ offset) ⊖ size) r) offset width at size r
   unfolding placed_at
-  is-backwards = (
+  is_backwards = (
     equal_sums (add_exact (from_end ho hx hw hu) hs (lit< tt) and hx and hu and nil) (ho and hw and hs and nil) (omega arith),
     equal_sums (add_exact (from_end ho hx hw hu) he (lit< tt) and hx and hu and nil) (ho and hw and he and nil) (omega arith),
   )
@@ -496,15 +496,15 @@ counted container style l =
     record {
       x = x;
       y = y;
-      reachX = reaches style style.overflow.x l.size.width (line_x l.overflow);
-      reachY = reaches style style.overflow.y l.size.height (line_y l.overflow);
+      reach_x = reaches style style.overflow.x l.size.width (line_x l.overflow);
+      reach_y = reaches style style.overflow.y l.size.height (line_y l.overflow);
       union = rect_of (placed_at at.x x) (placed_at at.y y);
-      unionX =
+      union_x =
           λ h. (
-            λ e. rw e (is-forwards (exactly h.offset_x) (exactly h.x) (exactly h.width) (exactly h.sizeX) (x-reach container style l h).start (x-reach container style l h).end),
-            λ e. rw e (is-backwards (exactly h.offset_x) (exactly h.x) (exactly h.width) (exactly h.sizeX) (x-reach container style l h).start (x-reach container style l h).end),
+            λ e. rw e (is_forwards (exactly h.offset_x) (exactly h.x) (exactly h.width) (exactly h.sizeX) (x_reach container style l h).start (x_reach container style l h).end),
+            λ e. rw e (is_backwards (exactly h.offset_x) (exactly h.x) (exactly h.width) (exactly h.sizeX) (x_reach container style l h).start (x_reach container style l h).end),
           );
-      unionY = λ h. is-forwards (exactly h.offset_y) (exactly h.y) (exactly h.width) (exactly h.sizeY) (y-reach container style l h).start (y-reach container style l h).end;
+      union_y = λ h. is_forwards (exactly h.offset_y) (exactly h.y) (exactly h.width) (exactly h.sizeY) (y_reach container style l h).start (y_reach container style l h).end;
       empty = empty_zeros at scrolls x y;
       unreachable = λ s. unreachable_zeros at scrolls x y (is_scroller container.overflow s);
       counts =

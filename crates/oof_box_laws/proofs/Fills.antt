@@ -33,8 +33,8 @@ use Rattle.util_exact.proofs.Sum.{add_exact}
 use Rattle.util_exact.proofs.Quarters.{quarters_exact}
 use Rattle.mirror_axis.specs.Law.{Bounded}
 use Rattle.mirror_axis.proofs.Model.{shape, stretch_fit_n}
-use Rattle.mirror_axis.proofs.ExactMargins.{stretch-exact}
-use Rattle.mirror_axis.proofs.ExactPlace.{place-exact}
+use Rattle.mirror_axis.proofs.ExactMargins.{stretch_exact}
+use Rattle.mirror_axis.proofs.ExactPlace.{place_exact}
 use Rattle.mirror_axis.proofs.Law.{numbers, axis_exact}
 use Rattle.oof_axis_laws.specs.Laws.{Whole, ◌=Σ◌, BeginsAt, EndsAt}
 use Rattle.oof_axis_laws.proofs.Laws.{auto_margins_fill, stretched_box_is_the_block}
@@ -72,17 +72,17 @@ module _ (x : Float) (positive : lt 0f x ≡ true) where
   number : is_nan x ≡ false
   number = (le_numbers 0f x (lt_le 0f x positive)).1
 
-  above-min : (low : Float) → lt x low ≡ false → larger x low ≡ x
+  above_min : (low : Float) → lt x low ≡ false → larger x low ≡ x
   unfolding larger before
-  above-min low e = rw (number, e, no_zero true) (go (is_nan low))
+  above_min low e = rw (number, e, no_zero true) (go (is_nan low))
     where
       go : (b : Bool) → cond b x x ≡ x
       go true = refl
       go false = refl
 
-  below-max : (high : Float) → lt high x ≡ false → smaller x high ≡ x
+  below_max : (high : Float) → lt high x ≡ false → smaller x high ≡ x
   unfolding smaller before
-  below-max high e = rw (number, e, and_false (zero_of true high) (zero_of false x) (no_zero false)) (go (is_nan high))
+  below_max high e = rw (number, e, and_false (zero_of true high) (zero_of false x) (no_zero false)) (go (is_nan high))
     where
       go : (b : Bool) → cond b x x ≡ x
       go true = refl
@@ -91,9 +91,9 @@ module _ (x : Float) (positive : lt 0f x ≡ true) where
   unchanged : (min max : MaybeF32) → ((low : Float) → min ≡ Some low → lt x low ≡ false) → ((high : Float) → max ≡ Some high → lt high x ≡ false) → clamped x min max ≡ x
   unfolding clamped at_most at_least
   unchanged None None f g = refl
-  unchanged (Some low) None f g = above-min low (f low refl)
-  unchanged None (Some high) f g = below-max high (g high refl)
-  unchanged (Some low) (Some high) f g = rw (below-max high (g high refl)) (above-min low (f low refl))
+  unchanged (Some low) None f g = above_min low (f low refl)
+  unchanged None (Some high) f g = below_max high (g high refl)
+  unchanged (Some low) (Some high) f g = rw (below_max high (g high refl)) (above_min low (f low refl))
 
 -- ---- exact numbers
 
@@ -176,9 +176,9 @@ module _ (a : OofAxis) (i : TwoInsets a) where
   unfolding block
   same_block = rw (same_weaker a.inset.start a.inset.end, same_inset_block a.inset.start a.inset.end i.start i.end) refl
 
-  same-fit : stretch_fit (without_static a) ≡ stretch_fit a
+  same_fit : stretch_fit (without_static a) ≡ stretch_fit a
   unfolding stretch_fit
-  same-fit = rw same_block refl
+  same_fit = rw same_block refl
 
   same_margins : (size : Float) → margins (without_static a) size ≡ margins a size
   unfolding margins both_insets
@@ -190,9 +190,9 @@ module _ (a : OofAxis) (i : TwoInsets a) where
   same_position_in (Some x) None e f l size m = refl
   same_position_in (Some x) (Some y) e f l size m = rw (same_edge a.alignment a, same_aligned a.safety a l (size ⊕ m.start ⊕ m.end) (align_edge a.alignment a)) refl
 
-  same-placement : (size : Float) → placement (without_static a) size ≡ placement a size
+  same_placement : (size : Float) → placement (without_static a) size ≡ placement a size
   unfolding placement position
-  same-placement size = rw (same_margins size, same_block, same_position_in a.inset.start a.inset.end i.start i.end (block a) size (margins a size)) refl
+  same_placement size = rw (same_margins size, same_block, same_position_in a.inset.start a.inset.end i.start i.end (block a) size (margins a size)) refl
 
 -- ---- an axis
 
@@ -201,8 +201,8 @@ fills_with : (a : OofAxis) (offset : Float) → TwoInsets a → lt 0f (stretch_f
     → MarginBoxIs (block a) offset ((placement a (stretch_fit a)).position ⊕ offset) (stretch_fit a) (placement a (stretch_fit a)).margin
 fills_with a offset insets positive q o =
     let h = axis_exact 16384 0 a q in
-    let fit : Exact 4 786432 (stretch_fit a) (stretch_fit_n (shape a) (numbers 16384 0 a q)) = stretch-exact 65536 65536 (lit< tt) a _ h in
-    let at = any (place-exact 65536 65536 786432 (lit< tt) a _ h fit) in
+    let fit : Exact 4 786432 (stretch_fit a) (stretch_fit_n (shape a) (numbers 16384 0 a q)) = stretch_exact 65536 65536 (lit< tt) a _ h in
+    let at = any (place_exact 65536 65536 786432 (lit< tt) a _ h fit) in
     let sums = go (present a.margin.start) (present a.margin.end) refl refl (record { lengths = 16384; static = 0; sizes = 196608; room = tt; axis = q; box = quarters_of 196608 fit }) in
     let by = any (quarters_exact o) in
     let margin = (placement a (stretch_fit a)).margin in (
@@ -212,7 +212,7 @@ fills_with a offset insets positive q o =
   where
     go : (b c : Bool) → present a.margin.start ≡ b → present a.margin.end ≡ c → Whole a (stretch_fit a) → BeginsAt a (stretch_fit a) (block a).start × EndsAt a (stretch_fit a) (block a).end
     go true true e f w =
-        stretched_box_is_the_block a (stretch_fit a) w (record { insets = insets; marginStart = e; marginEnd = f }) (eq_self (stretch_fit a) (number (stretch_fit a) positive)) positive
+        stretched_box_is_the_block a (stretch_fit a) w (record { insets = insets; margin_start = e; margin_end = f }) (eq_self (stretch_fit a) (number (stretch_fit a) positive)) positive
     go true false e f w = auto_margins_fill a (stretch_fit a) w insets (rw (e, f) refl)
     go false c e f w = auto_margins_fill a (stretch_fit a) w insets (rw e refl)
 
@@ -223,9 +223,9 @@ fills a plain offset s positive q =
     let i = both_true _ _ (both_true _ _ s).0 in
     let two : TwoInsets a = record { start = i.0; end = i.1 } in
     let none = quarters_of 0 zero_exact in
-    rw (same-fit a two, same-placement a two (stretch_fit a), same_block a two) at
-    (fills_with (without_static a) offset (record { start = i.0; end = i.1 }) (rw (same-fit a two) positive)
-    (record { size = q.area; insetStart = q.insetStart; insetEnd = q.insetEnd; marginStart = q.marginStart; marginEnd = q.marginEnd; area_start = none; areaEnd = none })
+    rw (same_fit a two, same_placement a two (stretch_fit a), same_block a two) at
+    (fills_with (without_static a) offset (record { start = i.0; end = i.1 }) (rw (same_fit a two) positive)
+    (record { size = q.area; inset_start = q.insetStart; inset_end = q.insetEnd; margin_start = q.marginStart; margin_end = q.marginEnd; area_start = none; area_end = none })
     q.areaOffset)
 
 -- ---- the placed box

@@ -47,9 +47,9 @@ unfolding less_offset
 same_place p p' offset offset' h = ap₂ (λ (l : Line) (s : AxisStaticAlign). record { area = l; align = s }) h.area h.align
 
 module _ (container : ContainingBlock) (offset' : Point) (style : Style) (candidate candidate' : OofCandidate) (h : StandAlike candidate container.area.offset candidate' offset') where
-  same-across : horizontal (with_offset offset' container) style candidate' ≡ horizontal container style candidate
+  same_across : horizontal (with_offset offset' container) style candidate' ≡ horizontal container style candidate
   unfolding horizontal
-  same-across =
+  same_across =
       let justify = self_relative style.justify style.direction container.direction true in
       ap
       (λ (p : AxisStaticPosition).
@@ -66,9 +66,9 @@ module _ (container : ContainingBlock) (offset' : Point) (style : Style) (candid
       })
       (same_place candidate.place.x candidate'.place.x container.area.offset.x offset'.x h.x)
 
-  same-down : vertical (with_offset offset' container) style candidate' ≡ vertical container style candidate
+  same_down : vertical (with_offset offset' container) style candidate' ≡ vertical container style candidate
   unfolding vertical
-  same-down =
+  same_down =
       let align = self_relative style.align style.direction container.direction false in
       ap
       (λ (p : AxisStaticPosition).
@@ -85,9 +85,9 @@ module _ (container : ContainingBlock) (offset' : Point) (style : Style) (candid
       })
       (same_place candidate.place.y candidate'.place.y container.area.offset.y offset'.y h.y)
 
-  same-box : resolved_box (with_offset offset' container) style candidate' ≡ resolved_box container style candidate
+  same_box : resolved_box (with_offset offset' container) style candidate' ≡ resolved_box container style candidate
   unfolding resolved_box
-  same-box = rw (same-across, same-down) refl
+  same_box = rw (same_across, same_down) refl
 
   abbrev box : ResolvedBox
   box = resolved_box container style candidate
@@ -113,7 +113,7 @@ module _ (container : ContainingBlock) (offset' : Point) (style : Style) (candid
 pub offset_moves_alone : OffsetMovesAlone
 unfolding placed box_layout layout_of ◌>>=◌
 offset_moves_alone container offset' style candidate candidate' h =
-    rw (same-box container offset' style candidate candidate' h, h.node)
+    rw (same_box container offset' style candidate candidate' h, h.node)
     (alike_bind (MovedAlone container.area.offset offset') (keyword_sizes candidate.node style (resolved_box container style candidate) (size_keywords style (resolved_box container style candidate))) _ _
     (λ known. alike_bind (MovedAlone container.area.offset offset') (measured candidate.node (resolved_box container style candidate) (stretched style (resolved_box container style candidate) known)) _ _
     (λ size. asking (λ laid. ended (moved container offset' style candidate candidate' h size laid)))))

@@ -34,7 +34,7 @@ use Rattle.oof_box.specs.declared.sizing.Stretched.{Stretched}
 use Rattle.oof_box_laws.specs.Laws.{Always, now, later, Asks, ends, asks, Plain, space_of, AskedIn, LaidOutIn, SpaceIsTheBlock, WidthTold, HeightTold, GivenSizeIsTold, StretchedSizeIsTold, LaysOut, last, before, LayoutIsTheReply}
 use Rattle.oof_box_laws.proofs.Always.{always_any}
 use Rattle.oof_box_laws.proofs.Resolved.{auto_is_no_size}
-use Rattle.oof_box_laws.proofs.Sizes.{told_width, told_height, stretched_width, stretched_height, width_known, height_known, given_width_settled, given_height_settled, no_keyword, known_is, plain_keywords, auto-width, auto-height, fit_across, fit_down, stretch_side}
+use Rattle.oof_box_laws.proofs.Sizes.{told_width, told_height, stretched_width, stretched_height, width_known, height_known, given_width_settled, given_height_settled, no_keyword, known_is, plain_keywords, auto_width, auto_height, fit_across, fit_down, stretch_side}
 
 asks_bind : {A B : Type 0} (P : Question → Type 0) (K : A → Type 0) (m : Talk A) (next : A → Talk B) → Asks P m → Always K m → ((a : A) → K a → Asks P (next a)) → Asks P (m >>= next)
 unfolding ◌>>=◌
@@ -57,12 +57,12 @@ module _ (P : Question → Type 0) (K : MaybeSize → Type 0) (container : Conta
   abbrev talk : Talk MaybeSize
   talk = keyword_sizes candidate.node style box (size_keywords style box)
 
-  asks-placed : Asks P talk → Always K talk
+  asks_placed : Asks P talk → Always K talk
       → ((known : MaybeSize) → K known → P (MeasureBoth (record { node = candidate.node; known = (stretched style box known).known; space = box.space })))
       → ((known : MaybeSize) → K known → (s : Size) → P (LayOut (record { node = candidate.node; size = final_size box (stretched style box known) s; space = box.space })))
       → Asks P (placed container style candidate)
   unfolding placed ◌>>=◌ measured
-  asks-placed a k m l =
+  asks_placed a k m l =
       asks_bind P K talk _ a k
       (λ known h. asks_bind P (λ (size : Size). (s : Size) × (size ≡ final_size box (stretched style box known) s)) (measured candidate.node box (stretched style box known)) _
       (measured_asks P candidate.node box (stretched style box known) (m known h)) (finals known) (λ size f. asks (rw f.1 (l known h f.0)) (λ laid. ends)))
@@ -97,11 +97,11 @@ unfolding size_keywords keywords_of
 given_size_is_told container style candidate x =
     let box = resolved_box container style candidate in (
       λ e. (let c = given_width_settled container style candidate x e in
-          asks-placed (WidthTold x) (λ (k : MaybeSize). k.width ≡ Some x) container style candidate
+          asks_placed (WidthTold x) (λ (k : MaybeSize). k.width ≡ Some x) container style candidate
           (rw (no_keyword box.size.width _ x e) (asks_with_width candidate.node style box x e _)) (width_known container style candidate x e)
           (λ known k. told_width style box known x c k) (λ known k s. stretched_width style box known x c k s)),
       λ e. (let c = given_height_settled container style candidate x e in
-          asks-placed (HeightTold x) (λ (k : MaybeSize). k.height ≡ Some x) container style candidate
+          asks_placed (HeightTold x) (λ (k : MaybeSize). k.height ≡ Some x) container style candidate
           (rw (no_keyword box.size.height _ x e) (asks_with_height candidate.node style box x e _)) (height_known container style candidate x e)
           (λ known k. told_height style box known x c k) (λ known k s. stretched_height style box known x c k s)),
     )
@@ -117,7 +117,7 @@ plain_asks : (P : Question → Type 0) (container : ContainingBlock) (style : St
 plain_asks P container style candidate k m l =
     let box = resolved_box container style candidate in
     let e = plain_keywords candidate.node style box k in
-    asks-placed P (λ (known : MaybeSize). known ≡ box.size) container style candidate (nothing_asked P _ box.size e) (known_is _ box.size e) (λ known f. rw f m) (λ known f s. rw f (l s))
+    asks_placed P (λ (known : MaybeSize). known ≡ box.size) container style candidate (nothing_asked P _ box.size e) (known_is _ box.size e) (λ known f. rw f m) (λ known f s. rw f (l s))
 
 pub stretched_size_is_told : StretchedSizeIsTold
 unfolding final_size clamped_floats filled_size
@@ -125,11 +125,11 @@ stretched_size_is_told container style candidate k t =
     let box = resolved_box container style candidate in
     let z = (auto_is_no_size container style candidate).0 in
     let at = stretched style box box.size in (
-      λ a s. (let h = auto-width style box true k.ratio t (z.width k.ratio a) s in
+      λ a s. (let h = auto_width style box true k.ratio t (z.width k.ratio a) s in
           let f = ap (λ (x : Float). clamped x box.min.width box.max.width) (fit_across container style candidate) in
           plain_asks (WidthTold (clamped (stretch_fit box.horizontal) box.min.width box.max.width)) container style candidate k (h.0 ∙ ap Some f)
           (λ s. stretch_side at.known.width box.min.width _ box.max.width box.fit.width s.width h.0 (ap (λ (m : MaybeSize). m.width) h.1) ∙ f)),
-      λ a s. (let h = auto-height style box true k.ratio t (z.height k.ratio a) s in
+      λ a s. (let h = auto_height style box true k.ratio t (z.height k.ratio a) s in
           let f = ap (λ (x : Float). clamped x box.min.height box.max.height) (fit_down container style candidate) in
           plain_asks (HeightTold (clamped (stretch_fit box.vertical) box.min.height box.max.height)) container style candidate k (h.0 ∙ ap Some f)
           (λ s. stretch_side at.known.height box.min.height _ box.max.height box.fit.height s.height h.0 (ap (λ (m : MaybeSize). m.height) h.1) ∙ f)),
@@ -173,7 +173,7 @@ unfolding size_keywords keywords_of
 space_is_the_block container style candidate =
     let box = resolved_box container style candidate in
     let e = space_is container style candidate in (
-      asks-placed (LaidOutIn (space_of style box)) (λ (k : MaybeSize). Unit {0}) container style candidate
+      asks_placed (LaidOutIn (space_of style box)) (λ (k : MaybeSize). Unit {0}) container style candidate
           (laid_out_alone (space_of style box) _ (keywords_measure candidate.node style box _ _)) (always_any _) (λ known u. tt) (λ known u s. e),
       λ k. plain_asks (AskedIn (space_of style box)) container style candidate k e (λ s. e),
     )

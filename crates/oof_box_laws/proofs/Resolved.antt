@@ -34,7 +34,7 @@ use Rattle.oof_axis.specs.Axis.{from_resolved}
 use Rattle.oof_axis.specs.declared.OofAlignment.TheVariants as align
 use Rattle.oof_resolve.specs.Resolved.{of_width, of_each_axis, less_offset, horizontal, vertical, padding_or_border, style_size, min_size, resolved_box}
 use Rattle.oof_box.specs.Box.{◌by◌}
-use Rattle.oof_box_laws.specs.Resolved.{IsAuto, IsAutoSize, ScrollsBy, AxesOfTheBlock, AutoSidesAreNone, AlignedBy, AlignmentOfTheStyle, Comes, asPixels, asPercent, as_sum, SumWithNothing, padding_border_of, left_out, SizesOfItsBox, AutoIsNoSize, RatioCompletes, PercentagesOfTheWidth, InsetsOfTheirAxis}
+use Rattle.oof_box_laws.specs.Resolved.{IsAuto, IsAutoSize, ScrollsBy, AxesOfTheBlock, AutoSidesAreNone, AlignedBy, AlignmentOfTheStyle, Comes, as_pixels, as_percent, as_sum, SumWithNothing, padding_border_of, left_out_lem, SizesOfItsBox, AutoIsNoSize, RatioCompletes, PercentagesOfTheWidth, InsetsOfTheirAxis}
 
 -- ---- lengths, by tag
 
@@ -56,25 +56,25 @@ axes_of_the_block container style candidate =
     record {
       width = refl;
       height = refl;
-      inlineAxis = refl;
+      inline_axis = refl;
       block_axis = refl;
-      placeX = refl;
-      placeY = refl;
-      placeAlignX = refl;
-      placeAlignY = refl;
+      place_x = refl;
+      place_y = refl;
+      place_align_x = refl;
+      place_align_y = refl;
       left_to_right = λ e. rw e refl;
       right_to_left = λ e. rw e refl;
-      topToBottom = refl;
-      scrollsX = scrolls_by container.overflow.x;
-      scrollsY = scrolls_by container.overflow.y;
+      top_to_bottom = refl;
+      scrolls_x = scrolls_by container.overflow.x;
+      scrolls_y = scrolls_by container.overflow.y;
     }
 
 -- ---- insets, margins, padding and border
 
 comes_to : (f : Field) (l : CompactLength) (basis x : Float) → Comes basis l x → maybe_resolved f l basis ≡ Some x
 unfolding maybe_resolved resolved by_tag
-comes_to f _ basis _ (asPixels) = refl
-comes_to f _ basis _ (asPercent) = refl
+comes_to f _ basis _ (as_pixels) = refl
+comes_to f _ basis _ (as_percent) = refl
 comes_to f _ basis _ (as_sum) = refl
 
 comes_or_zero : (f : Field) (l : CompactLength) (basis x : Float) → Comes basis l x → or_zero (maybe_resolved f l basis) ≡ x
@@ -86,18 +86,18 @@ unfolding resolved_box horizontal vertical of_width padding_or_border resolved_r
 percentages_of_the_width container style candidate x =
     let w = container.area.size.width in
     record {
-      marginLeft = comes_to field.InsetOrMargin style.margin.left w x;
-      marginRight = comes_to field.InsetOrMargin style.margin.right w x;
-      marginTop = comes_to field.InsetOrMargin style.margin.top w x;
-      marginBottom = comes_to field.InsetOrMargin style.margin.bottom w x;
-      paddingLeft = comes_or_zero field.PaddingOrBorder style.padding.left w x;
-      paddingRight = comes_or_zero field.PaddingOrBorder style.padding.right w x;
-      paddingTop = comes_or_zero field.PaddingOrBorder style.padding.top w x;
-      paddingBottom = comes_or_zero field.PaddingOrBorder style.padding.bottom w x;
-      borderLeft = comes_or_zero field.PaddingOrBorder style.border.left w x;
-      borderRight = comes_or_zero field.PaddingOrBorder style.border.right w x;
-      borderTop = comes_or_zero field.PaddingOrBorder style.border.top w x;
-      borderBottom = comes_or_zero field.PaddingOrBorder style.border.bottom w x;
+      margin_left = comes_to field.InsetOrMargin style.margin.left w x;
+      margin_right = comes_to field.InsetOrMargin style.margin.right w x;
+      margin_top = comes_to field.InsetOrMargin style.margin.top w x;
+      margin_bottom = comes_to field.InsetOrMargin style.margin.bottom w x;
+      padding_left = comes_or_zero field.PaddingOrBorder style.padding.left w x;
+      padding_right = comes_or_zero field.PaddingOrBorder style.padding.right w x;
+      padding_top = comes_or_zero field.PaddingOrBorder style.padding.top w x;
+      padding_bottom = comes_or_zero field.PaddingOrBorder style.padding.bottom w x;
+      border_left = comes_or_zero field.PaddingOrBorder style.border.left w x;
+      border_right = comes_or_zero field.PaddingOrBorder style.border.right w x;
+      border_top = comes_or_zero field.PaddingOrBorder style.border.top w x;
+      border_bottom = comes_or_zero field.PaddingOrBorder style.border.bottom w x;
     }
 
 pub insets_of_their_axis : InsetsOfTheirAxis
@@ -124,10 +124,10 @@ auto_sides_are_none container style candidate =
       right = auto_is style.inset.right w;
       top = auto_is style.inset.top h;
       bottom = auto_is style.inset.bottom h;
-      marginLeft = auto_is style.margin.left w;
-      marginRight = auto_is style.margin.right w;
-      marginTop = auto_is style.margin.top w;
-      marginBottom = auto_is style.margin.bottom w;
+      margin_left = auto_is style.margin.left w;
+      margin_right = auto_is style.margin.right w;
+      margin_top = auto_is style.margin.top w;
+      margin_bottom = auto_is style.margin.bottom w;
     }
 
 -- ---- self-alignment
@@ -141,10 +141,10 @@ aligned_by k flipped =
       center = λ e. rw e refl;
       start = λ e. rw e refl;
       end = λ e. rw e refl;
-      flexStart = λ e. rw e refl;
-      flexEnd = λ e. rw e refl;
+      flex_start = λ e. rw e refl;
+      flex_end = λ e. rw e refl;
       self_start = λ e. rw e (start_of flipped);
-      selfEnd = λ e. rw e (end_of flipped);
+      self_end = λ e. rw e (end_of flipped);
       baseline = λ e. rw e refl;
     }
   where
@@ -173,8 +173,8 @@ alignment_of_the_style container style candidate =
       along = λ e. rw (same_way style.direction container.direction e) (aligned_by style.justify.keyword false);
       against = λ f. rw (other_way style.direction container.direction f) (aligned_by style.justify.keyword true);
       vertical = aligned_by style.align.keyword false;
-      justifySafety = refl;
-      alignSafety = refl;
+      justify_safety = refl;
+      align_safety = refl;
     }
 
 -- ---- size, min and max
@@ -191,7 +191,7 @@ auto_size size l basis (inr e) = rw e refl
 auto_size bound l basis (inl e) = rw e refl
 auto_size bound l basis (inr e) = rw e refl
 
-left_out_lem : (sizing : BoxSizing) (edges : Size) → cond (is_content_box sizing) edges zero_size ≡ left_out sizing edges
+left_out_lem : (sizing : BoxSizing) (edges : Size) → cond (is_content_box sizing) edges zero_size ≡ left_out_lem sizing edges
 left_out_lem BorderBox edges = refl
 left_out_lem ContentBox edges = refl
 
@@ -268,36 +268,36 @@ module _ (style : Style) (area edges : Size) (f : Field) (lengths : LengthSize) 
   abbrev down : MaybeF32
   down = (style_size f lengths style area edges).height
 
-  given-width : (x : Float) → Comes area.width lengths.width x → across ≡ Some (x ⊕ (left_out style.sizing edges).width)
+  given_width : (x : Float) → Comes area.width lengths.width x → across ≡ Some (x ⊕ (left_out_lem style.sizing edges).width)
   unfolding style_size added_size resolved_size
-  given-width x c = added_is _ _ _ x (ratio_width style.ratio _ x (comes_to f lengths.width area.width x c)) (ap (λ (s : Size). s.width) (left_out_lem style.sizing edges))
+  given_width x c = added_is _ _ _ x (ratio_width style.ratio _ x (comes_to f lengths.width area.width x c)) (ap (λ (s : Size). s.width) (left_out_lem style.sizing edges))
 
-  given-height : (x : Float) → Comes area.height lengths.height x → down ≡ Some (x ⊕ (left_out style.sizing edges).height)
+  given_height : (x : Float) → Comes area.height lengths.height x → down ≡ Some (x ⊕ (left_out_lem style.sizing edges).height)
   unfolding style_size added_size resolved_size
-  given-height x c = added_is _ _ _ x (ratio_height style.ratio _ x (comes_to f lengths.height area.height x c)) (ap (λ (s : Size). s.height) (left_out_lem style.sizing edges))
+  given_height x c = added_is _ _ _ x (ratio_height style.ratio _ x (comes_to f lengths.height area.height x c)) (ap (λ (s : Size). s.height) (left_out_lem style.sizing edges))
 
   module _ (sizing : Sizing f) where
-    width-by-ratio : (r x : Float) → style.ratio ≡ Some r → IsAutoSize lengths.width → Comes area.height lengths.height x → across ≡ Some (x ⊗ r ⊕ (left_out style.sizing edges).width)
+    width_by_ratio : (r x : Float) → style.ratio ≡ Some r → IsAutoSize lengths.width → Comes area.height lengths.height x → across ≡ Some (x ⊗ r ⊕ (left_out_lem style.sizing edges).width)
     unfolding style_size added_size resolved_size
-    width-by-ratio r x e a c =
+    width_by_ratio r x e a c =
         added_is _ _ _ (x ⊗ r) (lone_height style.ratio _ r x e (auto_size sizing lengths.width area.width a) (comes_to f lengths.height area.height x c)) (ap (λ (s : Size). s.width) (left_out_lem style.sizing edges))
 
-    height-by-ratio : (r x : Float) → style.ratio ≡ Some r → IsAutoSize lengths.height → Comes area.width lengths.width x → down ≡ Some (x ⊘ r ⊕ (left_out style.sizing edges).height)
+    height_by_ratio : (r x : Float) → style.ratio ≡ Some r → IsAutoSize lengths.height → Comes area.width lengths.width x → down ≡ Some (x ⊘ r ⊕ (left_out_lem style.sizing edges).height)
     unfolding style_size added_size resolved_size
-    height-by-ratio r x e a c =
+    height_by_ratio r x e a c =
         added_is _ _ _ (x ⊘ r) (lone_width style.ratio _ r x e (comes_to f lengths.width area.width x c) (auto_size sizing lengths.height area.height a)) (ap (λ (s : Size). s.height) (left_out_lem style.sizing edges))
 
-    auto-width : style.ratio ≡ None → IsAutoSize lengths.width → across ≡ None
+    auto_width : style.ratio ≡ None → IsAutoSize lengths.width → across ≡ None
     unfolding style_size added_size resolved_size with_ratio
-    auto-width e a = rw e (none_added _ _ (auto_size sizing lengths.width area.width a))
+    auto_width e a = rw e (none_added _ _ (auto_size sizing lengths.width area.width a))
 
-    auto-height : style.ratio ≡ None → IsAutoSize lengths.height → down ≡ None
+    auto_height : style.ratio ≡ None → IsAutoSize lengths.height → down ≡ None
     unfolding style_size added_size resolved_size with_ratio
-    auto-height e a = rw e (none_added _ _ (auto_size sizing lengths.height area.height a))
+    auto_height e a = rw e (none_added _ _ (auto_size sizing lengths.height area.height a))
 
-    auto-both : IsAutoSize lengths.width → IsAutoSize lengths.height → (across ≡ None) × (down ≡ None)
+    auto_both : IsAutoSize lengths.width → IsAutoSize lengths.height → (across ≡ None) × (down ≡ None)
     unfolding style_size added_size resolved_size
-    auto-both a b =
+    auto_both a b =
         let p = auto_size sizing lengths.width area.width a in
         let q = auto_size sizing lengths.height area.height b in
         let e = no_side style.ratio _ p q in
@@ -309,12 +309,12 @@ sizes_of_its_box container style candidate x =
     let area = container.area.size in
     let edges = padding_border_of (resolved_box container style candidate) in
     record {
-      maxWidth = given-width style area edges field.MinOrMax style.max x;
-      maxHeight = given-height style area edges field.MinOrMax style.max x;
-      minWidth = λ c. raised_is _ _ _ (given-width style area edges field.MinOrMax style.min x c);
-      minHeight = λ c. raised_is _ _ _ (given-height style area edges field.MinOrMax style.min x c);
-      width = λ c. clamped_is _ _ _ _ (given-width style area edges field.Size style.size x c);
-      height = λ c. clamped_is _ _ _ _ (given-height style area edges field.Size style.size x c);
+      max_width = given_width style area edges field.MinOrMax style.max x;
+      max_height = given_height style area edges field.MinOrMax style.max x;
+      min_width = λ c. raised_is _ _ _ (given_width style area edges field.MinOrMax style.min x c);
+      min_height = λ c. raised_is _ _ _ (given_height style area edges field.MinOrMax style.min x c);
+      width = λ c. clamped_is _ _ _ _ (given_width style area edges field.Size style.size x c);
+      height = λ c. clamped_is _ _ _ _ (given_height style area edges field.Size style.size x c);
     }
 
 pub ratio_completes : RatioCompletes
@@ -323,12 +323,12 @@ ratio_completes container style candidate r x e =
     let area = container.area.size in
     let edges = padding_border_of (resolved_box container style candidate) in
     record {
-      maxWidth = width-by-ratio style area edges field.MinOrMax style.max bound r x e;
-      maxHeight = height-by-ratio style area edges field.MinOrMax style.max bound r x e;
-      minWidth = λ a c. raised_is _ _ _ (width-by-ratio style area edges field.MinOrMax style.min bound r x e a c);
-      minHeight = λ a c. raised_is _ _ _ (height-by-ratio style area edges field.MinOrMax style.min bound r x e a c);
-      width = λ a c. clamped_is _ _ _ _ (width-by-ratio style area edges field.Size style.size size r x e a c);
-      height = λ a c. clamped_is _ _ _ _ (height-by-ratio style area edges field.Size style.size size r x e a c);
+      max_width = width_by_ratio style area edges field.MinOrMax style.max bound r x e;
+      max_height = height_by_ratio style area edges field.MinOrMax style.max bound r x e;
+      min_width = λ a c. raised_is _ _ _ (width_by_ratio style area edges field.MinOrMax style.min bound r x e a c);
+      min_height = λ a c. raised_is _ _ _ (height_by_ratio style area edges field.MinOrMax style.min bound r x e a c);
+      width = λ a c. clamped_is _ _ _ _ (width_by_ratio style area edges field.Size style.size size r x e a c);
+      height = λ a c. clamped_is _ _ _ _ (height_by_ratio style area edges field.Size style.size size r x e a c);
     }
 
 two_sides : (w w' h h' : MaybeF32) → w ≡ w' → h ≡ h' → w by h ≡ w' by h'
@@ -340,18 +340,18 @@ auto_is_no_size container style candidate =
     let area = container.area.size in
     let edges = padding_border_of (resolved_box container style candidate) in (
       record {
-        width = λ e a. none_clamped _ _ _ (auto-width style area edges field.Size style.size size e a);
-        height = λ e a. none_clamped _ _ _ (auto-height style area edges field.Size style.size size e a);
-        both = λ a b. (let n = auto-both style area edges field.Size style.size size a b in two_sides _ _ _ _ (none_clamped _ _ _ n.0) (none_clamped _ _ _ n.1));
+        width = λ e a. none_clamped _ _ _ (auto_width style area edges field.Size style.size size e a);
+        height = λ e a. none_clamped _ _ _ (auto_height style area edges field.Size style.size size e a);
+        both = λ a b. (let n = auto_both style area edges field.Size style.size size a b in two_sides _ _ _ _ (none_clamped _ _ _ n.0) (none_clamped _ _ _ n.1));
       },
       record {
-        width = auto-width style area edges field.MinOrMax style.max bound;
-        height = auto-height style area edges field.MinOrMax style.max bound;
-        both = λ a b. (let n = auto-both style area edges field.MinOrMax style.max bound a b in two_sides _ _ _ _ n.0 n.1);
+        width = auto_width style area edges field.MinOrMax style.max bound;
+        height = auto_height style area edges field.MinOrMax style.max bound;
+        both = λ a b. (let n = auto_both style area edges field.MinOrMax style.max bound a b in two_sides _ _ _ _ n.0 n.1);
       },
       record {
-        width = λ e a. none_raised _ _ (auto-width style area edges field.MinOrMax style.min bound e a);
-        height = λ e a. none_raised _ _ (auto-height style area edges field.MinOrMax style.min bound e a);
-        both = λ a b. (let n = auto-both style area edges field.MinOrMax style.min bound a b in two_sides _ _ _ _ (none_raised _ _ n.0) (none_raised _ _ n.1));
+        width = λ e a. none_raised _ _ (auto_width style area edges field.MinOrMax style.min bound e a);
+        height = λ e a. none_raised _ _ (auto_height style area edges field.MinOrMax style.min bound e a);
+        both = λ a b. (let n = auto_both style area edges field.MinOrMax style.min bound a b in two_sides _ _ _ _ (none_raised _ _ n.0) (none_raised _ _ n.1));
       },
     )

@@ -42,9 +42,9 @@ unfolding keyword_of
 same_keyword l stretch basis = rw (same field.Size l basis) refl
 
 module _ (container : ContainingBlock) (style : Style) (candidate : OofCandidate) where
-  same-box : resolved_box container (without_seconds style) candidate ≡ resolved_box container style candidate
+  same_box : resolved_box container (without_seconds style) candidate ≡ resolved_box container style candidate
   unfolding resolved_box horizontal vertical of_each_axis of_width padding_or_border style_size min_size space_for
-  same-box =
+  same_box =
       let area = container.area.size in
       rw (
         same_rect field.InsetOrMargin style.inset area.width area.height,
@@ -60,4 +60,4 @@ module _ (container : ContainingBlock) (style : Style) (candidate : OofCandidate
 pub second_values_unread : SecondValuesUnread
 unfolding placed size_keywords keywords_of keyword_sizes stretch_ratio stretched layout_of box_layout
 second_values_unread container style candidate =
-    rw (same-box container style candidate) (rw (same_keyword style.size.width _ _, same_keyword style.size.height _ _) refl)
+    rw (same_box container style candidate) (rw (same_keyword style.size.width _ _, same_keyword style.size.height _ _) refl)

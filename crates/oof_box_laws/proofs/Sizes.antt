@@ -339,17 +339,17 @@ no_table t a b e = rw e refl
 
 -- after step 5 of a box that is no table
 module _ (style : Style) (box : ResolvedBox) (b : Bool) (ratio : style.ratio ≡ None) (table : style.table ≡ false) where
-  pub auto-width : box.size.width ≡ None → stretches box.horizontal (stretchable style) ≡ b
+  pub auto_width : box.size.width ≡ None → stretches box.horizontal (stretchable style) ≡ b
       → ((stretched style box box.size).known.width ≡ fit_if b box.fit.width box.min.width box.max.width) × ((stretched style box box.size).min ≡ box.min)
   unfolding stretched
-  auto-width e s =
+  auto_width e s =
       rw (no_table style.table _ _ table)
       (tall_auto _ box _ b (widened _ box _ box.size) (no_ratio style box _ _ ratio) (wide_auto _ box _ b box.size (no_ratio style box _ _ ratio) (absent_and box.size.width _ b e s) e), refl)
 
-  pub auto-height : box.size.height ≡ None → stretches box.vertical (stretchable style) ≡ b
+  pub auto_height : box.size.height ≡ None → stretches box.vertical (stretchable style) ≡ b
       → ((stretched style box box.size).known.height ≡ fit_if b box.fit.height box.min.height box.max.height) × ((stretched style box box.size).min ≡ box.min)
   unfolding stretched
-  auto-height e s =
+  auto_height e s =
       rw (no_table style.table _ _ table)
       (tall_fills _ box _ b (widened _ box _ box.size) (no_ratio style box _ _ ratio) (absent_and box.size.height _ b e s) (wide_leaves _ box _ box.size (no_ratio style box _ _ ratio) e), refl)
 
@@ -394,11 +394,11 @@ unfolding final_size clamped_floats filled_size
 stretch_fills container style candidate k t =
     let z = (auto_is_no_size container style candidate).0 in
     let box = resolved_box container style candidate in (
-      λ e s. (let h = auto-width style box true k.ratio t (z.width k.ratio e) s in
+      λ e s. (let h = auto_width style box true k.ratio t (z.width k.ratio e) s in
           from_step_two (λ z. z.width ≡ clamped (stretch_fit box.horizontal) box.min.width box.max.width) container style candidate k
           (λ s. stretch_side (stretched style box box.size).known.width box.min.width _ box.max.width box.fit.width s.width h.0 (ap (λ (m : MaybeSize). m.width) h.1)
           ∙ ap (λ (x : Float). clamped x box.min.width box.max.width) (fit_across container style candidate))),
-      λ e s. (let h = auto-height style box true k.ratio t (z.height k.ratio e) s in
+      λ e s. (let h = auto_height style box true k.ratio t (z.height k.ratio e) s in
           from_step_two (λ z. z.height ≡ clamped (stretch_fit box.vertical) box.min.height box.max.height) container style candidate k
           (λ s. stretch_side (stretched style box box.size).known.height box.min.height _ box.max.height box.fit.height s.height h.0 (ap (λ (m : MaybeSize). m.height) h.1)
           ∙ ap (λ (x : Float). clamped x box.min.height box.max.height) (fit_down container style candidate))),
@@ -441,10 +441,10 @@ measured_is_the_reply container style candidate k t =
     let z = (auto_is_no_size container style candidate).0 in
     let box = resolved_box container style candidate in
     let at = stretched style box box.size in (
-      λ e s. (let h = auto-width style box false k.ratio t (z.width k.ratio e) s in
+      λ e s. (let h = auto_width style box false k.ratio t (z.width k.ratio e) s in
           asks_both (λ m r z. (m.known.width ≡ None) × (z.width ≡ clamped r.width box.min.width box.max.width)) container style candidate k (not_both_width at.known h.0)
           (λ r. (h.0, absent_side at.known.width box.min.width _ box.max.width r.width h.0 (ap (λ (m : MaybeSize). m.width) h.1)))),
-      λ e s. (let h = auto-height style box false k.ratio t (z.height k.ratio e) s in
+      λ e s. (let h = auto_height style box false k.ratio t (z.height k.ratio e) s in
           asks_both (λ m r z. (m.known.height ≡ None) × (z.height ≡ clamped r.height box.min.height box.max.height)) container style candidate k (not_both_height at.known h.0)
           (λ r. (h.0, absent_side at.known.height box.min.height _ box.max.height r.height h.0 (ap (λ (m : MaybeSize). m.height) h.1)))),
     )
@@ -463,17 +463,17 @@ raised_absent : (m : MaybeF32) (s b : Bool) (min : MaybeF32) (low fit : Float) �
 raised_absent m s b min low fit e f g = ap (λ (c : Bool). raised_min c min fit) (absent_and m s b e f) ∙ raised b min low fit g
 
 module _ (style : Style) (box : ResolvedBox) (table : style.table ≡ true) where
-  table-known : (stretched style box box.size).known ≡ box.size
+  table_known : (stretched style box box.size).known ≡ box.size
   unfolding stretched
-  table-known = rw (is_table_lem style.table _ _ table) refl
+  table_known = rw (is_table_lem style.table _ _ table) refl
 
-  table-width : (low : Float) → box.size.width ≡ None → box.min.width ≡ Some low → (stretched style box box.size).min.width ≡ Some (table_min (stretches box.horizontal false) low box.fit.width)
+  table_width : (low : Float) → box.size.width ≡ None → box.min.width ≡ Some low → (stretched style box box.size).min.width ≡ Some (table_min (stretches box.horizontal false) low box.fit.width)
   unfolding stretched
-  table-width low e m = rw (is_table_lem style.table _ _ table) (raised_absent box.size.width _ _ box.min.width low box.fit.width e (ap (λ (p : Bool). stretches box.horizontal p) (not_stretchable style table)) m)
+  table_width low e m = rw (is_table_lem style.table _ _ table) (raised_absent box.size.width _ _ box.min.width low box.fit.width e (ap (λ (p : Bool). stretches box.horizontal p) (not_stretchable style table)) m)
 
-  table-height : (low : Float) → box.size.height ≡ None → box.min.height ≡ Some low → (stretched style box box.size).min.height ≡ Some (table_min (stretches box.vertical false) low box.fit.height)
+  table_height : (low : Float) → box.size.height ≡ None → box.min.height ≡ Some low → (stretched style box box.size).min.height ≡ Some (table_min (stretches box.vertical false) low box.fit.height)
   unfolding stretched
-  table-height low e m = rw (is_table_lem style.table _ _ table) (raised_absent box.size.height _ _ box.min.height low box.fit.height e (ap (λ (p : Bool). stretches box.vertical p) (not_stretchable style table)) m)
+  table_height low e m = rw (is_table_lem style.table _ _ table) (raised_absent box.size.height _ _ box.min.height low box.fit.height e (ap (λ (p : Bool). stretches box.vertical p) (not_stretchable style table)) m)
 
 pub table_is_measured : TableIsMeasured
 unfolding final_size clamped_floats filled_size
@@ -481,18 +481,18 @@ table_is_measured container style candidate low k t =
     let z = (auto_is_no_size container style candidate).0 in
     let box = resolved_box container style candidate in
     let at = stretched style box box.size in (
-      λ e m. (let h = ap (λ (s : MaybeSize). s.width) (table-known style box t) ∙ z.width k.ratio e in
+      λ e m. (let h = ap (λ (s : MaybeSize). s.width) (table_known style box t) ∙ z.width k.ratio e in
           asks_both (λ m r z. (m.known.width ≡ None) × (z.width ≡ clamped r.width (Some (table_min (stretches box.horizontal false) low (stretch_fit box.horizontal))) box.max.width)) container style candidate k (not_both_width at.known h)
           (λ r. (
             h,
             absent_side at.known.width _ _ box.max.width r.width h
-                (table-width style box t low (z.width k.ratio e) m ∙ ap (λ (x : Float). Some (table_min (stretches box.horizontal false) low x)) (fit_across container style candidate)),
+                (table_width style box t low (z.width k.ratio e) m ∙ ap (λ (x : Float). Some (table_min (stretches box.horizontal false) low x)) (fit_across container style candidate)),
           ))),
-      λ e m. (let h = ap (λ (s : MaybeSize). s.height) (table-known style box t) ∙ z.height k.ratio e in
+      λ e m. (let h = ap (λ (s : MaybeSize). s.height) (table_known style box t) ∙ z.height k.ratio e in
           asks_both (λ m r z. (m.known.height ≡ None) × (z.height ≡ clamped r.height (Some (table_min (stretches box.vertical false) low (stretch_fit box.vertical))) box.max.height)) container style candidate k (not_both_height at.known h)
           (λ r. (
             h,
             absent_side at.known.height _ _ box.max.height r.height h
-                (table-height style box t low (z.height k.ratio e) m ∙ ap (λ (x : Float). Some (table_min (stretches box.vertical false) low x)) (fit_down container style candidate)),
+                (table_height style box t low (z.height k.ratio e) m ∙ ap (λ (x : Float). Some (table_min (stretches box.vertical false) low x)) (fit_down container style candidate)),
           ))),
     )

@@ -255,17 +255,17 @@ StandsByItsAxes =
 pub record StretchesFreely (a : OofAxis) (plain : Bool) (min max : MaybeF32) : Type 0 where
   pub stretching : stretches a plain ≡ true
   pub room : lt 0f (stretch_fit a) ≡ true
-  pub atLeastMin : (low : Float) → min ≡ Some low → lt (stretch_fit a) low ≡ false
-  pub atMostMax : (high : Float) → max ≡ Some high → lt high (stretch_fit a) ≡ false
+  pub at_least_min : (low : Float) → min ≡ Some low → lt (stretch_fit a) low ≡ false
+  pub at_most_max : (high : Float) → max ≡ Some high → lt high (stretch_fit a) ≡ false
 
 -- whole quarter pixels of size 4,096 at most: the area's extent and offset, insets and margins
 pub record InQuarters (a : OofAxis) (offset : Float) : Type 0 where
   pub area : Quarter a.size
-  pub areaOffset : Quarter offset
-  pub insetStart : MaybeQuarters 16384 a.inset.start
-  pub insetEnd : MaybeQuarters 16384 a.inset.end
-  pub marginStart : MaybeQuarters 16384 a.margin.start
-  pub marginEnd : MaybeQuarters 16384 a.margin.end
+  pub area_offset : Quarter offset
+  pub inset_start : MaybeQuarters 16384 a.inset.start
+  pub inset_end : MaybeQuarters 16384 a.inset.end
+  pub margin_start : MaybeQuarters 16384 a.margin.start
+  pub margin_end : MaybeQuarters 16384 a.margin.end
 
 -- the margin box, of a border box that begins at `at`, is the line l, which counts from the area's edge: it begins and ends where l does
 abbrev pub MarginBoxIs : Line → Float → Float → Float → Line → Type 0
@@ -401,8 +401,8 @@ pub record Fine (container : ContainingBlock) (l : Layout) : Type 0 where
   pub offset_y : Sixteenth container.area.offset.y
   pub x : Sixteenth l.location.x
   pub y : Sixteenth l.location.y
-  pub sizeX : Sixteenth l.size.width
-  pub sizeY : Sixteenth l.size.height
+  pub size_x : Sixteenth l.size.width
+  pub size_y : Sixteenth l.size.height
   pub left : Sixteenth l.overflow.left
   pub right : Sixteenth l.overflow.right
   pub top : Sixteenth l.overflow.top
@@ -514,11 +514,11 @@ IsAcross container l r x =
 pub record Counted (container : ContainingBlock) (style : Style) (l : Layout) (r : Rect) : Type 0 where
   pub x : Line
   pub y : Line
-  pub reachX : Reaches style style.overflow.x l.size.width (line_x l.overflow) x
-  pub reachY : Reaches style style.overflow.y l.size.height (line_y l.overflow) y
+  pub reach_x : Reaches style style.overflow.x l.size.width (line_x l.overflow) x
+  pub reach_y : Reaches style style.overflow.y l.size.height (line_y l.overflow) y
   pub union : Rect
-  pub unionX : Fine container l → IsAcross container l (line_x union) x
-  pub unionY : Fine container l → IsForwards (line_y union) container.area.offset.y l.location.y y
+  pub union_x : Fine container l → IsAcross container l (line_x union) x
+  pub union_y : Fine container l → IsForwards (line_y union) container.area.offset.y l.location.y y
   pub empty : (le x.end 0f ≡ true) ⊎ (le y.end 0f ≡ true) → r ≡ zero_rect
   pub unreachable : Scroller container.overflow → (le union.right 0f ≡ true) ⊎ (le union.bottom 0f ≡ true) → r ≡ zero_rect
   pub counts :

@@ -46,8 +46,8 @@ IsAutoSize l = (l.tag ≡ 3) ⊎ (l.tag ≡ 35)
 -- rounded once and no range kept (css-values-4 #calc-range would raise a negative sum to 0 in padding, border and sizes). The second value of
 -- the other two may be any
 pub data Comes (basis : Float) : CompactLength → Float → Type 0 where
-  asPixels : {x any : Float} → Comes basis (record { tag = 1; value = x; second = any }) x
-  asPercent : {x any : Float} → Comes basis (record { tag = 5; value = x; second = any }) (basis ⊗ x)
+  as_pixels : {x any : Float} → Comes basis (record { tag = 1; value = x; second = any }) x
+  as_percent : {x any : Float} → Comes basis (record { tag = 5; value = x; second = any }) (basis ⊗ x)
   as_sum : {x y : Float} → Comes basis (record { tag = 129; value = x; second = y }) ((basis ⊗ x) ⊕ y)
 
 -- a sum with a second value of -0 is its percentage: in every field and of every basis, a zero's sign included
@@ -71,17 +71,17 @@ pub record ScrollsBy (overflow : Overflow) (scrolls : Bool) : Type 0 where
 pub record AxesOf (container : ContainingBlock) (candidate : OofCandidate) (box : ResolvedBox) : Type 0 where
   pub width : box.horizontal.size ≡ container.area.size.width
   pub height : box.vertical.size ≡ container.area.size.height
-  pub inlineAxis : box.horizontal.inline ≡ true
+  pub inline_axis : box.horizontal.inline ≡ true
   pub block_axis : box.vertical.inline ≡ false
-  pub placeX : box.horizontal.place.area ≡ counted_from candidate.place.x.area container.area.offset.x
-  pub placeY : box.vertical.place.area ≡ counted_from candidate.place.y.area container.area.offset.y
-  pub placeAlignX : box.horizontal.place.align ≡ candidate.place.x.align
-  pub placeAlignY : box.vertical.place.align ≡ candidate.place.y.align
+  pub place_x : box.horizontal.place.area ≡ counted_from candidate.place.x.area container.area.offset.x
+  pub place_y : box.vertical.place.area ≡ counted_from candidate.place.y.area container.area.offset.y
+  pub place_align_x : box.horizontal.place.align ≡ candidate.place.x.align
+  pub place_align_y : box.vertical.place.align ≡ candidate.place.y.align
   pub left_to_right : container.direction ≡ Ltr → box.horizontal.reversed ≡ false
   pub right_to_left : container.direction ≡ Rtl → box.horizontal.reversed ≡ true
-  pub topToBottom : box.vertical.reversed ≡ false
-  pub scrollsX : ScrollsBy container.overflow.x box.horizontal.scrolls
-  pub scrollsY : ScrollsBy container.overflow.y box.vertical.scrolls
+  pub top_to_bottom : box.vertical.reversed ≡ false
+  pub scrolls_x : ScrollsBy container.overflow.x box.horizontal.scrolls
+  pub scrolls_y : ScrollsBy container.overflow.y box.vertical.scrolls
 
 abbrev pub AxesOfTheBlock : Type 0
 AxesOfTheBlock = (container : ContainingBlock) (style : Style) (candidate : OofCandidate) → AxesOf container candidate (resolved_box container style candidate)
@@ -91,18 +91,18 @@ AxesOfTheBlock = (container : ContainingBlock) (style : Style) (candidate : OofC
 -- margins, padding and border are their pixels; percentages and sums, top and bottom too, are of the area's width (border by document 01: CSS
 -- borders take none)
 pub record OfTheWidth (w x : Float) (style : Style) (box : ResolvedBox) : Type 0 where
-  pub marginLeft : Comes w style.margin.left x → box.horizontal.margin.start ≡ Some x
-  pub marginRight : Comes w style.margin.right x → box.horizontal.margin.end ≡ Some x
-  pub marginTop : Comes w style.margin.top x → box.vertical.margin.start ≡ Some x
-  pub marginBottom : Comes w style.margin.bottom x → box.vertical.margin.end ≡ Some x
-  pub paddingLeft : Comes w style.padding.left x → box.padding.left ≡ x
-  pub paddingRight : Comes w style.padding.right x → box.padding.right ≡ x
-  pub paddingTop : Comes w style.padding.top x → box.padding.top ≡ x
-  pub paddingBottom : Comes w style.padding.bottom x → box.padding.bottom ≡ x
-  pub borderLeft : Comes w style.border.left x → box.border.left ≡ x
-  pub borderRight : Comes w style.border.right x → box.border.right ≡ x
-  pub borderTop : Comes w style.border.top x → box.border.top ≡ x
-  pub borderBottom : Comes w style.border.bottom x → box.border.bottom ≡ x
+  pub margin_left : Comes w style.margin.left x → box.horizontal.margin.start ≡ Some x
+  pub margin_right : Comes w style.margin.right x → box.horizontal.margin.end ≡ Some x
+  pub margin_top : Comes w style.margin.top x → box.vertical.margin.start ≡ Some x
+  pub margin_bottom : Comes w style.margin.bottom x → box.vertical.margin.end ≡ Some x
+  pub padding_left : Comes w style.padding.left x → box.padding.left ≡ x
+  pub padding_right : Comes w style.padding.right x → box.padding.right ≡ x
+  pub padding_top : Comes w style.padding.top x → box.padding.top ≡ x
+  pub padding_bottom : Comes w style.padding.bottom x → box.padding.bottom ≡ x
+  pub border_left : Comes w style.border.left x → box.border.left ≡ x
+  pub border_right : Comes w style.border.right x → box.border.right ≡ x
+  pub border_top : Comes w style.border.top x → box.border.top ≡ x
+  pub border_bottom : Comes w style.border.bottom x → box.border.bottom ≡ x
 
 abbrev pub PercentagesOfTheWidth : Type 0
 PercentagesOfTheWidth =
@@ -125,10 +125,10 @@ pub record AutoSides (style : Style) (box : ResolvedBox) : Type 0 where
   pub right : IsAuto style.inset.right → box.horizontal.inset.end ≡ None
   pub top : IsAuto style.inset.top → box.vertical.inset.start ≡ None
   pub bottom : IsAuto style.inset.bottom → box.vertical.inset.end ≡ None
-  pub marginLeft : IsAuto style.margin.left → box.horizontal.margin.start ≡ None
-  pub marginRight : IsAuto style.margin.right → box.horizontal.margin.end ≡ None
-  pub marginTop : IsAuto style.margin.top → box.vertical.margin.start ≡ None
-  pub marginBottom : IsAuto style.margin.bottom → box.vertical.margin.end ≡ None
+  pub margin_left : IsAuto style.margin.left → box.horizontal.margin.start ≡ None
+  pub margin_right : IsAuto style.margin.right → box.horizontal.margin.end ≡ None
+  pub margin_top : IsAuto style.margin.top → box.vertical.margin.start ≡ None
+  pub margin_bottom : IsAuto style.margin.bottom → box.vertical.margin.end ≡ None
 
 abbrev pub AutoSidesAreNone : Type 0
 AutoSidesAreNone = (container : ContainingBlock) (style : Style) (candidate : OofCandidate) → AutoSides style (resolved_box container style candidate)
@@ -143,10 +143,10 @@ pub record AlignedBy (k : AlignItemsKeyword) (ownStart ownEnd : OofAlignment) (a
   pub center : k ≡ keyword.Center → a ≡ align.Center
   pub start : k ≡ keyword.Start → a ≡ align.Start
   pub end : k ≡ keyword.End → a ≡ align.End
-  pub flexStart : k ≡ keyword.FlexStart → a ≡ align.Start
-  pub flexEnd : k ≡ keyword.FlexEnd → a ≡ align.End
+  pub flex_start : k ≡ keyword.FlexStart → a ≡ align.Start
+  pub flex_end : k ≡ keyword.FlexEnd → a ≡ align.End
   pub self_start : k ≡ keyword.SelfStart → a ≡ ownStart
-  pub selfEnd : k ≡ keyword.SelfEnd → a ≡ ownEnd
+  pub self_end : k ≡ keyword.SelfEnd → a ≡ ownEnd
   pub baseline : k ≡ keyword.Baseline → a ≡ align.Start
 
 -- Justify-self aligns in the horizontal axis, align-self in the vertical one, each with its own safety. Start and end are the containing
@@ -156,8 +156,8 @@ pub record AlignmentOf (container : ContainingBlock) (style : Style) (box : Reso
   pub along : style.direction ≡ container.direction → AlignedBy style.justify.keyword align.Start align.End box.horizontal.alignment
   pub against : (style.direction ≡ container.direction → ⊥) → AlignedBy style.justify.keyword align.End align.Start box.horizontal.alignment
   pub vertical : AlignedBy style.align.keyword align.Start align.End box.vertical.alignment
-  pub justifySafety : box.horizontal.safety ≡ style.justify.safety
-  pub alignSafety : box.vertical.safety ≡ style.align.safety
+  pub justify_safety : box.horizontal.safety ≡ style.justify.safety
+  pub align_safety : box.vertical.safety ≡ style.align.safety
 
 abbrev pub AlignmentOfTheStyle : Type 0
 AlignmentOfTheStyle = (container : ContainingBlock) (style : Style) (candidate : OofCandidate) → AlignmentOf container style (resolved_box container style candidate)
@@ -179,10 +179,10 @@ to_border_box style box = left_out style.sizing (padding_border_of box)
 -- Size, min and max take percentages and sums of their own axis. Lengths are of the content box where the box sizing says so: padding plus border is
 -- added. Min is at least padding plus border, and the size is clamped. A ratio changes no side that is given.
 pub record OfItsBox (area : Size) (x : Float) (style : Style) (box : ResolvedBox) : Type 0 where
-  pub maxWidth : Comes area.width style.max.width x → box.max.width ≡ Some (x ⊕ (to_border_box style box).width)
-  pub maxHeight : Comes area.height style.max.height x → box.max.height ≡ Some (x ⊕ (to_border_box style box).height)
-  pub minWidth : Comes area.width style.min.width x → box.min.width ≡ Some (larger (x ⊕ (to_border_box style box).width) (padding_border_of box).width)
-  pub minHeight : Comes area.height style.min.height x → box.min.height ≡ Some (larger (x ⊕ (to_border_box style box).height) (padding_border_of box).height)
+  pub max_width : Comes area.width style.max.width x → box.max.width ≡ Some (x ⊕ (to_border_box style box).width)
+  pub max_height : Comes area.height style.max.height x → box.max.height ≡ Some (x ⊕ (to_border_box style box).height)
+  pub min_width : Comes area.width style.min.width x → box.min.width ≡ Some (larger (x ⊕ (to_border_box style box).width) (padding_border_of box).width)
+  pub min_height : Comes area.height style.min.height x → box.min.height ≡ Some (larger (x ⊕ (to_border_box style box).height) (padding_border_of box).height)
   pub width : Comes area.width style.size.width x → box.size.width ≡ Some (clamped (x ⊕ (to_border_box style box).width) box.min.width box.max.width)
   pub height : Comes area.height style.size.height x → box.size.height ≡ Some (clamped (x ⊕ (to_border_box style box).height) box.min.height box.max.height)
 
@@ -205,10 +205,10 @@ AutoIsNoSize =
 
 -- a ratio r, of width to height, completes a lone side: width = r × height, height = width ÷ r; of size, min and max
 pub record RatioOf (area : Size) (r x : Float) (style : Style) (box : ResolvedBox) : Type 0 where
-  pub maxWidth : IsAutoSize style.max.width → Comes area.height style.max.height x → box.max.width ≡ Some (x ⊗ r ⊕ (to_border_box style box).width)
-  pub maxHeight : IsAutoSize style.max.height → Comes area.width style.max.width x → box.max.height ≡ Some (x ⊘ r ⊕ (to_border_box style box).height)
-  pub minWidth : IsAutoSize style.min.width → Comes area.height style.min.height x → box.min.width ≡ Some (larger (x ⊗ r ⊕ (to_border_box style box).width) (padding_border_of box).width)
-  pub minHeight : IsAutoSize style.min.height → Comes area.width style.min.width x → box.min.height ≡ Some (larger (x ⊘ r ⊕ (to_border_box style box).height) (padding_border_of box).height)
+  pub max_width : IsAutoSize style.max.width → Comes area.height style.max.height x → box.max.width ≡ Some (x ⊗ r ⊕ (to_border_box style box).width)
+  pub max_height : IsAutoSize style.max.height → Comes area.width style.max.width x → box.max.height ≡ Some (x ⊘ r ⊕ (to_border_box style box).height)
+  pub min_width : IsAutoSize style.min.width → Comes area.height style.min.height x → box.min.width ≡ Some (larger (x ⊗ r ⊕ (to_border_box style box).width) (padding_border_of box).width)
+  pub min_height : IsAutoSize style.min.height → Comes area.width style.min.width x → box.min.height ≡ Some (larger (x ⊘ r ⊕ (to_border_box style box).height) (padding_border_of box).height)
   pub width : IsAutoSize style.size.width → Comes area.height style.size.height x → box.size.width ≡ Some (clamped (x ⊗ r ⊕ (to_border_box style box).width) box.min.width box.max.width)
   pub height : IsAutoSize style.size.height → Comes area.width style.size.width x → box.size.height ≡ Some (clamped (x ⊘ r ⊕ (to_border_box style box).height) box.min.height box.max.height)
 

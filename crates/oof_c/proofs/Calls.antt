@@ -23,16 +23,16 @@ in_words_lem {l = l} {w = w} {u = u} state shown e f g =
 
 -- what was told of a step, and what it wrote as its state, are its outcome in words
 module _ (before : Words) {step : Step} {l w u s a : List ℕ} (r : ℕ) where
-  pub opened-in-words :
+  pub opened_in_words_lem :
       (o : Opening) (candidates styles : List ℕ)
       → outcome step l w u ≡ opened o candidates (lent_in styles before)
       → s ≡ state_words step.state
       → told r a ≡ told (result_of step.answer) (answer_left step.answer before.answer)
       → ◌≡◌ {A = Returned} (record { result = r; words = words l w u s a }) (opened_in_words o candidates styles before)
   unfolding opened_in_words
-  opened-in-words o candidates styles e f g = in_words_lem (λ (t : Step). state_words t.state) before.answer e f g
+  opened_in_words_lem o candidates styles e f g = in_words_lem (λ (t : Step). state_words t.state) before.answer e f g
 
-  pub replied-in-words :
+  pub replied_in_words_lem :
       {was : State} (reply : Reply) (surfaced styles : List ℕ)
       → was ≡ state_of before.state
       → outcome step l w u ≡ replied was reply surfaced (lent_in styles before)
@@ -40,6 +40,6 @@ module _ (before : Words) {step : Step} {l w u s a : List ℕ} (r : ℕ) where
       → told r a ≡ told (result_of step.answer) (answer_left step.answer before.answer)
       → ◌≡◌ {A = Returned} (record { result = r; words = words l w u s a }) (replied_in_words reply surfaced styles before)
   unfolding replied_in_words
-  replied-in-words reply surfaced styles d e f g =
+  replied_in_words_lem reply surfaced styles d e f g =
       in_words_lem (λ (t : Step). state_left t before.state) before.answer
       (e ∙ ap (λ (was : State). replied was reply surfaced (lent_in styles before)) d) f g

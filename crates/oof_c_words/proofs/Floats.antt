@@ -80,7 +80,7 @@ fill_fits kind x y f g = go (eqb kind 1)
 
 -- what words mean
 pub words_fit : (w : List ℕ) → Floats (state_of w)
-unfolding state_of replies_in overflow_in layout.rectOf opened_in container_in
+unfolding state_of replies_in overflow_in layout.rect_of opened_in container_in
 words_fit w =
     let f : (k : ℕ) → T (fits binary32 (float_at w k)) = λ k. of_bits-fits binary32 (at w k) in
     let both = keyword_fits (at w 1) (float_at w 2) (float_at w 3) (f 2) (f 3) in

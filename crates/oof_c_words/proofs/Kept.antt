@@ -19,7 +19,7 @@ use Rattle.tree_record.specs.Layout.{layout_width}
 use Rattle.sweep.specs.Sweep.{candidates_in, keep}
 use Rattle.sweep.specs.declared.Filled.{Filled}
 use Rattle.sweep.specs.declared.Shift.TheVariants.{By}
-use Rattle.sweep.proofs.Steps.{kept-moved}
+use Rattle.sweep.proofs.Steps.{kept_moved}
 use Rattle.oof_box.specs.Cut.{layout_after}
 use Rattle.oof_box.specs.declared.question.Replies.{Replies}
 use Rattle.oof_box.specs.declared.question.Reply.{Reply}
@@ -143,10 +143,10 @@ whole_of s f r =
             unclaimed = omega (arith, r.unclaimed);
             begun = omega (arith, r.begun, r.working);
             answered = omega (arith, r.answered);
-            stylesLent = r.lengths.styles;
-            layoutsLent = r.lengths.layouts;
-            workingLent = r.lengths.working;
-            unclaimedLent = r.lengths.unclaimed;
+            styles_lent = r.lengths.styles;
+            layouts_lent = r.lengths.layouts;
+            working_lent = r.lengths.working;
+            unclaimed_lent = r.lengths.unclaimed;
           };
     }
 
@@ -262,8 +262,8 @@ laid_whole s overflow surfaced l f p =
     let placed = layout_after s.opened.container (style_at l.styles box.node) box s.replies overflow in
     let shift = By placed.layout.location in
     let held = found by l s.counts.filled surfaced p.room in
-    let inside = kept-moved by true shift (candidates_in surfaced) in
-    let outside = kept-moved by false shift (candidates_in surfaced) in
+    let inside = kept_moved by true shift (candidates_in surfaced) in
+    let outside = kept_moved by false shift (candidates_in surfaced) in
     proceeding_whole _ _ _ _ _
     (record {
       size = f.size;

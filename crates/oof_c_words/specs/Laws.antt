@@ -37,10 +37,10 @@ pub record Counted (s : State) : Type 0 where
   pub unclaimed : InAWord s.counts.filled.unclaimed
   pub begun : InAWord s.counts.begun
   pub answered : InAWord s.counts.answered
-  pub stylesLent : InAWord s.opened.extents.styles
-  pub layoutsLent : InAWord s.opened.extents.layouts
-  pub workingLent : InAWord s.opened.extents.working
-  pub unclaimedLent : InAWord s.opened.extents.unclaimed
+  pub styles_lent : InAWord s.opened.extents.styles
+  pub layouts_lent : InAWord s.opened.extents.layouts
+  pub working_lent : InAWord s.opened.extents.working
+  pub unclaimed_lent : InAWord s.opened.extents.unclaimed
 
 abbrev pub StateBack : Type 0
 StateBack = (s : State) → Floats s → Counted s → state_of (state_words s) ≡ s

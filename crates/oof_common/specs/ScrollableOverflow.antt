@@ -30,9 +30,9 @@ placed_at at l = at ⊕ l.start to at ⊕ l.end
 -- parent's scroll origin, the box's own overflow from its start edge.
 unfoldable pub contribution : Point → Size → Rect → OverflowPoint → Contain → Bool → Rect
 contribution location size own overflow contain parentScrolls =
-    let reachX = reach (propagates overflow.x overflow contain) size.width (line_x own) in
-    let reachY = reach (propagates overflow.y overflow contain) size.height (line_y own) in
-    let x = placed_at location.x reachX in
-    let y = placed_at location.y reachY in
-    cond (le reachX.end 0f || le reachY.end 0f) zero_rect
+    let reach_x = reach (propagates overflow.x overflow contain) size.width (line_x own) in
+    let reach_y = reach (propagates overflow.y overflow contain) size.height (line_y own) in
+    let x = placed_at location.x reach_x in
+    let y = placed_at location.y reach_y in
+    cond (le reach_x.end 0f || le reach_y.end 0f) zero_rect
     (cond (parentScrolls && (le x.end 0f || le y.end 0f)) zero_rect (rect_of x y))

@@ -23,7 +23,7 @@ use Rattle.pixels.specs.Pixels.{pixel_of, line_of, edges_of, all_accepted, numbe
 use Rattle.pixels.specs.Conditions.{IsInEighths, NotAllInEighths}
 use Rattle.pixels.specs.Laws.{RefusedExactly, OnlySixAreRead, EdgesAreExact, OffsetDropsOut, TouchingStays, TouchingByFloatsStays, Near, SizesAreNear, Ordered, EdgesInOrder, Small, EdgesAreSmall}
 use Rattle.pixels.proofs.Pairs.{add_is, neg_is, times_is, le_from, le_to, lt_to}
-use Rattle.pixels.proofs.Held.{Within, start-within, end-within}
+use Rattle.pixels.proofs.Held.{Within, start_within, end_within}
 use Rattle.pixels.proofs.Laws.{pixel_is, order_is_kept}
 use Rattle.pixels.proofs.Numbers.{accepted_exactly}
 use Rattle.pixels.proofs.Sums.{accepted_sum_is_exact}
@@ -220,7 +220,7 @@ small n h = let b = pixel_is n in (le_to (neg_ℤ (pos 3750000)) (pixel_of n) (o
 
 smalls : (at size offset : Float) → let l = line_of at size offset in Small l.start × Small l.end
 unfolding line_of
-smalls at size offset = (small _ (start-within at offset), small _ (end-within at offset size))
+smalls at size offset = (small _ (start_within at offset), small _ (end_within at offset size))
 
 pub edges_are_small : EdgesAreSmall
 unfolding edges_of

@@ -100,21 +100,21 @@ less_within x y b c h k = let n = neg_is y in plus_within x (neg_ℤ y) b c h (r
 
 -- a pixel: an i32 holds it
 module _ (n : ℤ) (h : nat_abs n ≤ 29999997) where
-  four-within : Within 30000001 (n +ℤ pos 4)
-  four-within = plus_within n (pos 4) 29999997 4 (abs_within 29999997 n h) (lit≤ tt, lit≤ tt)
+  four_within : Within 30000001 (n +ℤ pos 4)
+  four_within = plus_within n (pos 4) 29999997 4 (abs_within 29999997 n h) (lit≤ tt, lit≤ tt)
 
-  pub four-fits : SFits w64 (n +ℤ pos 4)
-  four-fits = within_fits (n +ℤ pos 4) four-within
+  pub four_fits : SFits w64 (n +ℤ pos 4)
+  four_fits = within_fits (n +ℤ pos 4) four_within
 
-  pub floor-fits : SFits w64 (floor (n +ℤ pos 4) 8)
-  floor-fits = go (n +ℤ pos 4) four-fits.sfits
+  pub floor_fits : SFits w64 (floor (n +ℤ pos 4) 8)
+  floor_fits = go (n +ℤ pos 4) four_fits.sfits
     where
       go : (z : ℤ) → mag z < 2 ^ 63 → SFits w64 (floor z 8)
       go (pos n) h = sfits (pos (n / 8)) (eighth_fits n h)
       go (negsuc n) h = sfits (negsuc (n / 8)) (eighth_fits n h)
 
-  pub pixel-fits : SFits w32 (floor (n +ℤ pos 4) 8)
-  pixel-fits = go (n +ℤ pos 4) (within_mag 30000001 (n +ℤ pos 4) four-within)
+  pub pixel_fits : SFits w32 (floor (n +ℤ pos 4) 8)
+  pixel_fits = go (n +ℤ pos 4) (within_mag 30000001 (n +ℤ pos 4) four_within)
     where
       go : (z : ℤ) → mag z ≤ 30000001 → SFits w32 (floor z 8)
       go (pos n) h = record { sfits = omega arith }
@@ -133,8 +133,8 @@ module _ (n : ℕ) (h : n ≤ 9999999) where
   pub held : to_z w64 n ≡ pos n
   held = to_z_pos w64 (omega arith)
 
-  pub minus-fits : SFits w64 (pos 0 -ℤ pos n)
-  minus-fits = within_fits (pos 0 -ℤ pos n) (less_within (pos 0) (pos n) 0 30000001 (omega arith, omega arith) (omega arith, omega arith))
+  pub minus_fits : SFits w64 (pos 0 -ℤ pos n)
+  minus_fits = within_fits (pos 0 -ℤ pos n) (less_within (pos 0) (pos n) 0 30000001 (omega arith, omega arith) (omega arith, omega arith))
 
 pub minus_is : (s : Bool) (n : ℕ) → s ≡ true → pos 0 -ℤ pos n ≡ signed s n
 minus_is s n e = rw e (minus n)
@@ -162,16 +162,16 @@ held_eighths x = back (in_eighths x) (within_fits (in_eighths x) (more 9999999 3
 -- ---- where a box begins and ends, from the area's edge
 
 module _ (at offset : Float) where
-  pub start-within : Within 29999997 (in_eighths at -ℤ in_eighths offset)
-  start-within =
+  pub start_within : Within 29999997 (in_eighths at -ℤ in_eighths offset)
+  start_within =
       more 19999998 29999997 (in_eighths at -ℤ in_eighths offset) (lit≤ tt)
       (less_within (in_eighths at) (in_eighths offset) 9999999 9999999 (eighths_within at) (eighths_within offset))
 
   pub start_fits : SFits w64 (in_eighths at -ℤ in_eighths offset)
-  start_fits = within_fits (in_eighths at -ℤ in_eighths offset) (more 29999997 30000001 (in_eighths at -ℤ in_eighths offset) (lit≤ tt) start-within)
+  start_fits = within_fits (in_eighths at -ℤ in_eighths offset) (more 29999997 30000001 (in_eighths at -ℤ in_eighths offset) (lit≤ tt) start_within)
 
-  pub end-within : (size : Float) → Within 29999997 (in_eighths at -ℤ in_eighths offset +ℤ in_eighths size)
-  end-within size =
+  pub end_within : (size : Float) → Within 29999997 (in_eighths at -ℤ in_eighths offset +ℤ in_eighths size)
+  end_within size =
       plus_within (in_eighths at -ℤ in_eighths offset) (in_eighths size) 19999998 9999999
       (less_within (in_eighths at) (in_eighths offset) 9999999 9999999 (eighths_within at) (eighths_within offset))
       (eighths_within size)
@@ -179,7 +179,7 @@ module _ (at offset : Float) where
   pub end_fits : (size : Float) → SFits w64 (in_eighths at -ℤ in_eighths offset +ℤ in_eighths size)
   end_fits size =
       let z = in_eighths at -ℤ in_eighths offset +ℤ in_eighths size in
-      within_fits z (more 29999997 30000001 z (lit≤ tt) (end-within size))
+      within_fits z (more 29999997 30000001 z (lit≤ tt) (end_within size))
 
 -- ---- the definitions, as the code has them
 
@@ -195,11 +195,11 @@ line_is_sums at size offset = refl
 -- ---- an i32 holds the edges
 
 pub held_pixel : (n : ℤ) → Within 29999997 n → to_z w32 (of_z w32 (pixel_of n)) ≡ pixel_of n
-held_pixel n h = rw (pixel_is_floor n) (to_z-of_z (pixel-fits n (within_abs 29999997 n h)))
+held_pixel n h = rw (pixel_is_floor n) (to_z-of_z (pixel_fits n (within_abs 29999997 n h)))
 
 module _ (at size offset : Float) (l : PixelLine) (e : l ≡ line_of at size offset) where
   pub held_start : to_z w32 (of_z w32 l.start) ≡ l.start
-  held_start = rw (e, line_is_sums at size offset) (held_pixel (in_eighths at -ℤ in_eighths offset) (start-within at offset))
+  held_start = rw (e, line_is_sums at size offset) (held_pixel (in_eighths at -ℤ in_eighths offset) (start_within at offset))
 
-  pub held-end : to_z w32 (of_z w32 l.end) ≡ l.end
-  held-end = rw (e, line_is_sums at size offset) (held_pixel (in_eighths at -ℤ in_eighths offset +ℤ in_eighths size) (end-within at offset size))
+  pub held_end : to_z w32 (of_z w32 l.end) ≡ l.end
+  held_end = rw (e, line_is_sums at size offset) (held_pixel (in_eighths at -ℤ in_eighths offset +ℤ in_eighths size) (end_within at offset size))

@@ -38,9 +38,9 @@ use Rattle.util_exact.proofs.Sum.{add_exact}
 use Rattle.util_exact.proofs.Quarters.{units, quarters_exact}
 use Rattle.util_exact.proofs.Same.{given, quarters_same, widen_same}
 use Rattle.mirror_axis.proofs.Model.{shape, place_n}
-use Rattle.mirror_axis.proofs.ExactPlace.{place-exact}
+use Rattle.mirror_axis.proofs.ExactPlace.{place_exact}
 use Rattle.mirror_box.proofs.Bounds.{length_bound, static_bound, size_bound, fit_bound, place_bound}
-use Rattle.mirror_box.proofs.Keywords.{KeywordSame, noKeyword, exact, measure, keyword_of_lem, if_absent_lem}
+use Rattle.mirror_box.proofs.Keywords.{KeywordSame, no_keyword, exact, measure, keyword_of_lem, if_absent_lem}
 use Rattle.mirror_box.proofs.Stretch.{raised, no_ratio}
 use Rattle.mirror_run.specs.Quarter.{AreaInQuarters, QuarterPlace}
 use Rattle.pixels.specs.Pixels.{edges_of, all_accepted, pixel_edges}
@@ -49,7 +49,7 @@ use Rattle.pixels_laws.specs.Quarter.{StyleInQuarters, AnsweredInQuarters, now, 
 use Rattle.pixels_laws.specs.Laws.{HasEdges, BoxHasEdges}
 use Rattle.pixels_laws.proofs.Accepted.{exact_accepted}
 use Rattle.pixels_laws.proofs.Sizes.{either, In, MaybeIn, SizeIn, KnownIn, widen_known, zero_in, definite_in_lem, filled_in, clamped_in, floats_in}
-use Rattle.pixels_laws.proofs.Resolved.{AxisIn, BoxIn, axis_exact, keyword_in, resolved-in}
+use Rattle.pixels_laws.proofs.Resolved.{AxisIn, BoxIn, axis_exact, keyword_in, resolved_in}
 
 -- ---- step 4: keywords
 
@@ -84,7 +84,7 @@ located : (a : OofAxis) → AxisIn a → {size offset : Float} → In fit_bound 
 located a h k q =
     let e = axis_exact a h in (
       add_n (place_n (shape a) e.0 k.a) (units q),
-      add_exact (place-exact length_bound static_bound fit_bound (lit< tt) a e.0 e.1 k.l) (eighths (quarters_exact q)) (lit< tt),
+      add_exact (place_exact length_bound static_bound fit_bound (lit< tt) a e.0 e.1 k.l) (eighths (quarters_exact q)) (lit< tt),
     )
 
 pub has_edges : {l : Layout} {offset : Point} → LayoutIn l → Quarter offset.x → Quarter offset.y → HasEdges l offset
@@ -116,23 +116,23 @@ module _ (S : Laid → Type 0) where
   bind P Q _ next (later {q = q} {next = reply} h) f = later (λ r g. bind P Q (reply r) next (h r g) f)
 
   module _ (node : ℕ) (stretch : Size) where
-    width-as : (k : SizingKeywordResolution) (known : MaybeSize) → KeywordIn k → KnownIn size_bound known → AnsweredInQuarters S (MaybeIn size_bound) (width_as node k known stretch)
+    width_as_lem : (k : SizingKeywordResolution) (known : MaybeSize) → KeywordIn k → KnownIn size_bound known → AnsweredInQuarters S (MaybeIn size_bound) (width_as node k known stretch)
     unfolding width_as ◌>>=◌
-    width-as _ known noKeyword h = now h.width
-    width-as _ known (exact k) h = now (given k)
-    width-as _ known (measure s) h = later (λ r g. now (given (widen_same (lit≤ tt) (quarters_same g))))
+    width_as_lem _ known no_keyword h = now h.width
+    width_as_lem _ known (exact k) h = now (given k)
+    width_as_lem _ known (measure s) h = later (λ r g. now (given (widen_same (lit≤ tt) (quarters_same g))))
 
-    height-as : (k : SizingKeywordResolution) (known : MaybeSize) → KeywordIn k → KnownIn size_bound known → AnsweredInQuarters S (MaybeIn size_bound) (height_as node k known stretch)
+    height_as_lem : (k : SizingKeywordResolution) (known : MaybeSize) → KeywordIn k → KnownIn size_bound known → AnsweredInQuarters S (MaybeIn size_bound) (height_as node k known stretch)
     unfolding height_as ◌>>=◌
-    height-as _ known noKeyword h = now h.height
-    height-as _ known (exact k) h = now (given k)
-    height-as _ known (measure s) h = later (λ r g. now (given (widen_same (lit≤ tt) (quarters_same g))))
+    height_as_lem _ known no_keyword h = now h.height
+    height_as_lem _ known (exact k) h = now (given k)
+    height_as_lem _ known (measure s) h = later (λ r g. now (given (widen_same (lit≤ tt) (quarters_same g))))
 
     in_turn_lem : (wide tall : SizingKeywordResolution) (known : MaybeSize) → KeywordIn wide → KeywordIn tall → KnownIn size_bound known → AnsweredInQuarters S (KnownIn size_bound) (in_turn node wide tall known stretch)
     unfolding in_turn
     in_turn_lem wide tall known k l h =
-        bind (MaybeIn size_bound) (KnownIn size_bound) (width_as node wide known stretch) _ (width-as wide known k h)
-        (λ w hw. bind (MaybeIn size_bound) (KnownIn size_bound) (height_as node tall (w by known.height) stretch) _ (height-as tall (w by known.height) l (record { width = hw; height = h.height }))
+        bind (MaybeIn size_bound) (KnownIn size_bound) (width_as node wide known stretch) _ (width_as_lem wide known k h)
+        (λ w hw. bind (MaybeIn size_bound) (KnownIn size_bound) (height_as node tall (w by known.height) stretch) _ (height_as_lem tall (w by known.height) l (record { width = hw; height = h.height }))
         (λ t ht. now (record { width = hw; height = ht })))
 
     by_keywords_lem : (wide tall : SizingKeywordResolution) (known : MaybeSize) → KeywordIn wide → KeywordIn tall → KnownIn size_bound known → AnsweredInQuarters S (KnownIn size_bound) (by_keywords node wide tall known stretch)
@@ -163,31 +163,31 @@ module _ (S : Laid → Type 0) where
         (now h.size)
 
     -- step 5
-    widened-in : (t : Bool) (s : MaybeSize) → KnownIn fit_bound s → KnownIn fit_bound (widened None box t s)
+    widened_in : (t : Bool) (s : MaybeSize) → KnownIn fit_bound s → KnownIn fit_bound (widened None box t s)
     unfolding widened
-    widened-in t s k = either (KnownIn fit_bound) t (settle fit_bound (lit≤ tt) _ (record { width = given h.fit.width; height = k.height })) k
+    widened_in t s k = either (KnownIn fit_bound) t (settle fit_bound (lit≤ tt) _ (record { width = given h.fit.width; height = k.height })) k
 
-    heightened-in : (t : Bool) (s : MaybeSize) → KnownIn fit_bound s → KnownIn fit_bound (heightened None box t s)
+    heightened_in : (t : Bool) (s : MaybeSize) → KnownIn fit_bound s → KnownIn fit_bound (heightened None box t s)
     unfolding heightened
-    heightened-in t s k =
+    heightened_in t s k =
         either (KnownIn fit_bound) (t && not (present s.height)) (settle fit_bound (lit≤ tt) _ (record { width = k.width; height = given h.fit.height })) k
 
     record StretchedIn (at : Stretched) : Type 0 where
       known : KnownIn fit_bound at.known
       min : KnownIn fit_bound at.min
 
-    stretched-in : (s : MaybeSize) → KnownIn fit_bound s → StretchedIn (stretched style box s)
+    stretched_in : (s : MaybeSize) → KnownIn fit_bound s → StretchedIn (stretched style box s)
     unfolding stretched
-    stretched-in s k =
+    stretched_in s k =
         let min = widen_known (lit≤ tt) h.min in
         either StretchedIn style.table
         (record { known = k; min = record { width = raised refl min.width h.fit.width; height = raised refl min.height h.fit.height } })
-        (record { known = rw (no_ratio style box _ _ hs.ratio) (heightened-in _ _ (widened-in _ s k)); min = min })
+        (record { known = rw (no_ratio style box _ _ hs.ratio) (heightened_in _ _ (widened_in _ s k)); min = min })
 
     -- step 6
-    measured-in : (at : Stretched) → StretchedIn at → AnsweredInQuarters S (SizeIn fit_bound) (measured node box at)
+    measured_in : (at : Stretched) → StretchedIn at → AnsweredInQuarters S (SizeIn fit_bound) (measured node box at)
     unfolding measured final_size
-    measured-in at k =
+    measured_in at k =
         bind (SizeIn fit_bound) (SizeIn fit_bound) _ _
         (either (AnsweredInQuarters S (SizeIn fit_bound)) (both_present at.known) (now zero_in)
         (later (λ r g. now (replied (lit≤ tt) r g))))
@@ -202,14 +202,14 @@ module _ (S : Laid → Type 0) where
       pub contribution : p.outcome.contribution ≡ adds container style p.outcome.layout
       pub laid : S (record { overflow = p.outcome.layout.overflow; surfaced = p.surfaced })
 
-    pub placed-in : AnsweredInQuarters S PlacedIn (placed container style candidate)
+    pub placed_in : AnsweredInQuarters S PlacedIn (placed container style candidate)
     unfolding placed box_layout layout_of ◌>>=◌
-    placed-in =
+    placed_in =
         let box = resolved_box container style candidate in
-        let h = resolved-in container style candidate hb hs hc in
+        let h = resolved_in container style candidate hb hs hc in
         bind (KnownIn size_bound) PlacedIn (keyword_sizes candidate.node style box (size_keywords style box)) _ (known_in style hs candidate.node box h)
         (λ known k. bind (SizeIn fit_bound) PlacedIn (measured candidate.node box (stretched style box known)) _
-        (measured-in style hs candidate.node box h (stretched style box known) (stretched-in style hs candidate.node box h known (widen_known (lit≤ tt) k)))
+        (measured_in style hs candidate.node box h (stretched style box known) (stretched_in style hs candidate.node box h known (widen_known (lit≤ tt) k)))
         (λ size s.
         later
         (λ laid g.
@@ -228,4 +228,4 @@ pub box_has_edges : BoxHasEdges
 box_has_edges container style candidate hb hs hc =
     let S : Laid → Type 0 = λ laid. Unit {0} in
     weaker S (PlacedIn S container style candidate hb hs hc) (λ p. HasEdges p.outcome.layout container.area.offset) (placed container style candidate)
-    (λ p h. has_edges h.layout hb.x hb.y) (placed-in S container style candidate hb hs hc)
+    (λ p h. has_edges h.layout hb.x hb.y) (placed_in S container style candidate hb hs hc)

@@ -65,38 +65,38 @@ line_in h k = record { start = add_same h k.start (lit< tt); end = add_same h k.
 -- ---- a box
 
 module _ (container : ContainingBlock) (area : AreaInQuarters container.area) (style : Style) (l : Layout) (h : LayoutIn l) where
-  offset-in : {x : Float} → Quarter x → EighthsIn length_bound x
-  offset-in q = eighths_same (quarters_same q)
+  offset_in_lem : {x : Float} → Quarter x → EighthsIn length_bound x
+  offset_in_lem q = eighths_same (quarters_same q)
 
-  across-in : EighthsIn origin_bound (from_origin container l.location l.size).x
+  across_in_lem : EighthsIn origin_bound (from_origin container l.location l.size).x
   unfolding from_origin
-  across-in =
-      let x = sub_same (itself h.x.1) (offset-in area.x) (lit< tt) in
-      either (EighthsIn origin_bound) (is_rtl container.direction) (sub_same (sub_same (offset-in area.width) x (lit< tt)) (eighths_same h.size.width) (lit< tt)) (widen_same (lit≤ tt) x)
+  across_in_lem =
+      let x = sub_same (itself h.x.1) (offset_in_lem area.x) (lit< tt) in
+      either (EighthsIn origin_bound) (is_rtl container.direction) (sub_same (sub_same (offset_in_lem area.width) x (lit< tt)) (eighths_same h.size.width) (lit< tt)) (widen_same (lit≤ tt) x)
 
-  down-in : EighthsIn origin_bound (from_origin container l.location l.size).y
+  down_in_lem : EighthsIn origin_bound (from_origin container l.location l.size).y
   unfolding from_origin
-  down-in = widen_same (lit≤ tt) (sub_same (itself h.y.1) (offset-in area.y) (lit< tt))
+  down_in_lem = widen_same (lit≤ tt) (sub_same (itself h.y.1) (offset_in_lem area.y) (lit< tt))
 
   -- how far it reaches
-  abbrev reachX : Line
-  reachX = reach (propagates style.overflow.x style.overflow style.contain) l.size.width (line_x l.overflow)
+  abbrev reach_x : Line
+  reach_x = reach (propagates style.overflow.x style.overflow style.contain) l.size.width (line_x l.overflow)
 
-  abbrev reachY : Line
-  reachY = reach (propagates style.overflow.y style.overflow style.contain) l.size.height (line_y l.overflow)
+  abbrev reach_y : Line
+  reach_y = reach (propagates style.overflow.y style.overflow style.contain) l.size.height (line_y l.overflow)
 
   -- counted from the origin
-  abbrev fromX : Line
-  fromX = placed_at (from_origin container l.location l.size).x reachX
+  abbrev from_x : Line
+  from_x = placed_at (from_origin container l.location l.size).x reach_x
 
-  abbrev fromY : Line
-  fromY = placed_at (from_origin container l.location l.size).y reachY
+  abbrev from_y : Line
+  from_y = placed_at (from_origin container l.location l.size).y reach_y
 
-  pub adds-in : QuarterReply (LaidOut l.overflow) → RectIn (adds container style l)
+  pub adds_in : QuarterReply (LaidOut l.overflow) → RectIn (adds container style l)
   unfolding contribution
-  adds-in q =
-      let x = line_in across-in (reach_in (propagates style.overflow.x style.overflow style.contain) (eighths_same h.size.width) (line_x l.overflow) q.0 q.1) in
-      let y = line_in down-in (reach_in (propagates style.overflow.y style.overflow style.contain) (eighths_same h.size.height) (line_y l.overflow) q.2 q.3) in
-      either RectIn (le reachX.end 0f || le reachY.end 0f) zero_rect_in
-      (either RectIn (any_scroll_container container.overflow && (le fromX.end 0f || le fromY.end 0f)) zero_rect_in
+  adds_in q =
+      let x = line_in across_in_lem (reach_in (propagates style.overflow.x style.overflow style.contain) (eighths_same h.size.width) (line_x l.overflow) q.0 q.1) in
+      let y = line_in down_in_lem (reach_in (propagates style.overflow.y style.overflow style.contain) (eighths_same h.size.height) (line_y l.overflow) q.2 q.3) in
+      either RectIn (le reach_x.end 0f || le reach_y.end 0f) zero_rect_in
+      (either RectIn (any_scroll_container container.overflow && (le from_x.end 0f || le from_y.end 0f)) zero_rect_in
       (record { left = x.start; right = x.end; top = y.start; bottom = y.end }))

@@ -27,7 +27,7 @@ use Rattle.util_exact.proofs.Quarters.{MaybeExact}
 use Rattle.util_exact.proofs.Same.{given, absent, itself, quarters_same, widen_same, zero_same, add_same, sub_same, larger_same}
 use Rattle.mirror_axis.proofs.Model.{◌toN◌, AxisN}
 use Rattle.mirror_axis.proofs.ExactBlock.{ExactAxis}
-use Rattle.mirror_axis.proofs.ExactMargins.{stretch-exact}
+use Rattle.mirror_axis.proofs.ExactMargins.{stretch_exact}
 use Rattle.mirror_box.specs.Quarter.{QuarterLength}
 use Rattle.mirror_box.proofs.Bounds.{length_bound, static_bound, edges_bound, size_bound, fit_bound}
 use Rattle.mirror_box.proofs.Lengths.{length_same}
@@ -40,12 +40,12 @@ use Rattle.pixels_laws.proofs.Sizes.{either, In, MaybeIn, SizeIn, KnownIn, widen
 
 pub record AxisIn (a : OofAxis) : Type 0 where
   pub size : In length_bound a.size
-  pub insetStart : MaybeIn length_bound a.inset.start
-  pub insetEnd : MaybeIn length_bound a.inset.end
-  pub marginStart : MaybeIn length_bound a.margin.start
-  pub marginEnd : MaybeIn length_bound a.margin.end
+  pub inset_start : MaybeIn length_bound a.inset.start
+  pub inset_end : MaybeIn length_bound a.inset.end
+  pub margin_start : MaybeIn length_bound a.margin.start
+  pub margin_end : MaybeIn length_bound a.margin.end
   pub area_start : In static_bound a.place.area.start
-  pub areaEnd : In static_bound a.place.area.end
+  pub area_end : In static_bound a.place.area.end
 
 -- its integers
 number : {b : ℕ} {m : MaybeF32} → MaybeIn b m → (n : N) × MaybeExact 4 b m n
@@ -59,11 +59,11 @@ axis_exact a h =
     let ms = number h.marginStart in
     let me = number h.marginEnd in (
       record { size = h.size.a; inset = is.0 toN ie.0; margin = ms.0 toN me.0; area = h.area_start.a toN h.areaEnd.a },
-      record { size = h.size.l; insetStart = is.1; insetEnd = ie.1; marginStart = ms.1; marginEnd = me.1; area = record { start = h.area_start.l; end = h.areaEnd.l } },
+      record { size = h.size.l; inset_start = is.1; inset_end = ie.1; margin_start = ms.1; margin_end = me.1; area = record { start = h.area_start.l; end = h.areaEnd.l } },
     )
 
 fit_in : (a : OofAxis) → AxisIn a → In fit_bound (stretch_fit a)
-fit_in a h = let e = axis_exact a h in itself (stretch-exact length_bound static_bound (lit< tt) a e.0 e.1)
+fit_in a h = let e = axis_exact a h in itself (stretch_exact length_bound static_bound (lit< tt) a e.0 e.1)
 
 pub keyword_in : (a : OofAxis) → AxisIn a → In size_bound (absolute_stretch a.size a.inset a.margin)
 unfolding absolute_stretch
@@ -97,12 +97,12 @@ module _ (container : ContainingBlock) (style : Style) (candidate : OofCandidate
   across =
       record {
         size = quarters_same hb.width;
-        insetStart = length field.InsetOrMargin style.inset.left area.width hs.inset.left;
-        insetEnd = length field.InsetOrMargin style.inset.right area.width hs.inset.right;
-        marginStart = length field.InsetOrMargin style.margin.left area.width hs.margin.left;
-        marginEnd = length field.InsetOrMargin style.margin.right area.width hs.margin.right;
+        inset_start = length field.InsetOrMargin style.inset.left area.width hs.inset.left;
+        inset_end = length field.InsetOrMargin style.inset.right area.width hs.inset.right;
+        margin_start = length field.InsetOrMargin style.margin.left area.width hs.margin.left;
+        margin_end = length field.InsetOrMargin style.margin.right area.width hs.margin.right;
         area_start = counted hc.0.0 hb.x;
-        areaEnd = counted hc.0.1 hb.x;
+        area_end = counted hc.0.1 hb.x;
       }
 
   down : AxisIn (vertical container style candidate)
@@ -110,12 +110,12 @@ module _ (container : ContainingBlock) (style : Style) (candidate : OofCandidate
   down =
       record {
         size = quarters_same hb.height;
-        insetStart = length field.InsetOrMargin style.inset.top area.height hs.inset.top;
-        insetEnd = length field.InsetOrMargin style.inset.bottom area.height hs.inset.bottom;
-        marginStart = length field.InsetOrMargin style.margin.top area.width hs.margin.top;
-        marginEnd = length field.InsetOrMargin style.margin.bottom area.width hs.margin.bottom;
+        inset_start = length field.InsetOrMargin style.inset.top area.height hs.inset.top;
+        inset_end = length field.InsetOrMargin style.inset.bottom area.height hs.inset.bottom;
+        margin_start = length field.InsetOrMargin style.margin.top area.width hs.margin.top;
+        margin_end = length field.InsetOrMargin style.margin.bottom area.width hs.margin.bottom;
         area_start = counted hc.1.0 hb.y;
-        areaEnd = counted hc.1.1 hb.y;
+        area_end = counted hc.1.1 hb.y;
       }
 
   -- padding plus border
@@ -140,14 +140,14 @@ module _ (container : ContainingBlock) (style : Style) (candidate : OofCandidate
       (added_in (record { width = length f lengths.width area.width h.width; height = length f lengths.height area.height h.height })
       (either (SizeIn edges_bound) (is_content_box style.sizing) k zero_in) (lit< tt))
 
-  min-in : (e : Size) → SizeIn edges_bound e → KnownIn size_bound (min_size style area e)
+  min_in : (e : Size) → SizeIn edges_bound e → KnownIn size_bound (min_size style area e)
   unfolding min_size
-  min-in e k = let k' = widen_size (lit≤ tt) k in raised_in (first_in (size_in field.MinOrMax style.min hs.min e k) (definite_in_lem k')) k'
+  min_in e k = let k' = widen_size (lit≤ tt) k in raised_in (first_in (size_in field.MinOrMax style.min hs.min e k) (definite_in_lem k')) k'
 
-  pub resolved-in : BoxIn (resolved_box container style candidate)
+  pub resolved_in : BoxIn (resolved_box container style candidate)
   unfolding resolved_box
-  resolved-in =
-      let min = min-in _ edges in
+  resolved_in =
+      let min = min_in _ edges in
       let max = size_in field.MinOrMax style.max hs.max _ edges in
       record {
         across = across;

@@ -36,22 +36,22 @@ use Rattle.run.specs.Run.{claims_of, container_of, opened}
 use Rattle.run.specs.Straight.{World, Box, at_opening, after_box, Course, ended, asks, during, boxes, straight}
 use Rattle.run.specs.Theorems.{is_refused, Heard, Turn, AllLend, or_stay, hearing, so_far, laid_into, laid_so_far, claimed_in, called, heeded_in, course_of}
 use Rattle.run.proofs.Straight.{straight_run}
-use Rattle.run.proofs.Ways.{OpeningWay, begins, turnedDown, opening_way}
+use Rattle.run.proofs.Ways.{OpeningWay, begins, turned_down, opening_way}
 use Rattle.run.proofs.Worlds.{claimed_after, claimed_count}
 use Rattle.run.specs.Call.{Outcome}
 use Rattle.mirror_run.specs.Quarter.{AreaInQuarters, QuarterItem, QuarterTable, QuarterCandidates, QuarterPlace, QuarterReply}
 use Rattle.mirror_run.specs.Runs.{Each, one, layout_of_box}
 use Rattle.mirror_run.proofs.Again.{again_exact, again_same}
-use Rattle.mirror_run.proofs.Claimed.{node-there, slice_back}
-use Rattle.mirror_run.proofs.LaidOut.{written-here, kept_there}
-use Rattle.mirror_run.proofs.Lists.{nobody, first_at, first_by, each-kept}
+use Rattle.mirror_run.proofs.Claimed.{node_there, slice_back}
+use Rattle.mirror_run.proofs.LaidOut.{written_here, kept_there}
+use Rattle.mirror_run.proofs.Lists.{nobody, first_at, first_by, each_kept}
 use Rattle.mirror_run.proofs.Styles as styles
 use Rattle.mirror_run.proofs.Surfaced.{none_kept}
 use Rattle.mirror_run.proofs.Verdicts.{OpeningPassed, opening_passed}
 use Rattle.pixels_laws.specs.Quarter.{StyleInQuarters, QuarterTo, AnsweredInQuarters, now, later}
 use Rattle.pixels_laws.specs.Laws.{All, QuarterHeard, RunHasEdges}
-use Rattle.pixels_laws.proofs.Box.{LayoutIn, has_edges, placed-in}
-use Rattle.pixels_laws.proofs.Overflow.{RectIn, zero_rect_in, union_in, adds-in}
+use Rattle.pixels_laws.proofs.Box.{LayoutIn, has_edges, placed_in}
+use Rattle.pixels_laws.proofs.Overflow.{RectIn, zero_rect_in, union_in, adds_in}
 
 -- ---- a layout, written and read
 
@@ -77,7 +77,7 @@ quarter_style table e i l h =
       size = record { width = h.each 16 (lit< tt); height = h.each 17 (lit< tt) };
       min = record { width = h.each 18 (lit< tt); height = h.each 19 (lit< tt) };
       max = record { width = h.each 20 (lit< tt); height = h.each 21 (lit< tt) };
-      ratio = styles.no-ratio table e i l h.ratio;
+      ratio = styles.no_ratio table e i l h.ratio;
     }
 
 -- ---- the layouts of boxes in words, n being the number of items
@@ -108,7 +108,7 @@ words_in n node (b ∷ bs) ws long h k =
   where
     go : (t : Bool) → eqb node b.candidate.node ≡ t → ReadIn ws node ⊎ Among node (b ∷ bs)
         → ReadIn (written ws (layout_width * b.candidate.node) (layout_words b.layout)) node ⊎ Among node bs
-    go true e k = inl (rw (written-here ws n b.candidate.node long h.0.1 b.layout node (eqb-true node b.candidate.node e)) (read_in h.0.0))
+    go true e k = inl (rw (written_here ws n b.candidate.node long h.0.1 b.layout node (eqb-true node b.candidate.node e)) (read_in h.0.0))
     go false e (inl k) = inl (rw (kept_there ws n b.candidate.node long h.0.1 b.layout node (eqb-false node b.candidate.node e)) k)
     go false e (inr (inl d)) = absurd (eqb-false node b.candidate.node e (sym d))
     go false e (inr (inr k)) = inr k
@@ -149,19 +149,19 @@ module _ (o : Opening) (candidates : List ℕ) (lent : Lent) (area : AreaInQuart
     over : {w : World} → WorldIn w → CourseIn (ended w)
     asked : {w : World} {q : Question} {next : ReplyTo q → Course} → WorldIn w → ((r : ReplyTo q) → QuarterTo LaidBy q r → CourseIn (next r)) → CourseIn (asks w q next)
 
-  during-in : (w : World) → WorldIn w → (P : Placed → Type 0) (t : Talk Placed) (k : Placed → Course) → AnsweredInQuarters LaidBy P t → ((p : Placed) → P p → CourseIn (k p)) → CourseIn (during w t k)
+  during_in : (w : World) → WorldIn w → (P : Placed → Type 0) (t : Talk Placed) (k : Placed → Course) → AnsweredInQuarters LaidBy P t → ((p : Placed) → P p → CourseIn (k p)) → CourseIn (during w t k)
   unfolding during
-  during-in w h P _ k (now {a = p} g) f = f p g
-  during-in w h P _ k (later {next = next} g) f = asked h (λ r q. during-in w h P (next r) k (g r q) f)
+  during_in w h P _ k (now {a = p} g) f = f p g
+  during_in w h P _ k (later {next = next} g) f = asked h (λ r q. during_in w h P (next r) k (g r q) f)
 
   module _ (w : World) (c : OofCandidate) (rest : List OofCandidate) (p : Placed) (none : Unclaimed p.surfaced) where
     waits : (after_box by w c rest p).waiting ≡ rest
     unfolding after_box moved
     waits = ap (λ (l : List OofCandidate). rest ++ l) (none_kept by (By p.outcome.layout.location) p.surfaced none) ∙ append-nil rest
 
-    after-in : WorldIn w → w.waiting ≡ c ∷ rest → LayoutIn p.outcome.layout → RectIn p.outcome.contribution → c.node < n → WorldIn (after_box by w c rest p)
+    after_in : WorldIn w → w.waiting ≡ c ∷ rest → LayoutIn p.outcome.layout → RectIn p.outcome.contribution → c.node < n → WorldIn (after_box by w c rest p)
     unfolding after_box
-    after-in h e l r there =
+    after_in h e l r there =
         record {
           laid = all_append (LaidIn n) w.laid (record { candidate = c; layout = p.outcome.layout } ∷ []) h.laid ((l, there), tt);
           claimed =
@@ -169,24 +169,24 @@ module _ (o : Opening) (candidates : List ℕ) (lent : Lent) (area : AreaInQuart
           overflow = union_in w.overflow p.outcome.contribution h.overflow r;
         }
 
-  boxes-in : (most : ℕ) (w : World) (waiting : List OofCandidate) → WorldIn w → w.waiting ≡ waiting → Each Ready waiting waiting → CourseIn (boxes most (container_of o) by (style_at lent.styles) w waiting)
+  boxes_in : (most : ℕ) (w : World) (waiting : List OofCandidate) → WorldIn w → w.waiting ≡ waiting → Each Ready waiting waiting → CourseIn (boxes most (container_of o) by (style_at lent.styles) w waiting)
   unfolding boxes
-  boxes-in zero w waiting h e r = over h
-  boxes-in (suc most) w [] h e r = over h
-  boxes-in (suc most) w (c ∷ rest) h e (one r rs) =
-      during-in w h _ (placed (container_of o) (style_at lent.styles c.node) c) _
-      (placed-in LaidBy (container_of o) (style_at lent.styles c.node) c area (quarter_style lent.styles style c.node r.there (table c.node r.there)) r.place)
-      (λ p g. boxes-in most (after_box by w c rest p) (after_box by w c rest p).waiting
-      (after-in w c rest p g.laid.0 h e g.layout
-      (rw g.contribution (adds-in (container_of o) area (style_at lent.styles c.node) p.outcome.layout g.layout g.laid.1)) r.there)
+  boxes_in zero w waiting h e r = over h
+  boxes_in (suc most) w [] h e r = over h
+  boxes_in (suc most) w (c ∷ rest) h e (one r rs) =
+      during_in w h _ (placed (container_of o) (style_at lent.styles c.node) c) _
+      (placed_in LaidBy (container_of o) (style_at lent.styles c.node) c area (quarter_style lent.styles style c.node r.there (table c.node r.there)) r.place)
+      (λ p g. boxes_in most (after_box by w c rest p) (after_box by w c rest p).waiting
+      (after_in w c rest p g.laid.0 h e g.layout
+      (rw g.contribution (adds_in (container_of o) area (style_at lent.styles c.node) p.outcome.layout g.layout g.laid.1)) r.there)
       refl
       (subst (λ (l : List OofCandidate). Each Ready l l) (sym (waits w c rest p g.laid.0)) rs))
 
   -- a reply
-  hearing-in : (course : Course) (h : Heard) → QuarterHeard by h → CourseIn course → CourseIn (hearing course h)
+  hearing_in : (course : Course) (h : Heard) → QuarterHeard by h → CourseIn course → CourseIn (hearing course h)
   unfolding hearing
-  hearing-in _ h k (over w) = over w
-  hearing-in _ h k (asked {w = w} {q = q} {next = next} g f) = go q h.reply k next f
+  hearing_in _ h k (over w) = over w
+  hearing_in _ h k (asked {w = w} {q = q} {next = next} g f) = go q h.reply k next f
     where
       go : (q : Question) (r : Reply) → QuarterHeard by (record { reply = r; surfaced = h.surfaced }) → (next : ReplyTo q → Course) → ((r : ReplyTo q) → QuarterTo LaidBy q r → CourseIn (next r))
           → CourseIn (or_stay (reply_to q (record { reply = r; surfaced = candidates_in h.surfaced })) next (asks w q next))
@@ -207,20 +207,20 @@ module _ (o : Opening) (candidates : List ℕ) (lent : Lent) (area : AreaInQuart
       go (question.LayOut l) (reply.Height x) k next f = asked g f
       go (question.LayOut l) (reply.LaidOut x) k next f = f _ (k.1, k.0)
 
-  all-heard : (hs : List Heard) (course : Course) → All (QuarterHeard by) hs → CourseIn course → CourseIn (foldl hearing course hs)
-  all-heard [] course k h = h
-  all-heard (x ∷ hs) course k h = all-heard hs (hearing course x) k.1 (hearing-in course x k.0 h)
+  all_heard : (hs : List Heard) (course : Course) → All (QuarterHeard by) hs → CourseIn course → CourseIn (foldl hearing course hs)
+  all_heard [] course k h = h
+  all_heard (x ∷ hs) course k h = all_heard hs (hearing course x) k.1 (hearing_in course x k.0 h)
 
   reached : {course : Course} → CourseIn course → WorldIn (so_far course)
   reached (over w) = w
   reached (asked w f) = w
 
-  straight-in : QuarterCandidates candidates → OpeningPassed o candidates lent → CourseIn (straight 4096 (container_of o) by (style_at lent.styles) (candidates_in candidates))
+  straight_in : QuarterCandidates candidates → OpeningPassed o candidates lent → CourseIn (straight 4096 (container_of o) by (style_at lent.styles) (candidates_in candidates))
   unfolding straight at_opening candidates_in
-  straight-in quarter passed =
-      boxes-in 4096 (at_opening by (candidates_in candidates)) (claimed by (candidates_in candidates)) (record { laid = tt; claimed = refl; overflow = zero_rect_in }) refl
-      (each-kept by true (λ c c' r. ap (λ (c : OofCandidate). c.position) r.same)
-      (first_by (length candidates / candidate_width) candidates candidates (λ i h. record { same = refl; place = quarter i h; there = node-there n candidates passed.candidate i h })))
+  straight_in quarter passed =
+      boxes_in 4096 (at_opening by (candidates_in candidates)) (claimed by (candidates_in candidates)) (record { laid = tt; claimed = refl; overflow = zero_rect_in }) refl
+      (each_kept by true (λ c c' r. ap (λ (c : OofCandidate). c.position) r.same)
+      (first_by (length candidates / candidate_width) candidates candidates (λ i h. record { same = refl; place = quarter i h; there = node_there n candidates passed.candidate i h })))
 
 -- ---- the words that it leaves
 
@@ -249,14 +249,14 @@ pub run_in : (o : Opening) (candidates : List ℕ) (lent : Lent) (turns : List T
 run_in o candidates lent turns area table quarter accepts lends heard = go (opening_way o candidates lent)
   where
     go : OpeningWay o candidates lent → RunIn o candidates lent (called o candidates lent turns)
-    go (turnedDown r e) = no (ap (λ (x : Outcome). is_refused x.step.answer) e) accepts
+    go (turned_down r e) = no (ap (λ (x : Outcome). is_refused x.step.answer) e) accepts
     go (begins v e) =
         let passed = opening_passed o candidates lent v in
         let stands = straight_run o candidates lent turns accepts lends in
         let w = so_far (course_of o candidates lent turns) in
         let h =
         reached o candidates lent area table passed.style
-        (all-heard o candidates lent area table passed.style (heeded_in o candidates lent turns) _ heard (straight-in o candidates lent area table passed.style quarter passed)) in
+        (all_heard o candidates lent area table passed.style (heeded_in o candidates lent turns) _ heard (straight_in o candidates lent area table passed.style quarter passed)) in
         let back =
         subst (λ (cs : List OofCandidate). first_candidates (length cs) (appended lent.working 0 cs) ≡ cs) (sym h.claimed) (slice_back (claims_of o) candidates lent.working true passed.room.0) in
         record {

@@ -27,7 +27,7 @@ use Rattle.placer_check.specs.declared.Verdict.TheVariants.{Accepted}
 use Rattle.placer_check.proofs.Verdicts.{passed, room_number, neither}
 use Rattle.placer.specs.Entry.{AtHand, ReplyCleared}
 use Rattle.sweep.proofs.Listed.{AllBelow}
-use Rattle.placer.proofs.Nodes.{good_below, below_at, item-words}
+use Rattle.placer.proofs.Nodes.{good_below, below_at, item_words_lem}
 
 -- records that are not bad
 pub fine : (styles list : List ℕ) (count : ℕ) → bad_candidate styles list count ≡ false → good_records (candidate_kinds (items styles)) list count ≡ true
@@ -94,8 +94,8 @@ at_hand s reply surfaced l p =
     let n = counted l s.counts p.counts in
     record {
       first = n.first;
-      listed = item-words candidate_width (length l.working) (length l.working / candidate_width) (s.counts.begun - 1) (mul-div-le (length l.working) candidate_width) (omega (arith, n.first, n.begun, n.working));
-      styled = item-words style_words (length l.styles) (items l.styles) _ (mul-div-le (length l.styles) style_words) (below_at (items l.styles) s.counts.filled.working l.working (s.counts.begun - 1) p.listed (omega (arith, n.first, n.begun)));
+      listed = item_words_lem candidate_width (length l.working) (length l.working / candidate_width) (s.counts.begun - 1) (mul-div-le (length l.working) candidate_width) (omega (arith, n.first, n.begun, n.working));
+      styled = item_words_lem style_words (length l.styles) (items l.styles) _ (mul-div-le (length l.styles) style_words) (below_at (items l.styles) s.counts.filled.working l.working (s.counts.begun - 1) p.listed (omega (arith, n.first, n.begun)));
     }
 
 -- a reply that surfaces nothing finds room
@@ -111,7 +111,7 @@ pub layout_room : (s : State) (reply : Reply) (surfaced : List ℕ) (l : Lent) �
 unfolding box_at_hand
 layout_room s reply surfaced l p =
     let n = counted l s.counts p.counts in
-    item-words layout_width (length l.layouts) (items l.styles) _ (omega (arith, p.layouts))
+    item_words_lem layout_width (length l.layouts) (items l.styles) _ (omega (arith, p.layouts))
     (below_at (items l.styles) s.counts.filled.working l.working (s.counts.begun - 1) p.listed (omega (arith, n.first, n.begun)))
 
 -- the count of questions stays small

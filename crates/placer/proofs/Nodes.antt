@@ -115,5 +115,5 @@ appended_below n ws held cs i a b f room h =
 
 module _ (w l n node : ℕ) where
   -- of a slice with w words an item
-  pub item-words : w * n ≤ l → node < n → w * node + w ≤ l
-  item-words h below = le_trans (rw (sym (mul-suc w node)) (mul-le-mul_left w below)) h
+  pub item_words_lem : w * n ≤ l → node < n → w * node + w ≤ l
+  item_words_lem h below = le_trans (rw (sym (mul-suc w node)) (mul-le-mul_left w below)) h

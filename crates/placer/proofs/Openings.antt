@@ -24,7 +24,7 @@ use Rattle.placer_check.specs.declared.Verdict.TheVariants.{Accepted}
 use Rattle.placer.specs.Entry.{AtHand, OpeningCleared}
 use Rattle.placer.proofs.Nodes.{none_below}
 use Rattle.run.proofs.Worlds.{unmoved}
-use Rattle.placer.proofs.Sweeps.{was-full, had-room, next-at-hand}
+use Rattle.placer.proofs.Sweeps.{was_full, had_room, next_at_hand}
 use Rattle.placer.proofs.Calls.{opening_nodes}
 
 module _ (o : Opening) (candidates : List ℕ) (l : Lent) where
@@ -47,24 +47,24 @@ module _ (o : Opening) (candidates : List ℕ) (l : Lent) where
       → outcome step l.layouts w u ≡ begins
   unfolding ◌when◌else◌
   no_room r step w u h s =
-      let f = was-full (claims_of o) Unmoved candidates l none_filled r w u h in
+      let f = was_full (claims_of o) Unmoved candidates l none_filled r w u h in
       rw f.0 (outcome_is (s ∙ rw f.1 refl) refl f.2 f.3)
 
   -- the first box has its record and its style
-  pub first-at-hand : (after : Filled) (w u : List ℕ) → OpeningCleared o candidates l → sweep.Leaves (Into after) w u sweeping → 0 < after.working
+  pub first_at_hand : (after : Filled) (w u : List ℕ) → OpeningCleared o candidates l → sweep.Leaves (Into after) w u sweeping → 0 < after.working
       → AtHand l.styles w (0 + 1)
-  first-at-hand after w u e h more =
-      let f = had-room (claims_of o) Unmoved candidates l none_filled after w u h in
+  first_at_hand after w u e h more =
+      let f = had_room (claims_of o) Unmoved candidates l none_filled after w u h in
       rw f.2
-      (next-at-hand (claims_of o) Unmoved candidates l none_filled l.styles (none_below (items l.styles) l.working) (opening_nodes o candidates l e) f.0 0
+      (next_at_hand (claims_of o) Unmoved candidates l none_filled l.styles (none_below (items l.styles) l.working) (opening_nodes o candidates l e) f.0 0
       (rw (sym (ap (λ (x : Filled). x.working) f.1)) more))
 
-  pub swept-in : (after : Filled) (step : Step) (w u : List ℕ) → sweep.Leaves (Into after) w u sweeping
+  pub swept_in : (after : Filled) (step : Step) (w u : List ℕ) → sweep.Leaves (Into after) w u sweeping
       → step ≡ proceeding l.styles w (record { container = container_of o; claims = claims_of o; extents = extents_of l }) (record { filled = after; begun = 0; answered = 0 }) zero_rect
       → outcome step l.layouts w u ≡ begins
   unfolding begun ◌when◌else◌
-  swept-in after step w u h s =
-      let f = had-room (claims_of o) Unmoved candidates l none_filled after w u h in
+  swept_in after step w u h s =
+      let f = had_room (claims_of o) Unmoved candidates l none_filled after w u h in
       let m = unmoved (candidates_in candidates) in
       let ws : w ≡ appended l.working 0 (keep (claims_of o) true (candidates_in candidates)) = f.2 ∙ ap (λ (cs : List OofCandidate). appended l.working 0 (keep (claims_of o) true cs)) m in
       let us : u ≡ appended l.unclaimed 0 (keep (claims_of o) false (candidates_in candidates)) = f.3 ∙ ap (λ (cs : List OofCandidate). appended l.unclaimed 0 (keep (claims_of o) false cs)) m in

@@ -16,7 +16,7 @@ use Rattle.sweep.specs.declared.Shift.TheVariants.{By}
 use Rattle.sweep.specs.declared.Swept.TheVariants.{Refused, Into}
 use Rattle.sweep.specs.Sweep as sweep
 use Rattle.sweep.specs.Sweep.{candidates_in, moved, swept}
-use Rattle.sweep.proofs.Steps.{kept-moved}
+use Rattle.sweep.proofs.Steps.{kept_moved}
 use Rattle.oof_box.specs.Cut.{layout_after}
 use Rattle.oof_place.specs.declared.OofBoxLayout.{OofBoxLayout}
 use Rattle.oof_box.specs.declared.question.Replies.{Replies}
@@ -34,7 +34,7 @@ use Rattle.run.specs.Run.{box_at_hand, asking, proceeding, taken_by, is_wrong, r
 use Rattle.placer_check.specs.Verdict.{then_room}
 use Rattle.placer_check.specs.declared.Verdict.TheVariants.{Accepted}
 use Rattle.placer.specs.Entry.{AtHand, ReplyCleared}
-use Rattle.placer.proofs.Sweeps.{was-full, had-room, next-at-hand}
+use Rattle.placer.proofs.Sweeps.{was_full, had_room, next_at_hand}
 use Rattle.placer.proofs.Calls.{Passed, reply_passed, none_full}
 
 -- ---- the box is laid out
@@ -57,17 +57,17 @@ module _ (s : State) (overflow : Rect) (surfaced : List ℕ) (l : Lent) where
       → outcome step l.layouts w u ≡ settled
   unfolding ◌when◌else◌
   no_room r step w u h e =
-      let f = was-full s.opened.claims shift surfaced l s.counts.filled r w u h in
+      let f = was_full s.opened.claims shift surfaced l s.counts.filled r w u h in
       rw f.0 (outcome_is (e ∙ rw f.1 refl) refl f.2 f.3)
 
   -- the next box has its record and its style
-  pub next-box : (after : Filled) (w u : List ℕ) → Passed s (LaidOut overflow) surfaced l → sweep.Leaves (Into after) w u sweeping
+  pub next_box : (after : Filled) (w u : List ℕ) → Passed s (LaidOut overflow) surfaced l → sweep.Leaves (Into after) w u sweeping
       → s.counts.begun < after.working
       → AtHand l.styles w (s.counts.begun + 1)
-  next-box after w u p h more =
-      let f = had-room s.opened.claims shift surfaced l s.counts.filled after w u h in
+  next_box after w u p h more =
+      let f = had_room s.opened.claims shift surfaced l s.counts.filled after w u h in
       rw f.2
-      (next-at-hand s.opened.claims shift surfaced l s.counts.filled l.styles p.listed p.brought f.0 s.counts.begun
+      (next_at_hand s.opened.claims shift surfaced l s.counts.filled l.styles p.listed p.brought f.0 s.counts.begun
       (rw (sym (ap (λ (x : Filled). x.working) f.1)) more))
 
   pub placed : (after : Filled) (step : Step) (layouts w u : List ℕ) → sweep.Leaves (Into after) w u sweeping
@@ -76,9 +76,9 @@ module _ (s : State) (overflow : Rect) (surfaced : List ℕ) (l : Lent) where
       → outcome step layouts w u ≡ settled
   unfolding ◌when◌else◌ laid_out
   placed after step layouts w u h p e =
-      let f = had-room s.opened.claims shift surfaced l s.counts.filled after w u h in
+      let f = had_room s.opened.claims shift surfaced l s.counts.filled after w u h in
       rw f.0
-      (outcome_is (e ∙ rw (f.2, f.1, sym (kept-moved s.opened.claims true shift (candidates_in surfaced)), sym (kept-moved s.opened.claims false shift (candidates_in surfaced))) refl) p f.2 f.3)
+      (outcome_is (e ∙ rw (f.2, f.1, sym (kept_moved s.opened.claims true shift (candidates_in surfaced)), sym (kept_moved s.opened.claims false shift (candidates_in surfaced))) refl) p f.2 f.3)
 
 -- ---- a measured size lends no candidates
 
@@ -98,8 +98,8 @@ module _ (s : State) (reply : Reply) (surfaced : List ℕ) (l : Lent) where
   turned_down r step e p = rw e (outcome_is p refl refl refl)
 
   -- a reply that no test turned down was not wrong
-  pub not-wrong : {A : Type 0} → ReplyCleared s reply surfaced l → taken_by s reply ≡ Wrong → A
-  not-wrong e t = no (ap is_wrong t) (reply_passed s reply surfaced l e).taken
+  pub not_wrong : {A : Type 0} → ReplyCleared s reply surfaced l → taken_by s reply ≡ Wrong → A
+  not_wrong e t = no (ap is_wrong t) (reply_passed s reply surfaced l e).taken
 
   pub kept : (replies : Replies) (step : Step) → ReplyCleared s reply surfaced l → taken_by s reply ≡ Kept replies
       → step ≡ asking l.styles l.working s.opened (record { filled = s.counts.filled; begun = s.counts.begun; answered = s.counts.answered + 1 }) s.overflow replies
@@ -110,8 +110,8 @@ module _ (s : State) (reply : Reply) (surfaced : List ℕ) (l : Lent) where
       rw (e, t, kept_lends_none s reply replies surfaced t, none_full s.opened.claims l s.counts n)
       (outcome_is p refl refl refl)
 
-  pub cleared-laid : (overflow : Rect) → ReplyCleared s reply surfaced l → taken_by s reply ≡ Laid overflow → ReplyCleared s (LaidOut overflow) surfaced l
-  cleared-laid overflow e t = rw (laid_is s reply overflow t) at e
+  pub cleared_laid : (overflow : Rect) → ReplyCleared s reply surfaced l → taken_by s reply ≡ Laid overflow → ReplyCleared s (LaidOut overflow) surfaced l
+  cleared_laid overflow e t = rw (laid_is s reply overflow t) at e
 
   pub laid : (overflow : Rect) (step : Step) (layouts w u : List ℕ) → ReplyCleared s reply surfaced l → taken_by s reply ≡ Laid overflow
       → outcome step layouts w u ≡ settled s overflow surfaced l

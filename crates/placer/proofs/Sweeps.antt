@@ -21,14 +21,14 @@ use Rattle.sweep.specs.declared.Shift.TheVariants.{Unmoved}
 use Rattle.sweep.specs.declared.Swept.{Swept}
 use Rattle.sweep.specs.declared.Swept.TheVariants.{Refused, Into}
 use Rattle.sweep.specs.Sweep.{first_candidates, candidates_in, moved, keep, appended, Outcome, swept, Leaves}
-use Rattle.sweep.proofs.Steps.{full, into, no-room-in, no-room-out, room-both, kept-moved, appended_length}
+use Rattle.sweep.proofs.Steps.{full, into, no_room_in, no_room_out, room_both, kept_moved, appended_length}
 use Rattle.sweep.proofs.Laws.{swept_fits, kept_fits}
 use Rattle.run.specs.Call.{Lent}
 use Rattle.run.specs.Refusals.{list_full}
 use Rattle.placer_check.proofs.Verdicts.{neither}
 use Rattle.placer.specs.Entry.{AtHand}
 use Rattle.sweep.proofs.Listed.{AllBelow}
-use Rattle.placer.proofs.Nodes.{moved_below, keep_below, appended_below, item-words}
+use Rattle.placer.proofs.Nodes.{moved_below, keep_below, appended_below, item_words_lem}
 
 -- what a sweep answered
 refusal_of : Swept → Refusal
@@ -45,53 +45,53 @@ filled_of f (Into g) = g
 
 module _ (by : ContainingBlockClaims) (s : Shift) (ws : List ℕ) (l : Lent) (f : Filled) where
   -- the outcomes
-  abbrev pub whenFull : Outcome
-  whenFull = full by s (candidates_in ws) l.working l.unclaimed f
+  abbrev pub when_full : Outcome
+  when_full = full by s (candidates_in ws) l.working l.unclaimed f
 
-  abbrev pub whenRoom : Outcome
-  whenRoom = into by s (candidates_in ws) l.working l.unclaimed f
+  abbrev pub when_room : Outcome
+  when_room = into by s (candidates_in ws) l.working l.unclaimed f
 
-  by-full : swept by (map (moved s) (candidates_in ws)) l.working l.unclaimed f ≡ cond (list_full by l f ws) whenFull whenRoom
+  by_full : swept by (map (moved s) (candidates_in ws)) l.working l.unclaimed f ≡ cond (list_full by l f ws) when_full when_room
   unfolding list_full
-  by-full =
+  by_full =
       go (room candidate_width (length l.working) f.working (length (keep by true (candidates_in ws))))
       (room candidate_width (length l.unclaimed) f.unclaimed (length (keep by false (candidates_in ws)))) refl refl
     where
       go : (a b : Bool) → room candidate_width (length l.working) f.working (length (keep by true (candidates_in ws))) ≡ a
           → room candidate_width (length l.unclaimed) f.unclaimed (length (keep by false (candidates_in ws))) ≡ b
-          → swept by (map (moved s) (candidates_in ws)) l.working l.unclaimed f ≡ cond (not a || not b) whenFull whenRoom
-      go true true d e = room-both by s (candidates_in ws) l.working l.unclaimed f d e
-      go true false d e = no-room-out by s (candidates_in ws) l.working l.unclaimed f d e
-      go false b d e = no-room-in by s (candidates_in ws) l.working l.unclaimed f d
+          → swept by (map (moved s) (candidates_in ws)) l.working l.unclaimed f ≡ cond (not a || not b) when_full when_room
+      go true true d e = room_both by s (candidates_in ws) l.working l.unclaimed f d e
+      go true false d e = no_room_out by s (candidates_in ws) l.working l.unclaimed f d e
+      go false b d e = no_room_in by s (candidates_in ws) l.working l.unclaimed f d
 
-  pub was-full : (r : Refusal) (w u : List ℕ) → Leaves (Refused r) w u (swept by (map (moved s) (candidates_in ws)) l.working l.unclaimed f)
+  pub was_full : (r : Refusal) (w u : List ℕ) → Leaves (Refused r) w u (swept by (map (moved s) (candidates_in ws)) l.working l.unclaimed f)
       → (list_full by l f ws ≡ true) × (r ≡ ListFull) × (w ≡ l.working) × (u ≡ l.unclaimed)
   unfolding refusal_of is_into
-  was-full r w u h =
-      go (list_full by l f ws) (h.answer ∙ ap (λ (o : Outcome). o.answer) by-full) (h.working ∙ ap (λ (o : Outcome). o.working) by-full)
-      (h.unclaimed ∙ ap (λ (o : Outcome). o.unclaimed) by-full)
+  was_full r w u h =
+      go (list_full by l f ws) (h.answer ∙ ap (λ (o : Outcome). o.answer) by_full) (h.working ∙ ap (λ (o : Outcome). o.working) by_full)
+      (h.unclaimed ∙ ap (λ (o : Outcome). o.unclaimed) by_full)
     where
-      go : (b : Bool) → Refused r ≡ (cond b whenFull whenRoom).answer → w ≡ (cond b whenFull whenRoom).working
-          → u ≡ (cond b whenFull whenRoom).unclaimed → (b ≡ true) × (r ≡ ListFull) × (w ≡ l.working) × (u ≡ l.unclaimed)
+      go : (b : Bool) → Refused r ≡ (cond b when_full when_room).answer → w ≡ (cond b when_full when_room).working
+          → u ≡ (cond b when_full when_room).unclaimed → (b ≡ true) × (r ≡ ListFull) × (w ≡ l.working) × (u ≡ l.unclaimed)
       go true a p q = (refl, ap refusal_of a, p, q)
       go false a p q = absurd (let z : ◌≡◌ {A = ℕ} 0 1 = ap is_into a in omega arith)
 
-  pub had-room : (after : Filled) (w u : List ℕ) → Leaves (Into after) w u (swept by (map (moved s) (candidates_in ws)) l.working l.unclaimed f)
+  pub had_room : (after : Filled) (w u : List ℕ) → Leaves (Into after) w u (swept by (map (moved s) (candidates_in ws)) l.working l.unclaimed f)
       → (list_full by l f ws ≡ false)
       × (after ≡ record { working = f.working + length (keep by true (candidates_in ws)); unclaimed = f.unclaimed + length (keep by false (candidates_in ws)) })
-      × (w ≡ whenRoom.working)
-      × (u ≡ whenRoom.unclaimed)
+      × (w ≡ when_room.working)
+      × (u ≡ when_room.unclaimed)
   unfolding filled_of is_into
-  had-room after w u h =
-      go (list_full by l f ws) (h.answer ∙ ap (λ (o : Outcome). o.answer) by-full) (h.working ∙ ap (λ (o : Outcome). o.working) by-full)
-      (h.unclaimed ∙ ap (λ (o : Outcome). o.unclaimed) by-full)
+  had_room after w u h =
+      go (list_full by l f ws) (h.answer ∙ ap (λ (o : Outcome). o.answer) by_full) (h.working ∙ ap (λ (o : Outcome). o.working) by_full)
+      (h.unclaimed ∙ ap (λ (o : Outcome). o.unclaimed) by_full)
     where
-      go : (b : Bool) → Into after ≡ (cond b whenFull whenRoom).answer → w ≡ (cond b whenFull whenRoom).working
-          → u ≡ (cond b whenFull whenRoom).unclaimed
+      go : (b : Bool) → Into after ≡ (cond b when_full when_room).answer → w ≡ (cond b when_full when_room).working
+          → u ≡ (cond b when_full when_room).unclaimed
           → (b ≡ false)
           × (after ≡ record { working = f.working + length (keep by true (candidates_in ws)); unclaimed = f.unclaimed + length (keep by false (candidates_in ws)) })
-          × (w ≡ whenRoom.working)
-          × (u ≡ whenRoom.unclaimed)
+          × (w ≡ when_room.working)
+          × (u ≡ when_room.unclaimed)
       go true a p q = absurd (let z : ◌≡◌ {A = ℕ} 1 0 = ap is_into a in omega arith)
       go false a p q = (refl, ap (filled_of f) a, p, q)
 
@@ -103,17 +103,17 @@ module _ (by : ContainingBlockClaims) (s : Shift) (ws : List ℕ) (l : Lent) (f 
       (not-false _ (neither _ _ e).0)
 
   -- the box after i others
-  pub next-at-hand : (styles : List ℕ) → AllBelow (items styles) (first_candidates f.working l.working)
+  pub next_at_hand : (styles : List ℕ) → AllBelow (items styles) (first_candidates f.working l.working)
       → AllBelow (items styles) (candidates_in ws)
       → list_full by l f ws ≡ false
       → (i : ℕ) → i < f.working + length (keep by true (candidates_in ws))
-      → AtHand styles whenRoom.working (i + 1)
+      → AtHand styles when_room.working (i + 1)
   unfolding items
-  next-at-hand styles held more e i h =
+  next_at_hand styles held more e i h =
       record {
         first = omega arith;
-        listed = rw (back i, appended_length l.working f.working inside) (item-words candidate_width (length l.working) _ i (in_words_lem e) h);
-        styled = rw (back i) (item-words style_words (length styles) (items styles) _ (mul-div-le (length styles) style_words) below);
+        listed = rw (back i, appended_length l.working f.working inside) (item_words_lem candidate_width (length l.working) _ i (in_words_lem e) h);
+        styled = rw (back i) (item_words_lem style_words (length styles) (items styles) _ (mul-div-le (length styles) style_words) below);
       }
     where
       inside : List OofCandidate
@@ -123,7 +123,7 @@ module _ (by : ContainingBlockClaims) (s : Shift) (ws : List ℕ) (l : Lent) (f 
       back i = omega arith
 
       count : length inside ≡ length (keep by true (candidates_in ws))
-      count = kept-moved by true s (candidates_in ws)
+      count = kept_moved by true s (candidates_in ws)
 
       below : (candidate_of (record_at candidate_width (appended l.working f.working inside) i)).node < items styles
       below =

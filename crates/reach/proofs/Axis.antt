@@ -49,86 +49,86 @@ module _ (a : Axis) (o : ℕ) where
   abbrev end : ℤ
   end = a.start +ℤ a.size
 
-  abbrev areaEnd : ℤ
-  areaEnd = pos o +ℤ a.area
+  abbrev area_end : ℤ
+  area_end = pos o +ℤ a.area
 
   -- the later start before the earlier end: each start before each end
-  overlap-decided : (b c t : Bool) → lt_z a.start (pos o) ≡ b → lt_z areaEnd end ≡ c → lt_z (cond b (pos o) a.start) (cond c areaEnd end) ≡ t
+  overlap_decided : (b c t : Bool) → lt_z a.start (pos o) ≡ b → lt_z area_end end ≡ c → lt_z (cond b (pos o) a.start) (cond c area_end end) ≡ t
       → Decides t (Overlap a o)
-  overlap-decided true true true p q t =
+  overlap_decided true true true p q t =
       let s = add_is a.start a.size in
       let m = add_is (pos o) a.area in
       let h = lt_true a.start (pos o) p in
-      let k = lt_true areaEnd end q in
-      let l = lt_true (pos o) areaEnd t in
+      let k = lt_true area_end end q in
+      let l = lt_true (pos o) area_end t in
       record { holds = λ _. record { size = omega arith; area = omega arith; starts = omega arith; ends = omega arith }; fails = λ f. no {b = true} refl f }
-  overlap-decided true true false p q t =
+  overlap_decided true true false p q t =
       let s = add_is a.start a.size in
       let m = add_is (pos o) a.area in
       let h = lt_true a.start (pos o) p in
-      let k = lt_true areaEnd end q in
-      let l = lt_false (pos o) areaEnd t in
+      let k = lt_true area_end end q in
+      let l = lt_false (pos o) area_end t in
       record { holds = λ t. no {b = false} t refl; fails = λ _ v. let v1 = v.size in let v2 = v.area in let v3 = v.starts in let v4 = v.ends in absurd (omega arith) }
-  overlap-decided true false true p q t =
+  overlap_decided true false true p q t =
       let s = add_is a.start a.size in
       let m = add_is (pos o) a.area in
       let h = lt_true a.start (pos o) p in
-      let k = lt_false areaEnd end q in
+      let k = lt_false area_end end q in
       let l = lt_true (pos o) end t in
       record { holds = λ _. record { size = omega arith; area = omega arith; starts = omega arith; ends = omega arith }; fails = λ f. no {b = true} refl f }
-  overlap-decided true false false p q t =
+  overlap_decided true false false p q t =
       let s = add_is a.start a.size in
       let m = add_is (pos o) a.area in
       let h = lt_true a.start (pos o) p in
-      let k = lt_false areaEnd end q in
+      let k = lt_false area_end end q in
       let l = lt_false (pos o) end t in
       record { holds = λ t. no {b = false} t refl; fails = λ _ v. let v1 = v.size in let v2 = v.area in let v3 = v.starts in let v4 = v.ends in absurd (omega arith) }
-  overlap-decided false true true p q t =
+  overlap_decided false true true p q t =
       let s = add_is a.start a.size in
       let m = add_is (pos o) a.area in
       let h = lt_false a.start (pos o) p in
-      let k = lt_true areaEnd end q in
-      let l = lt_true a.start areaEnd t in
+      let k = lt_true area_end end q in
+      let l = lt_true a.start area_end t in
       record { holds = λ _. record { size = omega arith; area = omega arith; starts = omega arith; ends = omega arith }; fails = λ f. no {b = true} refl f }
-  overlap-decided false true false p q t =
+  overlap_decided false true false p q t =
       let s = add_is a.start a.size in
       let m = add_is (pos o) a.area in
       let h = lt_false a.start (pos o) p in
-      let k = lt_true areaEnd end q in
-      let l = lt_false a.start areaEnd t in
+      let k = lt_true area_end end q in
+      let l = lt_false a.start area_end t in
       record { holds = λ t. no {b = false} t refl; fails = λ _ v. let v1 = v.size in let v2 = v.area in let v3 = v.starts in let v4 = v.ends in absurd (omega arith) }
-  overlap-decided false false true p q t =
+  overlap_decided false false true p q t =
       let s = add_is a.start a.size in
       let m = add_is (pos o) a.area in
       let h = lt_false a.start (pos o) p in
-      let k = lt_false areaEnd end q in
+      let k = lt_false area_end end q in
       let l = lt_true a.start end t in
       record { holds = λ _. record { size = omega arith; area = omega arith; starts = omega arith; ends = omega arith }; fails = λ f. no {b = true} refl f }
-  overlap-decided false false false p q t =
+  overlap_decided false false false p q t =
       let s = add_is a.start a.size in
       let m = add_is (pos o) a.area in
       let h = lt_false a.start (pos o) p in
-      let k = lt_false areaEnd end q in
+      let k = lt_false area_end end q in
       let l = lt_false a.start end t in
       record { holds = λ t. no {b = false} t refl; fails = λ _ v. let v1 = v.size in let v2 = v.area in let v3 = v.starts in let v4 = v.ends in absurd (omega arith) }
 
-  pub shares-decided : Decides (shares a o) (Overlap a o)
+  pub shares_decided : Decides (shares a o) (Overlap a o)
   unfolding shares
-  shares-decided = overlap-decided (lt_z a.start (pos o)) (lt_z areaEnd end) _ refl refl refl
+  shares_decided = overlap_decided (lt_z a.start (pos o)) (lt_z area_end end) _ refl refl refl
 
 -- the same with `true` and `false`
 pub overlaps : (a : Axis) (o : ℕ) → shares a o ≡ true → Overlap a o
-overlaps a o e = (shares-decided a o).holds e
+overlaps a o e = (shares_decided a o).holds e
 
 pub apart : (a : Axis) (o : ℕ) → ¬ Overlap a o → shares a o ≡ false
-apart a o n = go (shares a o) (shares-decided a o)
+apart a o n = go (shares a o) (shares_decided a o)
   where
     go : (b : Bool) → Decides b (Overlap a o) → b ≡ false
     go true d = absurd (n (d.holds refl))
     go false d = refl
 
 pub together : (a : Axis) (o : ℕ) → Overlap a o → shares a o ≡ true
-together a o v = go (shares a o) (shares-decided a o)
+together a o v = go (shares a o) (shares_decided a o)
   where
     go : (b : Bool) → Decides b (Overlap a o) → b ≡ true
     go true d = refl
@@ -249,11 +249,11 @@ module _ (area start size : ℤ) (last : ℕ) where
   pub no_size : size ≤ℤ pos 0 → least axis ≡ Nowhere
   no_size h = none (λ o v. let k = le_from {x = size} {y = pos 0} h in let l = v.size in absurd (omega arith))
 
-  pub no-area : area ≤ℤ pos 0 → least axis ≡ Nowhere
-  no-area h = none (λ o v. let k = le_from {x = area} {y = pos 0} h in let l = v.area in absurd (omega arith))
+  pub no_area : area ≤ℤ pos 0 → least axis ≡ Nowhere
+  no_area h = none (λ o v. let k = le_from {x = area} {y = pos 0} h in let l = v.area in absurd (omega arith))
 
-  pub ends-before : (start +ℤ size) ≤ℤ pos 0 → least axis ≡ Nowhere
-  ends-before h =
+  pub ends_before : (start +ℤ size) ≤ℤ pos 0 → least axis ≡ Nowhere
+  ends_before h =
       none
       (λ o v. let s = add_is start size in
       let k = le_from {x = start +ℤ size} {y = pos 0} h in
@@ -264,8 +264,8 @@ module _ (area start size : ℤ) (last : ℕ) where
   abbrev first : ℤ
   first = start -ℤ area +ℤ pos 1
 
-  pub first-is : up first + off start + up area ≡ up start + off area + 1 + off first
-  first-is =
+  pub first_is : up first + off start + up area ≡ up start + off area + 1 + off first
+  first_is =
       let d = add_is start (neg_ℤ area) in
       let n = neg_is area in
       let s = add_is (start -ℤ area) (pos 1) in
@@ -277,7 +277,7 @@ module _ (area start size : ℤ) (last : ℕ) where
     where
       go : (up first ≡ 0) ⊎ (off first ≡ 0) → up first ≤ o
       go (inl e) = omega arith
-      go (inr e) = let f = first-is in let l = v.starts in omega arith
+      go (inr e) = let f = first_is in let l = v.starts in omega arith
 
   pub too_far : last < or_zero first → least axis ≡ Nowhere
   too_far h = (least_is axis Nowhere).1 (λ o k. apart axis o (λ v. let n = not_before o v in absurd (omega arith)))
@@ -289,14 +289,14 @@ module _ (area start size : ℤ) (last : ℕ) where
     where
       go : (up first ≡ 0) ⊎ (off first ≡ 0) → Overlap axis (up first)
       go (inl z) =
-          let f = first-is in
+          let f = first_is in
           let t = add_is start size in
           let k = lt_from {x = pos 0} {y = size} hs in
           let l = lt_from {x = pos 0} {y = area} ha in
           let m = lt_from {x = pos 0} {y = start +ℤ size} he in
           record { size = omega arith; area = omega arith; starts = omega arith; ends = omega arith }
       go (inr z) =
-          let f = first-is in
+          let f = first_is in
           let t = add_is start size in
           let k = lt_from {x = pos 0} {y = size} hs in
           let l = lt_from {x = pos 0} {y = area} ha in

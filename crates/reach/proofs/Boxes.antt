@@ -97,52 +97,52 @@ module _ (c : ContainingBlock) (overflow : Rect) (box : Layout) where
   abbrev all : Bool
   all = all_accepted (numbers_of c.area overflow box)
 
-  abbrev x-axis : Axis
-  x-axis = across c overflow box
+  abbrev x_axis : Axis
+  x_axis = across c overflow box
 
-  abbrev y-axis : Axis
-  y-axis = down c overflow box
+  abbrev y_axis : Axis
+  y_axis = down c overflow box
 
-  in-eighths : all ≡ true → AllInEighths c overflow box
-  in-eighths e = (numbers_decided c.area overflow box).fails (ap not e)
+  in_eighths_lem : all ≡ true → AllInEighths c overflow box
+  in_eighths_lem e = (numbers_decided c.area overflow box).fails (ap not e)
 
-  accepted-all : AllInEighths c overflow box → all ≡ true
-  accepted-all n = go all refl
+  accepted_all : AllInEighths c overflow box → all ≡ true
+  accepted_all n = go all refl
     where
       go : (b : Bool) → all ≡ b → b ≡ true
       go true e = refl
       go false e = absurd (n ((numbers_decided c.area overflow box).holds (ap not e)))
 
-  box-told : box_reached c overflow box ≡ told all (least x-axis) (least y-axis)
+  box_told : box_reached c overflow box ≡ told all (least x_axis) (least y_axis)
   unfolding box_reached
-  box-told = refl
+  box_told = refl
 
   module _ (x y : ℕ) where
-    pub seen-least : box_reached c overflow box ≡ Seen x y → (all ≡ true) × IsLeast x-axis (At x) × IsLeast y-axis (At y)
-    seen-least e =
-        let s = seen_from x y all (least x-axis) (least y-axis) (sym box-told ∙ e) in
-        (s.0, (least_is x-axis (At x)).0 s.1, (least_is y-axis (At y)).0 s.2)
+    pub seen_least : box_reached c overflow box ≡ Seen x y → (all ≡ true) × IsLeast x_axis (At x) × IsLeast y_axis (At y)
+    seen_least e =
+        let s = seen_from x y all (least x_axis) (least y_axis) (sym box_told ∙ e) in
+        (s.0, (least_is x_axis (At x)).0 s.1, (least_is y_axis (At y)).0 s.2)
 
-    patch : IsLeast x-axis (At x) → IsLeast y-axis (At y) → SharesPatch c overflow box x y
-    patch f g = record { offsetAcross = f.0; offsetDown = g.0; width = f.1; height = g.1 }
+    patch : IsLeast x_axis (At x) → IsLeast y_axis (At y) → SharesPatch c overflow box x y
+    patch f g = record { offset_across = f.0; offset_down = g.0; width = f.1; height = g.1 }
 
-    least-across : SharesPatch c overflow box x y → ((i j : ℕ) → SharesPatch c overflow box i j → (x ≤ i) × (y ≤ j)) → IsLeast x-axis (At x)
-    least-across s f =
-        (s.offsetAcross, s.width, λ i h. is_false (shares x-axis i) (λ e. let k = (f i y (record { offsetAcross = let l = s.offsetAcross in omega arith; offsetDown = s.offsetDown; width = e; height = s.height })).0 in absurd (omega arith)))
+    least_across : SharesPatch c overflow box x y → ((i j : ℕ) → SharesPatch c overflow box i j → (x ≤ i) × (y ≤ j)) → IsLeast x_axis (At x)
+    least_across s f =
+        (s.offsetAcross, s.width, λ i h. is_false (shares x_axis i) (λ e. let k = (f i y (record { offset_across = let l = s.offsetAcross in omega arith; offset_down = s.offsetDown; width = e; height = s.height })).0 in absurd (omega arith)))
 
-    least-down : SharesPatch c overflow box x y → ((i j : ℕ) → SharesPatch c overflow box i j → (x ≤ i) × (y ≤ j)) → IsLeast y-axis (At y)
-    least-down s f =
-        (s.offsetDown, s.height, λ j h. is_false (shares y-axis j) (λ e. let k = (f x j (record { offsetAcross = s.offsetAcross; offsetDown = let l = s.offsetDown in omega arith; width = s.width; height = e })).1 in absurd (omega arith)))
+    least_down : SharesPatch c overflow box x y → ((i j : ℕ) → SharesPatch c overflow box i j → (x ≤ i) × (y ≤ j)) → IsLeast y_axis (At y)
+    least_down s f =
+        (s.offsetDown, s.height, λ j h. is_false (shares y_axis j) (λ e. let k = (f x j (record { offset_across = s.offsetAcross; offset_down = let l = s.offsetDown in omega arith; width = s.width; height = e })).1 in absurd (omega arith)))
 
-    both-least : all ≡ true → IsLeast x-axis (At x) → IsLeast y-axis (At y) → box_reached c overflow box ≡ Seen x y
-    both-least e f g = box-told ∙ rw (e, (least_is x-axis (At x)).1 f, (least_is y-axis (At y)).1 g) refl
+    both_least : all ≡ true → IsLeast x_axis (At x) → IsLeast y_axis (At y) → box_reached c overflow box ≡ Seen x y
+    both_least e f g = box_told ∙ rw (e, (least_is x_axis (At x)).1 f, (least_is y_axis (At y)).1 g) refl
 
   -- on an axis with no offset that does, no pair does
-  no-pair : (least x-axis ≡ Nowhere) ⊎ (least y-axis ≡ Nowhere) → (i j : ℕ) → ¬ SharesPatch c overflow box i j
-  no-pair (inl e) i j s = no s.width ((least_is x-axis Nowhere).0 e i s.offsetAcross)
-  no-pair (inr e) i j s = no s.height ((least_is y-axis Nowhere).0 e j s.offsetDown)
+  no_pair : (least x_axis ≡ Nowhere) ⊎ (least y_axis ≡ Nowhere) → (i j : ℕ) → ¬ SharesPatch c overflow box i j
+  no_pair (inl e) i j s = no s.width ((least_is x_axis Nowhere).0 e i s.offsetAcross)
+  no_pair (inr e) i j s = no s.height ((least_is y_axis Nowhere).0 e j s.offsetDown)
 
-  none_told : ((i j : ℕ) → ¬ SharesPatch c overflow box i j) → (p q : Offset) → IsLeast x-axis p → IsLeast y-axis q → told true p q ≡ Unseen
+  none_told : ((i j : ℕ) → ¬ SharesPatch c overflow box i j) → (p q : Offset) → IsLeast x_axis p → IsLeast y_axis q → told true p q ≡ Unseen
   none_told n Nowhere q f g = refl
   none_told n (At x) Nowhere f g = refl
   none_told n (At x) (At y) f g = absurd (n x y (patch x y f g))
@@ -150,13 +150,13 @@ module _ (c : ContainingBlock) (overflow : Rect) (box : Layout) where
 pub seen_shares : (c : ContainingBlock) (overflow : Rect) (box : Layout) (x y : ℕ)
     → (box_reached c overflow box ≡ Seen x y)
     ↔ (AllInEighths c overflow box × SharesPatch c overflow box x y × ((i j : ℕ) → SharesPatch c overflow box i j → (x ≤ i) × (y ≤ j)))
-seen_shares c overflow box x y = (there, λ h. both-least c overflow box x y (accepted-all c overflow box h.0) (least-across c overflow box x y h.1 h.2) (least-down c overflow box x y h.1 h.2))
+seen_shares c overflow box x y = (there, λ h. both_least c overflow box x y (accepted_all c overflow box h.0) (least_across c overflow box x y h.1 h.2) (least_down c overflow box x y h.1 h.2))
   where
     there : box_reached c overflow box ≡ Seen x y
         → AllInEighths c overflow box × SharesPatch c overflow box x y × ((i j : ℕ) → SharesPatch c overflow box i j → (x ≤ i) × (y ≤ j))
     there e =
-        let s = seen-least c overflow box x y e in (
-          in-eighths c overflow box s.0,
+        let s = seen_least c overflow box x y e in (
+          in_eighths_lem c overflow box s.0,
           patch c overflow box x y s.1 s.2,
           λ i j p. (at_least (across c overflow box) x i s.1 p.width, at_least (down c overflow box) y j s.2 p.height),
         )
@@ -167,26 +167,26 @@ unseen_shares c overflow box = (there, back)
   where
     there : box_reached c overflow box ≡ Unseen → AllInEighths c overflow box × ((i j : ℕ) → ¬ SharesPatch c overflow box i j)
     there e =
-        let s = unseen_from (all_accepted (numbers_of c.area overflow box)) (least (across c overflow box)) (least (down c overflow box)) (sym (box-told c overflow box) ∙ e) in
-        (in-eighths c overflow box s.0, no-pair c overflow box s.1)
+        let s = unseen_from (all_accepted (numbers_of c.area overflow box)) (least (across c overflow box)) (least (down c overflow box)) (sym (box_told c overflow box) ∙ e) in
+        (in_eighths_lem c overflow box s.0, no_pair c overflow box s.1)
 
     back : AllInEighths c overflow box × ((i j : ℕ) → ¬ SharesPatch c overflow box i j) → box_reached c overflow box ≡ Unseen
     back h =
-        box-told c overflow box
-        ∙ rw (accepted-all c overflow box h.0) (none_told c overflow box h.1 (least (across c overflow box)) (least (down c overflow box)) (least_found (across c overflow box)) (least_found (down c overflow box)))
+        box_told c overflow box
+        ∙ rw (accepted_all c overflow box h.0) (none_told c overflow box h.1 (least (across c overflow box)) (least (down c overflow box)) (least_found (across c overflow box)) (least_found (down c overflow box)))
 
 pub box_refused_exactly : BoxRefusedExactly
 box_refused_exactly c rectangle box r = (there, back)
   where
     there : box_reached c rectangle box ≡ Refused r → (r ≡ NotInEighths) × NotInEighthsHere c.area rectangle box
     there e =
-        let s = refused_from r (all c rectangle box) (least (across c rectangle box)) (least (down c rectangle box)) (sym (box-told c rectangle box) ∙ e) in
+        let s = refused_from r (all c rectangle box) (least (across c rectangle box)) (least (down c rectangle box)) (sym (box_told c rectangle box) ∙ e) in
         (s.0, (numbers_decided c.area rectangle box).holds (ap not s.1))
 
     back : (r ≡ NotInEighths) × NotInEighthsHere c.area rectangle box → box_reached c rectangle box ≡ Refused r
     back h =
-        box-told c rectangle box
-        ∙ rw (is_false (all c rectangle box) (λ e. in-eighths c rectangle box e h.1)) (ap Refused (sym h.0))
+        box_told c rectangle box
+        ∙ rw (is_false (all c rectangle box) (λ e. in_eighths_lem c rectangle box e h.1)) (ap Refused (sym h.0))
 
 -- ---- how far an offset can be
 
@@ -211,5 +211,5 @@ near d overflow area offset at size far o h e = go ((last_offset_is overflow far
 
 pub offsets_are_small : OffsetsAreSmall
 offsets_are_small c overflow box x y e =
-    let s = seen-least c overflow box x y e in
+    let s = seen_least c overflow box x y e in
     (near _ _ _ _ _ _ _ x s.1.0 s.1.1, near _ _ _ _ _ _ _ y s.2.0 s.2.1)

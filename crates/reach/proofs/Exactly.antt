@@ -71,25 +71,25 @@ module _ (place : ℕ) (s : State) (lent : Lent) where
   abbrev box : Layout
   box = layout_at lent.layouts lent.working place
 
-  abbrev noBox : Bool
-  noBox = leb s.counts.filled.working place
+  abbrev no_box : Bool
+  no_box = leb s.counts.filled.working place
 
-  reached-goes : GoesBy (reached place s lent) (tested_then s lent noBox (own_verdict s box))
+  reached_goes : GoesBy (reached place s lent) (tested_then s lent no_box (own_verdict s box))
   unfolding reached
-  reached-goes =
-      rw (sym (tested_after s lent noBox (own_verdict s box)))
-      (goes_after (finished_verdict s lent noBox) (own_verdict s box) (box_reached s.opened.container s.overflow box) (box_goes s box))
+  reached_goes =
+      rw (sym (tested_after s lent no_box (own_verdict s box)))
+      (goes_after (finished_verdict s lent no_box) (own_verdict s box) (box_reached s.opened.container s.overflow box) (box_goes s box))
 
-  reach-says : Says (tested_then s lent noBox (own_verdict s box)) (reach_tests place s lent)
-  reach-says =
+  reach_says : Says (tested_then s lent no_box (own_verdict s box)) (reach_tests place s lent)
+  reach_says =
       tested_says s lent (at_most s.counts.filled.working place)
       (then NotInEighths (numbers_decided s.opened.container.area s.overflow box) (λ _. no_more))
 
 pub refused_exactly : RefusedExactly
-refused_exactly place s lent r = Iff.trans ((reached-goes place s lent).refusal r) (refused_first r (reach-says place s lent))
+refused_exactly place s lent r = Iff.trans ((reached_goes place s lent).refusal r) (refused_first r (reach_says place s lent))
 
 pub answered_exactly : AnsweredExactly
-answered_exactly place s lent = Iff.trans (reached-goes place s lent).none (accepted_none (reach-says place s lent))
+answered_exactly place s lent = Iff.trans (reached_goes place s lent).none (accepted_none (reach_says place s lent))
 
 -- what is accepted before and after is answered as it is
 answer_after : (v w : Verdict) (a : Reached) → after v w ≡ accepted → answered_by v a ≡ a
@@ -99,5 +99,5 @@ answer_after (refused r) w a e = no {b = true} refl (ap is_accepted (sym e))
 pub answer_is : AnswerIs
 unfolding reached
 answer_is place s lent n =
-    answer_after (finished_verdict s lent (noBox place s lent)) (own_verdict s (box place s lent)) (box_reached s.opened.container s.overflow (box place s lent))
-    (tested_after s lent (noBox place s lent) (own_verdict s (box place s lent)) ∙ (accepted_none (reach-says place s lent)).1 n)
+    answer_after (finished_verdict s lent (no_box place s lent)) (own_verdict s (box place s lent)) (box_reached s.opened.container s.overflow (box place s lent))
+    (tested_after s lent (no_box place s lent) (own_verdict s (box place s lent)) ∙ (accepted_none (reach_says place s lent)).1 n)

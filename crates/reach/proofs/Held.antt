@@ -34,8 +34,8 @@ module _ (n : ℤ) (e : lt_z n (pos 0) ≡ false) where
       go (pos n) e h = (tt, record { fits = omega arith })
       go (negsuc n) e h = no {b = true} refl e
 
-  pub or-zero-is : nat_abs n ≡ or_zero n
-  or-zero-is = go n e
+  pub or_zero_is : nat_abs n ≡ or_zero n
+  or_zero_is = go n e
     where
       go : (n : ℤ) → lt_z n (pos 0) ≡ false → nat_abs n ≡ or_zero n
       go (pos n) e = refl
@@ -53,21 +53,21 @@ above_zero (negsuc n) e = no {b = true} refl e
 -- ---- where a box starts
 
 module _ (area left size : ℤ) (a : nat_abs area ≤ 9999999) (l : nat_abs left ≤ 19999998) (s : nat_abs size ≤ 9999999) where
-  rest-within : Within 29999997 (area -ℤ left)
-  rest-within = less_within area left 9999999 19999998 (abs_within 9999999 area a) (abs_within 19999998 left l)
+  rest_within : Within 29999997 (area -ℤ left)
+  rest_within = less_within area left 9999999 19999998 (abs_within 9999999 area a) (abs_within 19999998 left l)
 
-  pub rest-fits : SFits w64 (area -ℤ left)
-  rest-fits = fits_within (area -ℤ left) (more 29999997 49999996 (area -ℤ left) (lit≤ tt) rest-within)
+  pub rest_fits : SFits w64 (area -ℤ left)
+  rest_fits = fits_within (area -ℤ left) (more 29999997 49999996 (area -ℤ left) (lit≤ tt) rest_within)
 
-  right-within : Within 39999996 (area -ℤ left -ℤ size)
-  right-within = less_within (area -ℤ left) size 29999997 9999999 rest-within (abs_within 9999999 size s)
+  right_within : Within 39999996 (area -ℤ left -ℤ size)
+  right_within = less_within (area -ℤ left) size 29999997 9999999 rest_within (abs_within 9999999 size s)
 
-  pub right-fits : SFits w64 (area -ℤ left -ℤ size)
-  right-fits = fits_within (area -ℤ left -ℤ size) (more 39999996 49999996 (area -ℤ left -ℤ size) (lit≤ tt) right-within)
+  pub right_fits : SFits w64 (area -ℤ left -ℤ size)
+  right_fits = fits_within (area -ℤ left -ℤ size) (more 39999996 49999996 (area -ℤ left -ℤ size) (lit≤ tt) right_within)
 
-  pub start-within : (d : Direction) → Within 39999996 (from_start d area left size)
-  start-within Ltr = more 19999998 39999996 left (lit≤ tt) (abs_within 19999998 left l)
-  start-within Rtl = right-within
+  pub start_within : (d : Direction) → Within 39999996 (from_start d area left size)
+  start_within Ltr = more 19999998 39999996 left (lit≤ tt) (abs_within 19999998 left l)
+  start_within Rtl = right_within
 
 -- ---- the sums of the least offset
 
@@ -78,20 +78,20 @@ module _ (area start size : ℤ) (a : nat_abs area ≤ 9999999) (t : nat_abs sta
       (more 49999995 49999996 (start +ℤ size) (lit≤ tt)
       (plus_within start size 39999996 9999999 (abs_within 39999996 start t) (abs_within 9999999 size s)))
 
-  past-within : Within 49999995 (start -ℤ area)
-  past-within = less_within start area 39999996 9999999 (abs_within 39999996 start t) (abs_within 9999999 area a)
+  past_within : Within 49999995 (start -ℤ area)
+  past_within = less_within start area 39999996 9999999 (abs_within 39999996 start t) (abs_within 9999999 area a)
 
   pub past_fits : SFits w64 (start -ℤ area)
-  past_fits = fits_within (start -ℤ area) (more 49999995 49999996 (start -ℤ area) (lit≤ tt) past-within)
+  past_fits = fits_within (start -ℤ area) (more 49999995 49999996 (start -ℤ area) (lit≤ tt) past_within)
 
-  first-within : Within 49999996 (start -ℤ area +ℤ pos 1)
-  first-within = plus_within (start -ℤ area) (pos 1) 49999995 1 past-within (lit≤ tt, lit≤ tt)
+  first_within : Within 49999996 (start -ℤ area +ℤ pos 1)
+  first_within = plus_within (start -ℤ area) (pos 1) 49999995 1 past_within (lit≤ tt, lit≤ tt)
 
   pub first_fits : SFits w64 (start -ℤ area +ℤ pos 1)
-  first_fits = fits_within (start -ℤ area +ℤ pos 1) first-within
+  first_fits = fits_within (start -ℤ area +ℤ pos 1) first_within
 
   pub first_small : nat_abs (start -ℤ area +ℤ pos 1) ≤ 49999996
-  first_small = within_abs 49999996 (start -ℤ area +ℤ pos 1) first-within
+  first_small = within_abs 49999996 (start -ℤ area +ℤ pos 1) first_within
 
 -- ---- a number of eighths, and the difference of two
 
@@ -99,17 +99,17 @@ pub eighths_small : (x : Float) → nat_abs (in_eighths x) ≤ 9999999
 eighths_small x = within_abs 9999999 (in_eighths x) (eighths_within x)
 
 module _ (x y : Float) where
-  apart-within : Within 19999998 (in_eighths x -ℤ in_eighths y)
-  apart-within = less_within (in_eighths x) (in_eighths y) 9999999 9999999 (eighths_within x) (eighths_within y)
+  apart_within : Within 19999998 (in_eighths x -ℤ in_eighths y)
+  apart_within = less_within (in_eighths x) (in_eighths y) 9999999 9999999 (eighths_within x) (eighths_within y)
 
-  pub apart-small : nat_abs (in_eighths x -ℤ in_eighths y) ≤ 19999998
-  apart-small = within_abs 19999998 (in_eighths x -ℤ in_eighths y) apart-within
+  pub apart_small : nat_abs (in_eighths x -ℤ in_eighths y) ≤ 19999998
+  apart_small = within_abs 19999998 (in_eighths x -ℤ in_eighths y) apart_within
 
   pub apart_fits : SFits w64 (in_eighths x -ℤ in_eighths y)
-  apart_fits = fits_within (in_eighths x -ℤ in_eighths y) (more 19999998 49999996 (in_eighths x -ℤ in_eighths y) (lit≤ tt) apart-within)
+  apart_fits = fits_within (in_eighths x -ℤ in_eighths y) (more 19999998 49999996 (in_eighths x -ℤ in_eighths y) (lit≤ tt) apart_within)
 
-  pub apart-smaller : nat_abs (in_eighths x -ℤ in_eighths y) ≤ 49999996
-  apart-smaller = let h = apart-small in omega arith
+  pub apart_smaller : nat_abs (in_eighths x -ℤ in_eighths y) ≤ 49999996
+  apart_smaller = let h = apart_small in omega arith
 
 -- ---- where a box of these floats starts
 
@@ -117,11 +117,11 @@ module _ (d : Direction) (area offset at size : Float) where
   abbrev start : ℤ
   start = from_start d (in_eighths area) (in_eighths at -ℤ in_eighths offset) (in_eighths size)
 
-  along-within : Within 39999996 start
-  along-within = start-within (in_eighths area) (in_eighths at -ℤ in_eighths offset) (in_eighths size) (eighths_small area) (apart-small at offset) (eighths_small size) d
+  along_within : Within 39999996 start
+  along_within = start_within (in_eighths area) (in_eighths at -ℤ in_eighths offset) (in_eighths size) (eighths_small area) (apart_small at offset) (eighths_small size) d
 
-  pub along-small : nat_abs start ≤ 39999996
-  along-small = within_abs 39999996 start along-within
+  pub along_small : nat_abs start ≤ 39999996
+  along_small = within_abs 39999996 start along_within
 
-  pub along-fits : SFits w64 start
-  along-fits = fits_within start (more 39999996 49999996 start (lit≤ tt) along-within)
+  pub along_fits : SFits w64 start
+  along_fits = fits_within start (more 39999996 49999996 start (lit≤ tt) along_within)

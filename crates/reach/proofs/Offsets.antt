@@ -18,7 +18,7 @@ use Rattle.reach.specs.declared.Offset.{Offset}
 use Rattle.reach.specs.declared.Offset.TheVariants.{Nowhere, At}
 use Rattle.reach.specs.Reach.{Axis, least, or_zero, last_offset}
 use Rattle.reach.specs.Laws.{NoSize, EndsBefore, first_past, LeastWorkedOut, NowhereWorkedOut, LastOffsetIs, StillAxis, HeldAxis}
-use Rattle.reach.proofs.Axis.{lt_true, lt_false, one_sided, or_zero_up, no_size, no-area, ends-before, first-is, too_far, at_first}
+use Rattle.reach.proofs.Axis.{lt_true, lt_false, one_sided, or_zero_up, no_size, no_area, ends_before, first_is, too_far, at_first}
 use Rattle.reach.proofs.Held.{at_most_zero, above_zero}
 
 -- ---- the last offset
@@ -92,8 +92,8 @@ first a = a.start -ℤ a.area +ℤ pos 1
 
 none_or : (a : Axis) → NoSize a ⊎ EndsBefore a → least a ≡ Nowhere
 none_or a (inl (inl h)) = no_size a.area a.start a.size a.last h
-none_or a (inl (inr h)) = no-area a.area a.start a.size a.last h
-none_or a (inr h) = ends-before a.area a.start a.size a.last h
+none_or a (inl (inr h)) = no_area a.area a.start a.size a.last h
+none_or a (inr h) = ends_before a.area a.start a.size a.last h
 
 -- not where it could be seen and the offset is there
 not_nowhere : (a : Axis) → Ahead a → or_zero (first a) ≤ a.last → ¬ (least a ≡ Nowhere)
@@ -115,7 +115,7 @@ still_axis a e = (λ n. there n (ahead_or_not a), back)
             at (inl z) = let u = or_zero_up (first a) in omega arith
             at (inr z) =
                 let l = lt_true a.start a.area t in
-                let f = first-is a.area a.start a.size a.last in
+                let f = first_is a.area a.start a.size a.last in
                 let u = or_zero_up (first a) in
                 omega arith
         go false t = let l = lt_false a.start a.area t in inr (inr (le_to a.area a.start (omega arith)))
@@ -125,7 +125,7 @@ still_axis a e = (λ n. there n (ahead_or_not a), back)
     back (inr (inl h)) = none_or a (inr h)
     back (inr (inr h)) =
         let l = le_from {x = a.area} {y = a.start} h in
-        let f = first-is a.area a.start a.size a.last in
+        let f = first_is a.area a.start a.size a.last in
         let u = or_zero_up (first a) in
         too_far a.area a.start a.size a.last (omega arith)
 
@@ -139,7 +139,7 @@ held_axis a far end these = (λ n. there n (ahead_or_not a), none_or a)
         at : (up (first a) ≡ 0) ⊎ (off (first a) ≡ 0) → (up (first a) ≡ 0) ⊎ (pos (up (first a)) ≤ℤ (far -ℤ a.area))
         at (inl z) = inl z
         at (inr z) =
-            let f = first-is a.area a.start a.size a.last in
+            let f = first_is a.area a.start a.size a.last in
             let s = add_is a.start a.size in
             let k = le_from {x = a.start +ℤ a.size} {y = far} end in
             let l = lt_from {x = pos 0} {y = a.size} h.0 in

@@ -37,8 +37,8 @@ module _ (area size : Float) (begins : ℤ) (last o : ℕ) where
   axis d = record { area = A; start = from_start d A begins S; size = S; last = last }
 
   -- left-to-right the eighth at t is at t - o of the view
-  ltr-shown : (t : ℤ) → SharesAnEighth (axis Ltr) o t → Shown Ltr area begins size o
-  ltr-shown t g =
+  ltr_shown : (t : ℤ) → SharesAnEighth (axis Ltr) o t → Shown Ltr area begins size o
+  ltr_shown t g =
       let b = add_is begins (neg_ℤ (pos o)) in
       let n = neg_is (pos o) in
       let e = add_is begins S in
@@ -56,8 +56,8 @@ module _ (area size : Float) (begins : ℤ) (last o : ℕ) where
         (le_to (begins -ℤ pos o) (t -ℤ pos o) (omega arith), le_to (t -ℤ pos o +ℤ pos 1) (begins -ℤ pos o +ℤ S) (omega arith)),
       )
 
-  ltr-shared : Shown Ltr area begins size o → (t : ℤ) × SharesAnEighth (axis Ltr) o t
-  ltr-shared g =
+  ltr_shared : Shown Ltr area begins size o → (t : ℤ) × SharesAnEighth (axis Ltr) o t
+  ltr_shared g =
       let z = g.0 in
       let b = add_is begins (neg_ℤ (pos o)) in
       let n = neg_is (pos o) in
@@ -91,18 +91,18 @@ module _ (area size : Float) (begins : ℤ) (last o : ℕ) where
   abbrev turned : ℤ → ℤ
   turned t = A +ℤ pos o -ℤ (t +ℤ pos 1)
 
-  turned-is : (t : ℤ) → up (turned t) + up t + 1 + off A ≡ up A + o + off t + off (turned t)
-  turned-is t =
+  turned_is : (t : ℤ) → up (turned t) + up t + 1 + off A ≡ up A + o + off t + off (turned t)
+  turned_is t =
       let n = neg_is (t +ℤ pos 1) in
       let s = add_is t (pos 1) in
       let m = add_is A (pos o) in
       let d = add_is (A +ℤ pos o) (neg_ℤ (t +ℤ pos 1)) in
       omega arith
 
-  rtl-shown : (t : ℤ) → SharesAnEighth (axis Rtl) o t → Shown Rtl area begins size o
-  rtl-shown t g =
+  rtl_shown : (t : ℤ) → SharesAnEighth (axis Rtl) o t → Shown Rtl area begins size o
+  rtl_shown t g =
       let s = start_is in
-      let r = turned-is t in
+      let r = turned_is t in
       let e = add_is start S in
       let m = add_is (pos o) A in
       let w = add_is t (pos 1) in
@@ -118,11 +118,11 @@ module _ (area size : Float) (begins : ℤ) (last o : ℕ) where
         (le_to (begins +ℤ pos o) (turned t) (omega arith), le_to (turned t +ℤ pos 1) (begins +ℤ pos o +ℤ S) (omega arith)),
       )
 
-  rtl-shared : Shown Rtl area begins size o → (t : ℤ) × SharesAnEighth (axis Rtl) o t
-  rtl-shared g =
+  rtl_shared : Shown Rtl area begins size o → (t : ℤ) × SharesAnEighth (axis Rtl) o t
+  rtl_shared g =
       let z = g.0 in
       let s = start_is in
-      let r = turned-is z in
+      let r = turned_is z in
       let e = add_is start S in
       let m = add_is (pos o) A in
       let w = add_is z (pos 1) in
@@ -137,21 +137,21 @@ module _ (area size : Float) (begins : ℤ) (last o : ℕ) where
         (le_to start (turned z) (omega arith), le_to (turned z +ℤ pos 1) (start +ℤ S) (omega arith), le_to (pos o) (turned z) (omega arith), le_to (turned z +ℤ pos 1) (pos o +ℤ A) (omega arith)),
       )
 
-  eighth-shown : (d : Direction) → (shares (axis d) o ≡ true) ↔ Shown d area begins size o
-  eighth-shown Ltr =
-      (λ e. let t = (shares_means (axis Ltr) o).0 e in ltr-shown t.0 t.1, λ s. (shares_means (axis Ltr) o).1 (ltr-shared s))
-  eighth-shown Rtl =
-      (λ e. let t = (shares_means (axis Rtl) o).0 e in rtl-shown t.0 t.1, λ s. (shares_means (axis Rtl) o).1 (rtl-shared s))
+  eighth_shown : (d : Direction) → (shares (axis d) o ≡ true) ↔ Shown d area begins size o
+  eighth_shown Ltr =
+      (λ e. let t = (shares_means (axis Ltr) o).0 e in ltr_shown t.0 t.1, λ s. (shares_means (axis Ltr) o).1 (ltr_shared s))
+  eighth_shown Rtl =
+      (λ e. let t = (shares_means (axis Rtl) o).0 e in rtl_shown t.0 t.1, λ s. (shares_means (axis Rtl) o).1 (rtl_shared s))
 
 -- an axis: its offsets, and where it shares
 module _ (d : Direction) (code : Overflow) (area offset at size far : Float) (o : ℕ) where
-  along-offset : (o ≤ (axis_of d code area offset at size far).last) ↔ IsOffset code far area o
+  along_offset : (o ≤ (axis_of d code area offset at size far).last) ↔ IsOffset code far area o
   unfolding axis_of
-  along-offset = last_offset_is code far area o
+  along_offset = last_offset_is code far area o
 
-  along-shown : (shares (axis_of d code area offset at size far) o ≡ true) ↔ Shown d area (in_eighths at -ℤ in_eighths offset) size o
+  along_shown : (shares (axis_of d code area offset at size far) o ≡ true) ↔ Shown d area (in_eighths at -ℤ in_eighths offset) size o
   unfolding axis_of
-  along-shown = eighth-shown area size (in_eighths at -ℤ in_eighths offset) _ o d
+  along_shown = eighth_shown area size (in_eighths at -ℤ in_eighths offset) _ o d
 
 pub patch_is_shown : PatchIsShown
 patch_is_shown c rectangle box x y = (there, back)
@@ -159,19 +159,19 @@ patch_is_shown c rectangle box x y = (there, back)
     there : SharesPatch c rectangle box x y → ShowsPatch c rectangle box x y
     there s =
         record {
-          offsetAcross = (along-offset _ _ _ _ _ _ _ x).0 s.offsetAcross;
-          offsetDown = (along-offset _ _ _ _ _ _ _ y).0 s.offsetDown;
-          width = (along-shown _ _ _ _ _ _ _ x).0 s.width;
-          height = (along-shown _ _ _ _ _ _ _ y).0 s.height;
+          offset_across = (along_offset _ _ _ _ _ _ _ x).0 s.offsetAcross;
+          offset_down = (along_offset _ _ _ _ _ _ _ y).0 s.offsetDown;
+          width = (along_shown _ _ _ _ _ _ _ x).0 s.width;
+          height = (along_shown _ _ _ _ _ _ _ y).0 s.height;
         }
 
     back : ShowsPatch c rectangle box x y → SharesPatch c rectangle box x y
     back s =
         record {
-          offsetAcross = (along-offset _ _ _ _ _ _ _ x).1 s.offsetAcross;
-          offsetDown = (along-offset _ _ _ _ _ _ _ y).1 s.offsetDown;
-          width = (along-shown _ _ _ _ _ _ _ x).1 s.width;
-          height = (along-shown _ _ _ _ _ _ _ y).1 s.height;
+          offset_across = (along_offset _ _ _ _ _ _ _ x).1 s.offsetAcross;
+          offset_down = (along_offset _ _ _ _ _ _ _ y).1 s.offsetDown;
+          width = (along_shown _ _ _ _ _ _ _ x).1 s.width;
+          height = (along_shown _ _ _ _ _ _ _ y).1 s.height;
         }
 
 -- so what is told goes by the patches that are shown

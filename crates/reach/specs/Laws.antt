@@ -84,8 +84,8 @@ HeldAxis =
 
 -- a pair of offsets at which "box and area share a patch of positive width and height", along the definition's axes
 pub record SharesPatch (c : ContainingBlock) (rectangle : Rect) (box : Layout) (x y : ℕ) : Type 0 where
-  pub offsetAcross : x ≤ (across c rectangle box).last
-  pub offsetDown : y ≤ (down c rectangle box).last
+  pub offset_across : x ≤ (across c rectangle box).last
+  pub offset_down : y ≤ (down c rectangle box).last
   pub width : shares (across c rectangle box) x ≡ true
   pub height : shares (down c rectangle box) y ≡ true
 
@@ -106,8 +106,8 @@ moved Rtl begins o = begins +ℤ pos o
 
 -- scrolled by x and y, an eighth by an eighth of the view, at u and v, is the box's. Scrolling down moves the box up in both directions
 pub record ShowsPatch (c : ContainingBlock) (rectangle : Rect) (box : Layout) (x y : ℕ) : Type 0 where
-  pub offsetAcross : IsOffset c.overflow.x rectangle.right c.area.size.width x
-  pub offsetDown : IsOffset c.overflow.y rectangle.bottom c.area.size.height y
+  pub offset_across : IsOffset c.overflow.x rectangle.right c.area.size.width x
+  pub offset_down : IsOffset c.overflow.y rectangle.bottom c.area.size.height y
   pub width : (u : ℤ)
       × InView u c.area.size.width
       × InBox u (moved c.direction (in_eighths box.location.x -ℤ in_eighths c.area.offset.x) x) box.size.width

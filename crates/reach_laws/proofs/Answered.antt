@@ -20,7 +20,7 @@ use Rattle.tree_record.specs.Layout.{layout_width, layout_words}
 use Rattle.style_record.specs.Record.{items}
 use Rattle.sweep.specs.Sweep.{candidates_in, moved, keep}
 use Rattle.sweep.specs.declared.Shift.{Shift}
-use Rattle.sweep.proofs.Steps.{kept-moved, appended_length}
+use Rattle.sweep.proofs.Steps.{kept_moved, appended_length}
 use Rattle.sweep.proofs.Listed.{IsBelow}
 use Rattle.oof_box.specs.declared.question.Reply.{Reply}
 use Rattle.oof_resolve.specs.declared.ContainingBlock.{ContainingBlock}
@@ -45,15 +45,15 @@ use Rattle.run.proofs.Conditions.{lengths_decided}
 use Rattle.run.proofs.Decides.{Decides}
 use Rattle.run.proofs.Refusals.{refused_in}
 use Rattle.run.proofs.Straight.{straight_run}
-use Rattle.run.proofs.Ways.{NextWay, asks, ends, next_way, OpeningWay, begins, turnedDown, opening_way, ReplyWay, measures, lays_out, reply_way, passed, neither}
+use Rattle.run.proofs.Ways.{NextWay, asks, ends, next_way, OpeningWay, begins, turned_down, opening_way, ReplyWay, measures, lays_out, reply_way, passed, neither}
 use Rattle.util_exact.proofs.Exact.{eighths}
 use Rattle.util_exact.proofs.Quarters.{quarters_exact}
 use Rattle.mirror_run.specs.Quarter.{AreaInQuarters}
 use Rattle.mirror_run.specs.Runs.{layout_of_box}
-use Rattle.mirror_run.proofs.Claimed.{below-there, front_good}
-use Rattle.mirror_run.proofs.Lists.{nobody, first_by, each_at, each-kept}
+use Rattle.mirror_run.proofs.Claimed.{below_there, front_good}
+use Rattle.mirror_run.proofs.Lists.{nobody, first_by, each_at, each_kept}
 use Rattle.mirror_run.proofs.Unread.{taken_all}
-use Rattle.mirror_run.proofs.Verdicts.{OpeningPassed, opening_passed, reply_passed, same-slices}
+use Rattle.mirror_run.proofs.Verdicts.{OpeningPassed, opening_passed, reply_passed, same_slices}
 use Rattle.pixels_laws.proofs.Accepted.{exact_accepted}
 use Rattle.pixels_laws.proofs.Box.{LayoutIn}
 use Rattle.pixels_laws.proofs.Overflow.{RectIn}
@@ -64,7 +64,7 @@ use Rattle.reach.specs.declared.Offset.TheVariants.{Nowhere, At}
 use Rattle.reach.specs.Laws.{IsAnswer}
 use Rattle.reach.specs.Reach.{across, down, least, pair_of, box_reached, reached}
 use Rattle.reach_laws.specs.Laws.{ContainerStays, QuartersAreAnswered, told_of}
-use Rattle.reach_laws.proofs.Course.{Goes, begun-goes, turns_go}
+use Rattle.reach_laws.proofs.Course.{Goes, begun_goes, turns_go}
 
 -- ---- a box whose numbers are whole eighths
 
@@ -100,55 +100,55 @@ record Holds (e : Extents) (s : State) : Type 0 where
   unclaimed : candidate_width * s.counts.filled.unclaimed ≤ e.unclaimed
 
 module _ (e : Extents) where
-  proceeding-holds : (styles working : List ℕ) (run : Opened) (counts : Counts) (overflow : Rect) → run.extents ≡ e → candidate_width * counts.filled.working ≤ e.working
+  proceeding_holds : (styles working : List ℕ) (run : Opened) (counts : Counts) (overflow : Rect) → run.extents ≡ e → candidate_width * counts.filled.working ≤ e.working
       → candidate_width * counts.filled.unclaimed ≤ e.unclaimed
       → Holds e (proceeding styles working run counts overflow).state
   unfolding asking finishing
-  proceeding-holds styles working run counts overflow d h k = go (next_way styles working run counts overflow)
+  proceeding_holds styles working run counts overflow d h k = go (next_way styles working run counts overflow)
     where
       go : NextWay styles working run counts overflow → Holds e (proceeding styles working run counts overflow).state
       go (asks l f) = subst (λ (step : Step). Holds e step.state) (sym f) (record { extents = d; working = h; unclaimed = k })
       go (ends l f) = subst (λ (step : Step). Holds e step.state) (sym f) (record { extents = d; working = h; unclaimed = k })
 
   -- an accepted reply's slices are as long as at the opening
-  lengths-kept : (s : State) (reply : Reply) (surfaced : List ℕ) (l : Lent) → s.opened.extents ≡ e → reply_verdict s reply surfaced l ≡ test.accepted
+  lengths_kept_lem : (s : State) (reply : Reply) (surfaced : List ℕ) (l : Lent) → s.opened.extents ≡ e → reply_verdict s reply surfaced l ≡ test.accepted
       → (length l.working ≡ e.working) × (length l.unclaimed ≡ e.unclaimed)
   unfolding reply_verdict other_lengths
-  lengths-kept s reply surfaced l d v =
+  lengths_kept_lem s reply surfaced l d v =
       let extent = passed _ _ _ v in
       let bad = (neither (bad_slices l || other_lengths s.opened.extents l) (ragged candidate_width (lent_by reply surfaced)) extent.0).0 in
       let others = (neither (bad_slices l) (other_lengths s.opened.extents l) bad).1 in
       let x = s.opened.extents in
       let same =
-      last-two (eqb (length l.styles) x.styles) (eqb (length l.layouts) x.layouts) (eqb (length l.working) x.working) (eqb (length l.unclaimed) x.unclaimed) others in (
+      last_two (eqb (length l.styles) x.styles) (eqb (length l.layouts) x.layouts) (eqb (length l.working) x.working) (eqb (length l.unclaimed) x.unclaimed) others in (
         eqb-true (length l.working) x.working same.0 ∙ ap (λ (e : Extents). e.working) d,
         eqb-true (length l.unclaimed) x.unclaimed same.1 ∙ ap (λ (e : Extents). e.unclaimed) d,
       )
     where
-      last-two : (a b c d : Bool) → (not a || not b || not c || not d) ≡ false → (c ≡ true) × (d ≡ true)
-      last-two false b c d e = no {b = true} refl e
-      last-two true false c d e = no {b = true} refl e
-      last-two true true false d e = no {b = true} refl e
-      last-two true true true d e = (refl, not-false d e)
+      last_two : (a b c d : Bool) → (not a || not b || not c || not d) ≡ false → (c ≡ true) × (d ≡ true)
+      last_two false b c d e = no {b = true} refl e
+      last_two true false c d e = no {b = true} refl e
+      last_two true true false d e = no {b = true} refl e
+      last_two true true true d e = (refl, not-false d e)
 
-  reply-holds : (s : State) (reply : Reply) (surfaced : List ℕ) (l : Lent) → Holds e s → Holds e (replied s reply surfaced l).step.state
+  reply_holds : (s : State) (reply : Reply) (surfaced : List ℕ) (l : Lent) → Holds e s → Holds e (replied s reply surfaced l).step.state
   unfolding measured_on asking laid_out
-  reply-holds s reply surfaced l h = go (reply_way s reply surfaced l)
+  reply_holds s reply surfaced l h = go (reply_way s reply surfaced l)
     where
       room : (by : ContainingBlockClaims) (list : Bool) (shift : Shift) (given : List ℕ) (held n : ℕ) → given ≡ surfaced
           → candidate_width * (held + length (keep by list (candidates_in given))) ≤ n
           → candidate_width * (held + length (keep by list (map (moved shift) (candidates_in surfaced)))) ≤ n
-      room by list shift given held n d k = rw (kept-moved by list shift (candidates_in surfaced), ← d) k
+      room by list shift given held n d k = rw (kept_moved by list shift (candidates_in surfaced), ← d) k
 
       go : ReplyWay s reply surfaced l → Holds e (replied s reply surfaced l).step.state
-      go (turnedDown r f) = subst (λ (x : Outcome). Holds e x.step.state) (sym f) h
+      go (turned_down r f) = subst (λ (x : Outcome). Holds e x.step.state) (sym f) h
       go (measures replies v t f) = subst (λ (x : Outcome). Holds e x.step.state) (sym f) (record { extents = h.extents; working = h.working; unclaimed = h.unclaimed })
       go (lays_out overflow v t f) =
           let p = reply_passed s reply surfaced l v in
-          let long = lengths-kept s reply surfaced l h.extents v in
+          let long = lengths_kept_lem s reply surfaced l h.extents v in
           let all = taken_all s reply surfaced t in
           subst (λ (x : Outcome). Holds e x.step.state) (sym f)
-          (proceeding-holds l.styles _ s.opened _ _ h.extents
+          (proceeding_holds l.styles _ s.opened _ _ h.extents
           (room s.opened.claims true _ (lent_by reply surfaced) s.counts.filled.working e.working all (subst (λ (n : ℕ). candidate_width * (s.counts.filled.working + length (keep s.opened.claims true (candidates_in (lent_by reply surfaced)))) ≤ n) long.0 p.room.0))
           (room s.opened.claims false _ (lent_by reply surfaced) s.counts.filled.unclaimed e.unclaimed all (subst (λ (n : ℕ). candidate_width * (s.counts.filled.unclaimed + length (keep s.opened.claims false (candidates_in (lent_by reply surfaced)))) ≤ n) long.1 p.room.1)))
 
@@ -157,16 +157,16 @@ module _ (e : Extents) where
   turn_holds styles x t h = go t.loan
     where
       go : (l : Loan) → Holds e (next_with styles x t.heard l).step.state
-      go own = reply-holds x.step.state t.heard.reply t.heard.surfaced _ h
-      go (other lent) = reply-holds x.step.state t.heard.reply t.heard.surfaced lent h
+      go own = reply_holds x.step.state t.heard.reply t.heard.surfaced _ h
+      go (other lent) = reply_holds x.step.state t.heard.reply t.heard.surfaced lent h
 
-  turns-hold : (styles : List ℕ) (x : Outcome) (ts : List Turn) → Holds e x.step.state → Holds e (foldl (turned styles) x ts).step.state
-  turns-hold styles x [] h = h
-  turns-hold styles x (t ∷ ts) h = turns-hold styles (turned styles x t) ts (turn_holds styles x t h)
+  turns_hold : (styles : List ℕ) (x : Outcome) (ts : List Turn) → Holds e x.step.state → Holds e (foldl (turned styles) x ts).step.state
+  turns_hold styles x [] h = h
+  turns_hold styles x (t ∷ ts) h = turns_hold styles (turned styles x t) ts (turn_holds styles x t h)
 
 begun_holds : (o : Opening) (candidates : List ℕ) (lent : Lent) → OpeningPassed o candidates lent → Holds (extents_of lent) (begun o candidates lent).step.state
 unfolding begun
-begun_holds o candidates lent p = proceeding-holds (extents_of lent) lent.styles _ _ _ _ refl p.room.0 p.room.1
+begun_holds o candidates lent p = proceeding_holds (extents_of lent) lent.styles _ _ _ _ refl p.room.0 p.room.1
 
 -- ---- the slices stay as long
 
@@ -186,25 +186,25 @@ module _ (o : Opening) (candidates : List ℕ) (lent : Lent) (turns : List Turn)
   abbrev slices : Lent
   slices = call.lent lent.styles has.layouts has.working has.unclaimed
 
-  lengths-same : extents_of slices ≡ extents_of lent → has.step.state.opened.extents ≡ extents_of lent → other_lengths has.step.state.opened.extents slices ≡ false
-  lengths-same long h = go (other_lengths has.step.state.opened.extents slices) (lengths_decided has.step.state.opened.extents slices)
+  lengths_same : extents_of slices ≡ extents_of lent → has.step.state.opened.extents ≡ extents_of lent → other_lengths has.step.state.opened.extents slices ≡ false
+  lengths_same long h = go (other_lengths has.step.state.opened.extents slices) (lengths_decided has.step.state.opened.extents slices)
     where
       go : (b : Bool) → Decides b (¬ (extents_of slices ≡ has.step.state.opened.extents)) → b ≡ false
       go true d = absurd (d.holds refl (long ∙ sym h))
       go false d = refl
 
-  slices-fine : opening_verdict o candidates lent ≡ test.accepted → bad_slices lent ≡ false
+  slices_fine : opening_verdict o candidates lent ≡ test.accepted → bad_slices lent ≡ false
   unfolding opening_verdict
-  slices-fine v = (neither (bad_slices lent) (ragged candidate_width candidates) (passed _ _ _ (passed _ _ _ v).1).0).0
+  slices_fine v = (neither (bad_slices lent) (ragged candidate_width candidates) (passed _ _ _ (passed _ _ _ v).1).0).0
 
   -- the tests that come before a part's own, `own-test` being what the part itself calls a bad extent
-  pub tests-passed : is_refused (opened o candidates lent).step.answer ≡ false → AllLend lent.styles (opened o candidates lent) turns
+  pub tests_passed : is_refused (opened o candidates lent).step.answer ≡ false → AllLend lent.styles (opened o candidates lent) turns
       → has.step.state.progress ≡ Finished
       → bad_candidate lent.styles has.working has.step.state.counts.filled.working ≡ false
       → (own-test : Bool) → own-test ≡ false
       → finished_verdict has.step.state slices own-test ≡ test.accepted
   unfolding finished_verdict test.◌when◌else◌
-  tests-passed accepts lends f good own-test none = go (opening_way o candidates lent)
+  tests_passed accepts lends f good own-test none = go (opening_way o candidates lent)
     where
       long : extents_of slices ≡ extents_of lent
       long =
@@ -212,17 +212,17 @@ module _ (o : Opening) (candidates : List ℕ) (lent : Lent) (turns : List Turn)
           rw (stands.layouts, stands.working, stands.unclaimed, laid_length lent.layouts, appended_length lent.working 0, appended_length lent.unclaimed 0) refl
 
       go : OpeningWay o candidates lent → finished_verdict has.step.state slices own-test ≡ test.accepted
-      go (turnedDown q e) = no (ap refused_in e) accepts
+      go (turned_down q e) = no (ap refused_in e) accepts
       go (begins v e) =
           let p = opening_passed o candidates lent v in
-          let h = turns-hold (extents_of lent) lent.styles (opened o candidates lent) turns (subst (λ (x : Outcome). Holds (extents_of lent) x.step.state) (sym e) (begun_holds o candidates lent p)) in
+          let h = turns_hold (extents_of lent) lent.styles (opened o candidates lent) turns (subst (λ (x : Outcome). Holds (extents_of lent) x.step.state) (sym e) (begun_holds o candidates lent p)) in
           let w : length has.working ≡ length lent.working = ap (λ (e : Extents). e.working) long in
           let u : length has.unclaimed ≡ length lent.unclaimed = ap (λ (e : Extents). e.unclaimed) long in
           let hw = h.working in
           let hu = h.unclaimed in
           rw (
-            same-slices slices lent long ∙ slices-fine v,
-            lengths-same long h.extents,
+            same_slices slices lent long ∙ slices_fine v,
+            lengths_same long h.extents,
             none,
             f,
             le-ltb (length has.working / candidate_width) has.step.state.counts.filled.working (omega arith),
@@ -236,16 +236,16 @@ module _ (o : Opening) (candidates : List ℕ) (lent : Lent) (turns : List Turn)
   claims = keep (claims_of o) true (candidates_in candidates)
 
   module _ (p : OpeningPassed o candidates lent) (r : RunIn o candidates lent has) where
-    nodes-there : (i : ℕ) → i < length claims → IsBelow (items lent.styles) (get_or claims i nobody)
+    nodes_there : (i : ℕ) → i < length claims → IsBelow (items lent.styles) (get_or claims i nobody)
     unfolding candidates_in
-    nodes-there i l =
+    nodes_there i l =
         (each_at
-        (each-kept {R = λ (c c' : OofCandidate). (c ≡ c') × IsBelow (items lent.styles) c} (claims_of o) true (λ c c' r. ap (λ (c : OofCandidate). c.position) r.0)
-        (first_by (length candidates / candidate_width) candidates candidates (λ i h. (refl, below-there (items lent.styles) candidates p.candidate i h)))) i l).1
+        (each_kept {R = λ (c c' : OofCandidate). (c ≡ c') × IsBelow (items lent.styles) c} (claims_of o) true (λ c c' r. ap (λ (c : OofCandidate). c.position) r.0)
+        (first_by (length candidates / candidate_width) candidates candidates (λ i h. (refl, below_there (items lent.styles) candidates p.candidate i h)))) i l).1
 
-    records-good : bad_candidate lent.styles has.working has.step.state.counts.filled.working ≡ false
+    records_good : bad_candidate lent.styles has.working has.step.state.counts.filled.working ≡ false
     unfolding bad_candidate
-    records-good = rw (r.working, r.filled) (ap not (front_good lent.working claims p.room.0 (items lent.styles) nodes-there))
+    records_good = rw (r.working, r.filled) (ap not (front_good lent.working claims p.room.0 (items lent.styles) nodes_there))
 
 pub quarters_are_answered : QuartersAreAnswered
 unfolding reached
@@ -255,20 +255,20 @@ quarters_are_answered o candidates lent turns place area table quarter accepts l
     r = run_in o candidates lent turns area table quarter accepts lends heard
 
     go : OpeningWay o candidates lent → IsAnswer (told_of place lent.styles (called o candidates lent turns))
-    go (turnedDown q e) = no (ap refused_in e) accepts
+    go (turned_down q e) = no (ap refused_in e) accepts
     go (begins v e) =
-        let good = records-good o candidates lent turns (opening_passed o candidates lent v) r in
-        let g = turns_go o lent.styles (opened o candidates lent) turns (subst (λ (x : Outcome). Goes o x.step.state) (sym e) (begun-goes o candidates lent)) in
+        let good = records_good o candidates lent turns (opening_passed o candidates lent v) r in
+        let g = turns_go o lent.styles (opened o candidates lent) turns (subst (λ (x : Outcome). Goes o x.step.state) (sym e) (begun_goes o candidates lent)) in
         let all = g.all f in
         let begun : place < (called o candidates lent turns).step.state.counts.begun = omega arith in
         let laid : place < laid_so_far (called o candidates lent turns) = subst (λ (at : Progress). place < laid_count at (called o candidates lent turns).step.state.counts.begun) (sym f) begun in
-        rw (tests-passed o candidates lent turns accepts lends f good _ (lt-leb (called o candidates lent turns).step.state.counts.filled.working place there), g.container)
+        rw (tests_passed o candidates lent turns accepts lends f good _ (lt-leb (called o candidates lent turns).step.state.counts.filled.working place there), g.container)
         (box_answered (container_of o) area (called o candidates lent turns).step.state.overflow r.overflow (layout_of_box (called o candidates lent turns) place) (r.layouts place laid))
 
 pub container_stays : ContainerStays
 container_stays o candidates lent turns accepts = go (opening_way o candidates lent)
   where
     go : OpeningWay o candidates lent → (called o candidates lent turns).step.state.opened.container ≡ container_of o
-    go (turnedDown q e) = no (ap refused_in e) accepts
+    go (turned_down q e) = no (ap refused_in e) accepts
     go (begins v e) =
-        (turns_go o lent.styles (opened o candidates lent) turns (subst (λ (x : Outcome). Goes o x.step.state) (sym e) (begun-goes o candidates lent))).container
+        (turns_go o lent.styles (opened o candidates lent) turns (subst (λ (x : Outcome). Goes o x.step.state) (sym e) (begun_goes o candidates lent))).container

@@ -50,24 +50,24 @@ starts_alike Rtl area left left' size e =
 -- ---- both axes
 
 module _ (c : ContainingBlock) (overflow overflow' : Rect) (box box' : Layout) where
-  pub across-alike :
+  pub across_alike :
       (in_eighths box.location.x -ℤ in_eighths c.area.offset.x) +ℤ (in_eighths box'.location.x -ℤ in_eighths c.area.offset.x) +ℤ in_eighths box.size.width
       ≡ in_eighths c.area.size.width
       → in_eighths box.size.width ≡ in_eighths box'.size.width
       → in_eighths overflow.right ≡ in_eighths overflow'.right
       → across c overflow box ≡ across (image_container c) overflow' box'
   unfolding axis_of last_offset image_container
-  across-alike x w r =
+  across_alike x w r =
       rw (← w, ← r, starts_alike c.direction (in_eighths c.area.size.width) (in_eighths box.location.x -ℤ in_eighths c.area.offset.x) (in_eighths box'.location.x -ℤ in_eighths c.area.offset.x) (in_eighths box.size.width) x)
       refl
 
-  pub down-alike :
+  pub down_alike :
       in_eighths box.location.y ≡ in_eighths box'.location.y
       → in_eighths box.size.height ≡ in_eighths box'.size.height
       → in_eighths overflow.bottom ≡ in_eighths overflow'.bottom
       → down c overflow box ≡ down (image_container c) overflow' box'
   unfolding axis_of last_offset image_container
-  down-alike y h b = rw (y, h, b) refl
+  down_alike y h b = rw (y, h, b) refl
 
 -- ---- a box whose numbers are accepted alike
 
@@ -91,5 +91,5 @@ all_accepted_lem c overflow box h = go (all_accepted (numbers_of c.area overflow
 pub mirrored_box : MirroredBox
 mirrored_box c c' overflow overflow' box box' h =
     reached_alike c c' overflow overflow' box box' (all_accepted_lem c overflow box h.accepted ∙ sym (all_accepted_lem c' overflow' box' h.imageAccepted))
-    (across-alike c overflow overflow' box box' h.x h.width h.right ∙ ap (λ (c : ContainingBlock). across c overflow' box') (sym h.image))
-    (down-alike c overflow overflow' box box' h.y h.height h.bottom ∙ ap (λ (c : ContainingBlock). down c overflow' box') (sym h.image))
+    (across_alike c overflow overflow' box box' h.x h.width h.right ∙ ap (λ (c : ContainingBlock). across c overflow' box') (sym h.image))
+    (down_alike c overflow overflow' box box' h.y h.height h.bottom ∙ ap (λ (c : ContainingBlock). down c overflow' box') (sym h.image))

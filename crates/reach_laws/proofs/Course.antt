@@ -20,7 +20,7 @@ use Rattle.run.specs.Call.{Lent, Outcome}
 use Rattle.run.specs.Run.{claims_of, container_of, asking, finishing, proceeding, closed, begun, measured_on, laid_out, replied}
 use Rattle.run.specs.Theorems.{is_refused, Loan, own, other, Turn, next, next_with, turned, Lends, AllLend, heeded}
 use Rattle.run.proofs.Refusals.{refused_in, measured_accepts, laid_accepts, finished_refuses}
-use Rattle.run.proofs.Ways.{NextWay, asks, ends, next_way, ReplyWay, turnedDown, measures, lays_out, reply_way}
+use Rattle.run.proofs.Ways.{NextWay, asks, ends, next_way, ReplyWay, turned_down, measures, lays_out, reply_way}
 use Rattle.finished.specs.Finished.{is_open}
 use Rattle.mirror_run.specs.Runs.{Message, run_next, image_next, surfaced_in, Fair, AllFair}
 use Rattle.mirror_run.proofs.Unread.{accepted_read}
@@ -50,40 +50,40 @@ pub record Goes (o : Opening) (s : State) : Type 0 where
   pub all : s.progress ≡ Finished → s.counts.filled.working ≤ s.counts.begun
 
 module _ (o : Opening) where
-  asking-goes : (styles working : List ℕ) (run : Opened) (counts : Counts) (overflow : Rect) (replies : _) → run.container ≡ container_of o → run.claims ≡ claims_of o
+  asking_goes : (styles working : List ℕ) (run : Opened) (counts : Counts) (overflow : Rect) (replies : _) → run.container ≡ container_of o → run.claims ≡ claims_of o
       → Goes o (asking styles working run counts overflow replies).state
   unfolding asking
-  asking-goes styles working run counts overflow replies c d = record { container = c; claims = d; all = λ e. no {b = true} refl (ap is_open e) }
+  asking_goes styles working run counts overflow replies c d = record { container = c; claims = d; all = λ e. no {b = true} refl (ap is_open e) }
 
-  finishing-goes : (run : Opened) (counts : Counts) (overflow : Rect) → run.container ≡ container_of o → run.claims ≡ claims_of o → counts.filled.working ≤ counts.begun
+  finishing_goes : (run : Opened) (counts : Counts) (overflow : Rect) → run.container ≡ container_of o → run.claims ≡ claims_of o → counts.filled.working ≤ counts.begun
       → Goes o (finishing run counts overflow).state
   unfolding finishing
-  finishing-goes run counts overflow c d h = record { container = c; claims = d; all = λ e. h }
+  finishing_goes run counts overflow c d h = record { container = c; claims = d; all = λ e. h }
 
-  proceeding-goes : (styles working : List ℕ) (run : Opened) (counts : Counts) (overflow : Rect) → run.container ≡ container_of o → run.claims ≡ claims_of o
+  proceeding_goes : (styles working : List ℕ) (run : Opened) (counts : Counts) (overflow : Rect) → run.container ≡ container_of o → run.claims ≡ claims_of o
       → Goes o (proceeding styles working run counts overflow).state
-  proceeding-goes styles working run counts overflow c d = go (next_way styles working run counts overflow)
+  proceeding_goes styles working run counts overflow c d = go (next_way styles working run counts overflow)
     where
       go : NextWay styles working run counts overflow → Goes o (proceeding styles working run counts overflow).state
-      go (asks h e) = subst (λ (step : Step). Goes o step.state) (sym e) (asking-goes styles working run _ overflow _ c d)
-      go (ends h e) = subst (λ (step : Step). Goes o step.state) (sym e) (finishing-goes run counts overflow c d h)
+      go (asks h e) = subst (λ (step : Step). Goes o step.state) (sym e) (asking_goes styles working run _ overflow _ c d)
+      go (ends h e) = subst (λ (step : Step). Goes o step.state) (sym e) (finishing_goes run counts overflow c d h)
 
-  pub begun-goes : (candidates : List ℕ) (lent : Lent) → Goes o (begun o candidates lent).step.state
+  pub begun_goes : (candidates : List ℕ) (lent : Lent) → Goes o (begun o candidates lent).step.state
   unfolding begun
-  begun-goes candidates lent = proceeding-goes lent.styles _ _ _ _ refl refl
+  begun_goes candidates lent = proceeding_goes lent.styles _ _ _ _ refl refl
 
   reply_goes : (s : State) (reply : Reply) (surfaced : List ℕ) (lent : Lent) → Goes o s → Goes o (replied s reply surfaced lent).step.state
   unfolding measured_on laid_out
   reply_goes s reply surfaced lent h = go (reply_way s reply surfaced lent)
     where
       go : ReplyWay s reply surfaced lent → Goes o (replied s reply surfaced lent).step.state
-      go (turnedDown r e) = subst (λ (x : Outcome). Goes o x.step.state) (sym e) h
-      go (measures replies v t e) = subst (λ (x : Outcome). Goes o x.step.state) (sym e) (asking-goes lent.styles lent.working s.opened _ _ _ h.container h.claims)
-      go (lays_out overflow v t e) = subst (λ (x : Outcome). Goes o x.step.state) (sym e) (proceeding-goes lent.styles _ s.opened _ _ h.container h.claims)
+      go (turned_down r e) = subst (λ (x : Outcome). Goes o x.step.state) (sym e) h
+      go (measures replies v t e) = subst (λ (x : Outcome). Goes o x.step.state) (sym e) (asking_goes lent.styles lent.working s.opened _ _ _ h.container h.claims)
+      go (lays_out overflow v t e) = subst (λ (x : Outcome). Goes o x.step.state) (sym e) (proceeding_goes lent.styles _ s.opened _ _ h.container h.claims)
 
-  turn-goes : (styles : List ℕ) (x : Outcome) (t : Turn) → Goes o x.step.state → Goes o (turned styles x t).step.state
+  turn_goes : (styles : List ℕ) (x : Outcome) (t : Turn) → Goes o x.step.state → Goes o (turned styles x t).step.state
   unfolding next
-  turn-goes styles x t h = go t.loan
+  turn_goes styles x t h = go t.loan
     where
       go : (l : Loan) → Goes o (next_with styles x t.heard l).step.state
       go own = reply_goes x.step.state t.heard.reply t.heard.surfaced _ h
@@ -91,7 +91,7 @@ module _ (o : Opening) where
 
   pub turns_go : (styles : List ℕ) (x : Outcome) (ts : List Turn) → Goes o x.step.state → Goes o (foldl (turned styles) x ts).step.state
   turns_go styles x [] h = h
-  turns_go styles x (t ∷ ts) h = turns_go styles (turned styles x t) ts (turn-goes styles x t h)
+  turns_go styles x (t ∷ ts) h = turns_go styles (turned styles x t) ts (turn_goes styles x t h)
 
   -- ---- messages that are fair: they are lent as a run's are, and those that aren't refused are of whole quarters
 
@@ -102,23 +102,23 @@ module _ (o : Opening) where
       go own e = tt
       go (other lent) e = read (is_refused answer) refl
         where
-          isOther : Loan → Bool
-          isOther own = false
-          isOther (other lent) = true
+          is_other : Loan → Bool
+          is_other own = false
+          is_other (other lent) = true
 
           read : (b : Bool) → is_refused answer ≡ b → b ≡ true
           read true d = refl
-          read false d = no refl (ap isOther (sym e ∙ (fair.words (accepted_read answer d)).slices))
+          read false d = no refl (ap is_other (sym e ∙ (fair.words (accepted_read answer d)).slices))
 
   pub all_lend : (styles : List ℕ) (x : Outcome) (ms : List Message) → AllFair styles x ms → AllLend styles x (turns_of ms)
   all_lend styles x [] fair = tt
   all_lend styles x (m ∷ ms) fair =
       (lends x.step.state (turned styles x m.turn).step.answer m fair.0, all_lend styles (turned styles x m.turn) ms fair.1)
 
-  pub all-heard : (styles : List ℕ) (x : Outcome) (ms : List Message) → Goes o x.step.state → AllFair styles x ms → All (QuarterHeard (claims_of o)) (heeded styles x (turns_of ms))
+  pub all_heard : (styles : List ℕ) (x : Outcome) (ms : List Message) → Goes o x.step.state → AllFair styles x ms → All (QuarterHeard (claims_of o)) (heeded styles x (turns_of ms))
   unfolding heeded
-  all-heard styles x [] h fair = tt
-  all-heard styles x (m ∷ ms) h fair = go (is_refused (turned styles x m.turn).step.answer) refl (all-heard styles (turned styles x m.turn) ms (turn-goes styles x m.turn h) fair.1)
+  all_heard styles x [] h fair = tt
+  all_heard styles x (m ∷ ms) h fair = go (is_refused (turned styles x m.turn).step.answer) refl (all_heard styles (turned styles x m.turn) ms (turn_goes styles x m.turn h) fair.1)
     where
       go : (b : Bool) → is_refused (turned styles x m.turn).step.answer ≡ b
           → All (QuarterHeard (claims_of o)) (heeded styles (turned styles x m.turn) (turns_of ms))
@@ -139,7 +139,7 @@ reply_shut s reply surfaced lent h = go (reply_way s reply surfaced lent)
     refuses = finished_refuses s reply surfaced lent h.finished
 
     go : ReplyWay s reply surfaced lent → Shut (replied s reply surfaced lent).step.state
-    go (turnedDown r e) = subst (λ (x : Outcome). Shut x.step.state) (sym e) h
+    go (turned_down r e) = subst (λ (x : Outcome). Shut x.step.state) (sym e) h
     go (measures replies v t e) = no refuses (ap refused_in e ∙ measured_accepts s replies lent)
     go (lays_out overflow v t e) = no refuses (ap refused_in e ∙ laid_accepts s overflow surfaced lent)
 

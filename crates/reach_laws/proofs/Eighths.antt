@@ -107,9 +107,9 @@ image_bound = place_bound + fit_bound + 4 * length_bound
 
 module _ (area : OofPositioningArea) (x x' w : Float) (m : MirrorSum area (x ∷ x' ∷ w ∷ [])) where
   -- the sum, in eighths
-  pub sum-in-eighths : accepted x ≡ true → accepted x' ≡ true → accepted w ≡ true → accepted area.offset.x ≡ true → accepted area.size.width ≡ true
+  pub sum_in_eighths : accepted x ≡ true → accepted x' ≡ true → accepted w ≡ true → accepted area.offset.x ≡ true → accepted area.size.width ≡ true
       → (in_eighths x -ℤ in_eighths area.offset.x) +ℤ (in_eighths x' -ℤ in_eighths area.offset.x) +ℤ in_eighths w ≡ in_eighths area.size.width
-  sum-in-eighths hx hx' hw ho ha =
+  sum_in_eighths hx hx' hw ho ha =
       let o = in_eighths area.offset.x in
       let l = m.1 in
       let l1 = l.3 in
@@ -139,8 +139,8 @@ module _ (area : OofPositioningArea) (x x' w : Float) (m : MirrorSum area (x ∷
       same _ _ (omega arith)
 
   -- whole eighths that aren't large make the image's x such
-  pub image-accepted : {a b c d : N} → Exact 2 (place_bound + length_bound) x a → Exact 2 fit_bound w b → Exact 2 length_bound area.offset.x c → Exact 2 length_bound area.size.width d → accepted x' ≡ true
-  image-accepted {a} {b} {c} {d} hx hw ho ha =
+  pub image_accepted_lem : {a b c d : N} → Exact 2 (place_bound + length_bound) x a → Exact 2 fit_bound w b → Exact 2 length_bound area.offset.x c → Exact 2 length_bound area.size.width d → accepted x' ≡ true
+  image_accepted_lem {a} {b} {c} {d} hx hw ho ha =
       let l = m.1 in
       let l1 = l.3 in
       let l2 = l1.3 in
@@ -185,7 +185,7 @@ module _ (area : OofPositioningArea) (x x' w : Float) (m : MirrorSum area (x ∷
       })
     where
       recounted : {n : ℕ} (x : Float) (a b : N) → Exact 2 n x a → Sixteenths x b → Exact 2 n x b
-      recounted x a b h k = recast (integers.one-integer x a b (sixteenths h) k) h
+      recounted x a b h k = recast (integers.one_integer x a b (sixteenths h) k) h
 
       within : (s : Bool) (z : ℕ) (a : N) → Signed s z a → (a.p ≤ a.n + image_bound) × (a.n ≤ a.p + image_bound) → z ≤ image_bound
       within false z a e h = let h0 = h.0 in omega arith

@@ -16,22 +16,22 @@ use Rattle.run.specs.Refusals as test
 use Rattle.run.specs.Run.{container_of, extents_of, opened, opening_verdict}
 use Rattle.run.specs.Theorems.{is_refused, laid_count, laid_so_far}
 use Rattle.run.proofs.Refusals.{refused_in, begun_accepts}
-use Rattle.run.proofs.Ways.{neither, OpeningWay, turnedDown, begins, opening_way}
+use Rattle.run.proofs.Ways.{neither, OpeningWay, turned_down, begins, opening_way}
 use Rattle.mirror_box.specs.Image.{image_container}
 use Rattle.mirror_run.specs.Image.{image_opening, image_styles, image_candidates}
 use Rattle.mirror_run.specs.Quarter.{QuarterArea, QuarterTable, QuarterCandidates}
 use Rattle.mirror_run.specs.Runs.{Message, run_next, image_next, AllFair, SameAnswer, ask, finish, refused, layout_of_box}
 use Rattle.mirror_run.proofs.Linked.{Linked, mirrored}
-use Rattle.mirror_run.proofs.Mirror.{all-replies}
-use Rattle.mirror_run.proofs.Opening.{frame, imageLent, quarter-frame, opened-linked}
+use Rattle.mirror_run.proofs.Mirror.{all_replies}
+use Rattle.mirror_run.proofs.Opening.{frame, image_lent, quarter_frame, opened_linked}
 use Rattle.mirror_run.proofs.Styles.{direction_decoded}
 use Rattle.mirror_run.proofs.Verdicts.{opening_passed}
 use Rattle.pixels_laws.proofs.Box.{LayoutIn}
 use Rattle.pixels_laws.proofs.Run.{run_in}
 use Rattle.reach.specs.Reach.{box_reached}
 use Rattle.reach_laws.specs.Laws.{told_of, MirroredVerdict}
-use Rattle.reach_laws.proofs.Course.{turns_of, images_of, turns_are, images_are, Goes, begun-goes, turns_go, all_lend, all-heard, Shut, turns_shut, closed_shut}
-use Rattle.reach_laws.proofs.Verdict.{box-alike, told_alike}
+use Rattle.reach_laws.proofs.Course.{turns_of, images_of, turns_are, images_are, Goes, begun_goes, turns_go, all_lend, all_heard, Shut, turns_shut, closed_shut}
+use Rattle.reach_laws.proofs.Verdict.{box_alike, told_alike}
 
 same_refused : {a a' : Answer} → SameAnswer a a' → is_refused a ≡ is_refused a'
 same_refused (ask q) = refl
@@ -46,10 +46,10 @@ image_block o candidates lent v =
     rw (direction_decoded o.direction (omega arith)) refl
 
 module _ (o : Opening) (candidates : List ℕ) (lent : Lent) (layouts working unclaimed : List ℕ) (ms : List Message) (area : QuarterArea o.area) (table : QuarterTable lent.styles)
-    (quarter : QuarterCandidates candidates) (same : extents_of lent ≡ extents_of (imageLent o candidates lent layouts working unclaimed))
+    (quarter : QuarterCandidates candidates) (same : extents_of lent ≡ extents_of (image_lent o candidates lent layouts working unclaimed))
     (fair : AllFair lent.styles (opened o candidates lent) ms) where
   abbrev lent' : Lent
-  lent' = imageLent o candidates lent layouts working unclaimed
+  lent' = image_lent o candidates lent layouts working unclaimed
 
   abbrev image : List ℕ
   image = image_candidates o.area candidates
@@ -61,17 +61,17 @@ module _ (o : Opening) (candidates : List ℕ) (lent : Lent) (layouts working un
   abbrev has' : Outcome
   has' = foldl (image_next lent'.styles) (opened (image_opening o) image lent') ms
 
-  at-opening : Linked (frame o candidates lent layouts working unclaimed) (opened o candidates lent) (opened (image_opening o) image lent')
-  at-opening = opened-linked o candidates lent layouts working unclaimed same area table quarter
+  at_opening_lem : Linked (frame o candidates lent layouts working unclaimed) (opened o candidates lent) (opened (image_opening o) image lent')
+  at_opening_lem = opened_linked o candidates lent layouts working unclaimed same area table quarter
 
   pub both : Linked (frame o candidates lent layouts working unclaimed) has has'
   both =
-      all-replies (frame o candidates lent layouts working unclaimed) (quarter-frame o candidates lent layouts working unclaimed same area table quarter) ms [] at-opening
+      all_replies (frame o candidates lent layouts working unclaimed) (quarter_frame o candidates lent layouts working unclaimed same area table quarter) ms [] at_opening_lem
       (subst (AllFair lent.styles (opened o candidates lent)) (sym (append-nil ms)) fair)
 
   -- a refused opening leaves no box
-  no-box : Shut (opened o candidates lent).step.state → Shut has.step.state
-  no-box h =
+  no_box_lem : Shut (opened o candidates lent).step.state → Shut has.step.state
+  no_box_lem h =
       subst (λ (x : Outcome). Shut x.step.state) (turns_are lent.styles (opened o candidates lent) ms)
       (turns_shut lent.styles (opened o candidates lent) (turns_of ms) h)
 
@@ -87,22 +87,22 @@ module _ (o : Opening) (candidates : List ℕ) (lent : Lent) (layouts working un
         subst (λ (x : Outcome). Goes (image_opening o) x.step.state) (images_are lent'.styles (opened (image_opening o) image lent') ms)
         (turns_go (image_opening o) lent'.styles (opened (image_opening o) image lent') (images_of ms) g')
 
-    layouts-in : (i : ℕ) → i < laid_so_far has → LayoutIn (layout_of_box has i)
-    layouts-in =
+    layouts_in : (i : ℕ) → i < laid_so_far has → LayoutIn (layout_of_box has i)
+    layouts_in =
         subst (λ (x : Outcome). (i : ℕ) → i < laid_so_far x → LayoutIn (layout_of_box x i)) (turns_are lent.styles (opened o candidates lent) ms)
         (run_in o candidates lent (turns_of ms) area.quarters table quarter accepts (all_lend o lent.styles (opened o candidates lent) ms fair)
-        (all-heard o lent.styles (opened o candidates lent) ms g fair)).layouts
+        (all_heard o lent.styles (opened o candidates lent) ms g fair)).layouts
 
-    same-box : (place : ℕ) → has.step.state.progress ≡ Finished → place < has.step.state.counts.filled.working
+    same_box : (place : ℕ) → has.step.state.progress ≡ Finished → place < has.step.state.counts.filled.working
         → box_reached has.step.state.opened.container has.step.state.overflow (layout_of_box has place)
         ≡ box_reached has'.step.state.opened.container has'.step.state.overflow (layout_of_box has' place)
-    same-box place e h =
+    same_box place e h =
         let m = mirrored both in
         let all = goes.all e in
         let begun : place < has.step.state.counts.begun = omega arith in
         let laid : place < laid_so_far has = subst (λ (p : Progress). place < laid_count p has.step.state.counts.begun) (sym e) begun in
         rw (goes.container, goes'.container, image_block o candidates lent v)
-        (box-alike (container_of o) area.quarters has.step.state.overflow has'.step.state.overflow m.overflow (layout_of_box has place) (layout_of_box has' place) (m.boxes place laid) (layouts-in place laid))
+        (box_alike (container_of o) area.quarters has.step.state.overflow has'.step.state.overflow m.overflow (layout_of_box has place) (layout_of_box has' place) (m.boxes place laid) (layouts_in place laid))
 
   from_opening : (place : ℕ) → told_of place lent.styles has ≡ told_of place lent'.styles has'
   from_opening place = told_alike place both (go (opening_way o candidates lent) (opening_way (image_opening o) image lent'))
@@ -114,12 +114,12 @@ module _ (o : Opening) (candidates : List ℕ) (lent : Lent) (layouts working un
           ≡ box_reached has'.step.state.opened.container has'.step.state.overflow (layout_of_box has' place)
 
       go : OpeningWay o candidates lent → OpeningWay (image_opening o) image lent' → Same
-      go (turnedDown r e) w = λ f h. let n = (no-box (subst (λ (x : Outcome). Shut x.step.state) (sym e) (closed_shut lent))).none in absurd (omega arith)
-      go (begins v e) (turnedDown r e') =
-          no (ap refused_in e') (sym (same_refused (mirrored at-opening).answer) ∙ ap refused_in e ∙ begun_accepts o candidates lent)
+      go (turned_down r e) w = λ f h. let n = (no_box_lem (subst (λ (x : Outcome). Shut x.step.state) (sym e) (closed_shut lent))).none in absurd (omega arith)
+      go (begins v e) (turned_down r e') =
+          no (ap refused_in e') (sym (same_refused (mirrored at_opening_lem).answer) ∙ ap refused_in e ∙ begun_accepts o candidates lent)
       go (begins v e) (begins v' e') =
-          same-box v (subst (λ (x : Outcome). Goes o x.step.state) (sym e) (begun-goes o candidates lent))
-          (subst (λ (x : Outcome). Goes (image_opening o) x.step.state) (sym e') (begun-goes (image_opening o) image lent')) (ap refused_in e ∙ begun_accepts o candidates lent) place
+          same_box v (subst (λ (x : Outcome). Goes o x.step.state) (sym e) (begun_goes o candidates lent))
+          (subst (λ (x : Outcome). Goes (image_opening o) x.step.state) (sym e') (begun_goes (image_opening o) image lent')) (ap refused_in e ∙ begun_accepts o candidates lent) place
 
 -- slices that have the image's styles
 pub with_image : (lent lent' : Lent) → lent'.styles ≡ image_styles lent.styles

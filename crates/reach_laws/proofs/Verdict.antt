@@ -26,34 +26,34 @@ use Rattle.mirror_run.specs.Image.{image_styles}
 use Rattle.mirror_run.specs.Quarter.{AreaInQuarters}
 use Rattle.mirror_run.specs.Runs.{layout_of_box}
 use Rattle.mirror_run.proofs.Linked.{Frame, Shared, Own, state_of, slices_of, Links, Linked, linked}
-use Rattle.mirror_run.proofs.Verdicts.{same-slices, same-others}
+use Rattle.mirror_run.proofs.Verdicts.{same_slices, same_others}
 use Rattle.pixels_laws.proofs.Accepted.{exact_accepted}
 use Rattle.pixels_laws.proofs.Box.{LayoutIn}
 use Rattle.finished.specs.Finished.{is_open, finished_verdict}
-use Rattle.finished.proofs.There.{box-is-filled}
+use Rattle.finished.proofs.There.{box_is_filled}
 use Rattle.reach.specs.declared.Reached.{Reached}
 use Rattle.reach.specs.Reach.{numbers_of, answered_by, box_reached, reached}
 use Rattle.reach_laws.specs.Laws.{told_of}
-use Rattle.reach_laws.proofs.Box.{across-alike, down-alike, reached_alike}
-use Rattle.reach_laws.proofs.Eighths.{equal_alike, sum-in-eighths, image-accepted}
+use Rattle.reach_laws.proofs.Box.{across_alike, down_alike, reached_alike}
+use Rattle.reach_laws.proofs.Eighths.{equal_alike, sum_in_eighths, image_accepted_lem}
 
 -- ---- a box of a run and its image
 
 module _ (c : ContainingBlock) (area : AreaInQuarters c.area) (r r' : Rect) (same : SameRect r r') (l l' : Layout) (m : MirroredLayout c.area l l') (h : LayoutIn l) where
-  x-accepted : accepted l.location.x ≡ true
-  x-accepted = exact_accepted (lit≤ tt) h.x.1
+  x_accepted : accepted l.location.x ≡ true
+  x_accepted = exact_accepted (lit≤ tt) h.x.1
 
-  x'-accepted : accepted l'.location.x ≡ true
-  x'-accepted =
-      image-accepted c.area l.location.x l'.location.x l.size.width m.x h.x.1 (eighths h.size.width.l) (eighths (quarters_exact area.x))
+  x'_accepted : accepted l'.location.x ≡ true
+  x'_accepted =
+      image_accepted_lem c.area l.location.x l'.location.x l.size.width m.x h.x.1 (eighths h.size.width.l) (eighths (quarters_exact area.x))
       (eighths (quarters_exact area.width))
 
-  numbers-alike : all_accepted (numbers_of c.area r l) ≡ all_accepted (numbers_of (image_container c).area r' l')
+  numbers_alike : all_accepted (numbers_of c.area r l) ≡ all_accepted (numbers_of (image_container c).area r' l')
   unfolding all_accepted image_container
-  numbers-alike =
+  numbers_alike =
       rw (
-        x-accepted,
-        x'-accepted,
+        x_accepted,
+        x'_accepted,
         ap accepted m.y,
         (equal_alike l.size.width l'.size.width m.size.width).0,
         ap accepted m.size.height,
@@ -64,14 +64,14 @@ module _ (c : ContainingBlock) (area : AreaInQuarters c.area) (r r' : Rect) (sam
       )
       refl
 
-  pub box-alike : box_reached c r l ≡ box_reached (image_container c) r' l'
-  box-alike =
-      reached_alike c (image_container c) r r' l l' numbers-alike
-      (across-alike c r r' l l'
-      (sum-in-eighths c.area l.location.x l'.location.x l.size.width m.x x-accepted x'-accepted (exact_accepted (lit≤ tt) (eighths h.size.width.l))
+  pub box_alike : box_reached c r l ≡ box_reached (image_container c) r' l'
+  box_alike =
+      reached_alike c (image_container c) r r' l l' numbers_alike
+      (across_alike c r r' l l'
+      (sum_in_eighths c.area l.location.x l'.location.x l.size.width m.x x_accepted x'_accepted (exact_accepted (lit≤ tt) (eighths h.size.width.l))
       (exact_accepted (lit≤ tt) (eighths (quarters_exact area.x))) (exact_accepted (lit≤ tt) (eighths (quarters_exact area.width))))
       (equal_alike l.size.width l'.size.width m.size.width).1 (equal_alike r.right r'.right same.right).1)
-      (down-alike c r r' l l' (ap in_eighths m.y) (ap in_eighths m.size.height) (ap in_eighths same.bottom))
+      (down_alike c r r' l l' (ap in_eighths m.y) (ap in_eighths m.size.height) (ap in_eighths same.bottom))
 
 -- ---- the tests of a finished run
 
@@ -104,12 +104,12 @@ module _ (f : Frame) (s : Shared) (p p' : Own) (links : Links f s p p') where
   long : extents_of here ≡ extents_of there
   long = links.lists.lengths ∙ sym links.lists.lengths'
 
-  pub verdict-alike : (other : Bool) → finished_verdict (state_of f s p) here other ≡ finished_verdict (state_of f s p') there other
+  pub verdict_alike : (other : Bool) → finished_verdict (state_of f s p) here other ≡ finished_verdict (state_of f s p') there other
   unfolding finished_verdict
-  verdict-alike other =
+  verdict_alike other =
       rw (
-        same-slices here there long,
-        same-others here there long f.extents,
+        same_slices here there long,
+        same_others here there long f.extents,
         ap (λ (e : Extents). e.working) long,
         ap (λ (e : Extents). e.unclaimed) long,
         links.lists.good,
@@ -125,5 +125,5 @@ pub told_alike : {f : Frame} {x x' : Outcome} (place : ℕ) → Linked f x x'
     → told_of place f.styles x ≡ told_of place (image_styles f.styles) x'
 unfolding reached
 told_alike {f} place (linked s p p' links same) h =
-    answered_alike _ _ _ _ (verdict-alike f s p p' links (leb s.counts.filled.working place))
-    (λ e. h (finished_is (state_of f s p) (slices_of f.styles p) _ e) (box-is-filled (state_of f s p) (slices_of f.styles p) place e))
+    answered_alike _ _ _ _ (verdict_alike f s p p' links (leb s.counts.filled.working place))
+    (λ e. h (finished_is (state_of f s p) (slices_of f.styles p) _ e) (box_is_filled (state_of f s p) (slices_of f.styles p) place e))

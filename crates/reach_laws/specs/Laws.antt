@@ -27,7 +27,7 @@ use Rattle.reach.specs.Reach.{box_reached, reached}
 pub record MirroredInEighths (c c' : ContainingBlock) (overflow overflow' : Rect) (box box' : Layout) : Type 0 where
   pub image : c' ≡ image_container c
   pub accepted : AllInEighths c overflow box
-  pub imageAccepted : AllInEighths c' overflow' box'
+  pub image_accepted : AllInEighths c' overflow' box'
   pub x :
       (in_eighths box.location.x -ℤ in_eighths c.area.offset.x) +ℤ (in_eighths box'.location.x -ℤ in_eighths c.area.offset.x) +ℤ in_eighths box.size.width
       ≡ in_eighths c.area.size.width

@@ -61,10 +61,10 @@ word_of_record w ws i k h = get_or-take w (drop (w * i) ws) k 0 h ∙ get_or-dro
 
 next_record : (w : ℕ) (ws : List ℕ) (i : ℕ) → record_at w ws (suc i) ≡ record_at w (drop w ws) i
 unfolding record_at
-next_record w ws i = ap (take w) (ap (λ (k : ℕ). drop k ws) (mul-step w i) ∙ sym (drop-drop (w * i) w ws))
+next_record w ws i = ap (take w) (ap (λ (k : ℕ). drop k ws) (mul_step w i) ∙ sym (drop-drop (w * i) w ws))
   where
-    mul-step : (w i : ℕ) → w * suc i ≡ w + w * i
-    mul-step w i = omega (arith, mul-suc w i)
+    mul_step : (w i : ℕ) → w * suc i ≡ w + w * i
+    mul_step w i = omega (arith, mul-suc w i)
 
 first_record : (w : ℕ) (ws : List ℕ) → record_at w ws zero ≡ take w ws
 unfolding record_at
@@ -180,12 +180,12 @@ every_is zero p = (λ e i h. absurd (not-suc-le-zero h), λ f. refl)
 every_is (suc n) p = (
   λ e i h.
       let b : (every n p ≡ true) × (p n ≡ true) = and_both (every n p) (p n) e in
-      below-or-last i h (λ l. (every_is n p).0 b.0 i l) (λ s. rw s b.1),
+      below_or_last i h (λ l. (every_is n p).0 b.0 i l) (λ s. rw s b.1),
   λ f. both_and ((every_is n p).1 (λ i h. f i (omega arith))) (f n (omega arith)),
 )
   where
-    below-or-last : {A : Type 0} (i : ℕ) → i < suc n → (i < n → A) → (i ≡ n → A) → A
-    below-or-last {A} i h f g = go (ltb i n) refl
+    below_or_last : {A : Type 0} (i : ℕ) → i < suc n → (i < n → A) → (i ≡ n → A) → A
+    below_or_last {A} i h f g = go (ltb i n) refl
       where
         go : (b : Bool) → ltb i n ≡ b → A
         go true q = f (ltb-true i n q)
@@ -245,17 +245,17 @@ module _ (kinds : List Kind) (ws : List ℕ) (n : ℕ) where
   unfolding good_records
   too_few h = rw (lt-leb n (length ws / length kinds) h) refl
 
-  pub one-bad : (i : ℕ) → i < n → good kinds ws (length kinds * i) ≡ false → good_records kinds ws n ≡ false
+  pub one_bad : (i : ℕ) → i < n → good kinds ws (length kinds * i) ≡ false → good_records kinds ws n ≡ false
   unfolding good_records
-  one-bad i h e = rw (every_fails n (λ i. good kinds ws (length kinds * i)) i h e) (and_none (leb n (length ws / length kinds)))
+  one_bad i h e = rw (every_fails n (λ i. good kinds ws (length kinds * i)) i h e) (and_none (leb n (length ws / length kinds)))
     where
       and_none : (b : Bool) → (b && false) ≡ false
       and_none true = refl
       and_none false = refl
 
-  pub all-good : n ≤ length ws / length kinds → every n (λ i. good kinds ws (length kinds * i)) ≡ true → good_records kinds ws n ≡ true
+  pub all_good : n ≤ length ws / length kinds → every n (λ i. good kinds ws (length kinds * i)) ≡ true → good_records kinds ws n ≡ true
   unfolding good_records
-  all-good h e = rw (le-leb n (length ws / length kinds) h, e) refl
+  all_good h e = rw (le-leb n (length ws / length kinds) h, e) refl
 
 pub one_more : (kinds : List Kind) (ws : List ℕ) (i : ℕ) → every i (λ i. good kinds ws (length kinds * i)) ≡ true
     → good kinds ws (length kinds * i) ≡ true

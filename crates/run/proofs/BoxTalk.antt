@@ -35,7 +35,7 @@ unfolding during hearing
 hearing_during w k h {q} (asks next) = go (reply_to q (heard_by h))
   where
     go : (r : Option (ReplyTo q))
-        → run.orStay r (λ x. during w (next x) k) (Course.asks w q (λ x. during w (next x) k)) ≡ during w (or_stay r next (ask q next)) k
+        → run.or_stay r (λ x. during w (next x) k) (Course.asks w q (λ x. during w (next x) k)) ≡ during w (or_stay r next (ask q next)) k
     go none = refl
     go (some r) = refl
 
@@ -59,34 +59,34 @@ module _ (container : ContainingBlock) (style : Style) (candidate : OofCandidate
   at_first = record { heard = []; code = refl; talk = refl }
 
   -- the host sees as much of the one as of the other
-  shows-at : (hs : List Heard) {x : Standing} {t : Talk Placed}
+  shows_at : (hs : List Heard) {x : Standing} {t : Talk Placed}
       → foldl (step container style candidate) (begun container style candidate) hs ≡ x
       → foldl after (placed container style candidate) hs ≡ t
       → Shows t (seen_by container style candidate x)
-  shows-at hs {t = t} d e =
+  shows_at hs {t = t} d e =
       subst (Shows t) (sym (ap (seen_by container style candidate) (sym d) ∙ cut_is_definition container style candidate hs ∙ ap seen_of e)) (shows t)
 
   pub asks_at : {replies : Replies} {t : Talk Placed} → At replies t → Asks (asked_after container style candidate replies).question t
-  asks_at a = shows-at a.heard a.code a.talk
+  asks_at a = shows_at a.heard a.code a.talk
 
   -- one reply more
   more : {A B : Type 0} (f : A → B → A) {x y : A} (z : A) (bs : List B) (b : B) → foldl f z bs ≡ x → f x b ≡ y → foldl f z (bs ++ (b ∷ [])) ≡ y
   more f z bs b d e = foldl-append f z bs (b ∷ []) ∙ ap (λ x. f x b) d ∙ e
 
-  code-more : {replies : Replies} {t : Talk Placed} {o : Taken} (h : Heard) (a : At replies t)
+  code_more : {replies : Replies} {t : Talk Placed} {o : Taken} (h : Heard) (a : At replies t)
       → taken replies (asked_after container style candidate replies).stage h.reply ≡ o
       → foldl (step container style candidate) (begun container style candidate) (a.heard ++ (h ∷ []))
       ≡ on_taken container style candidate (asked_after container style candidate replies).stage replies h.surfaced o
-  code-more {replies} h a e =
+  code_more {replies} h a e =
       more (step container style candidate) _ a.heard h a.code
       (ap (on_taken container style candidate (asked_after container style candidate replies).stage replies h.surfaced) e)
 
   pub kept_at : {replies r : Replies} {t : Talk Placed} (h : Heard) → At replies t
       → taken replies (asked_after container style candidate replies).stage h.reply ≡ Kept r
       → At r (after t h)
-  kept_at h a e = record { heard = a.heard ++ (h ∷ []); code = code-more h a e; talk = more after _ a.heard h a.talk refl }
+  kept_at h a e = record { heard = a.heard ++ (h ∷ []); code = code_more h a e; talk = more after _ a.heard h a.talk refl }
 
-  pub laid-at : {replies : Replies} {t : Talk Placed} {overflow : Rect} (h : Heard) → At replies t
+  pub laid_at_lem : {replies : Replies} {t : Talk Placed} {overflow : Rect} (h : Heard) → At replies t
       → taken replies (asked_after container style candidate replies).stage h.reply ≡ Laid overflow
       → after t h ≡ done (record { outcome = layout_after container style candidate replies overflow; surfaced = h.surfaced })
-  laid-at h a e = shows-at (a.heard ++ (h ∷ [])) (code-more h a e) (more after _ a.heard h a.talk refl)
+  laid_at_lem h a e = shows_at (a.heard ++ (h ∷ [])) (code_more h a e) (more after _ a.heard h a.talk refl)

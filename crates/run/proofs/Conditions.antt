@@ -14,7 +14,7 @@ use Rattle.style.specs.Laws.{tags_of, among}
 use Rattle.style.proofs.Laws.{takes_its_tags}
 use Rattle.records.specs.Records.{room, good, good_records}
 use Rattle.tree_record.specs.Candidate.{candidate_width, layer_word, layer_count, axis_kinds, candidate_kinds}
-use Rattle.tree_record.proofs.Good.{good-axis, good-record}
+use Rattle.tree_record.proofs.Good.{good_axis, good_record}
 use Rattle.style_record.specs.Record.{Kind, tag, number, up_to, ratio, keyword, safety, contain, kind_of, item, items}
 use Rattle.style_record.specs.Check.{safety_breaks, breaks_as, breaks_rule, breaks, checked}
 use Rattle.style_record.specs.declared.check.TableCheck.{TableCheck}
@@ -187,7 +187,7 @@ style_decided styles = record { holds = λ t. there (checked styles) refl t; fai
 
 axis_decided : (list : List ℕ) (i k : ℕ) → Decides (not (good axis_kinds list (candidate_width * i + k))) (AxisIsBad list i k)
 axis_decided list i k =
-    rw (good-axis list (candidate_width * i + k), add_assoc (candidate_width * i) k 2, add_assoc (candidate_width * i) k 3, add_assoc (candidate_width * i) k 4)
+    rw (good_axis list (candidate_width * i + k), add_assoc (candidate_width * i) k 2, add_assoc (candidate_width * i) k 3, add_assoc (candidate_width * i) k 4)
     (guard _ (at_most 3 (word list i (k + 2))) (guard _ (at_most 3 (word list i (k + 3))) (last (at_most 3 (word list i (k + 4))))))
 
 -- the code tests the layer first, and it is named last
@@ -210,7 +210,7 @@ layer_last {L} {A} {B} {C} {D} = (to, from)
 
 record_decided : (n : ℕ) (list : List ℕ) (i : ℕ) → Decides (not (good (candidate_kinds n) list (candidate_width * i))) (RecordIsBad n list i)
 record_decided n list i =
-    rw (good-record n list (candidate_width * i), add-zero)
+    rw (good_record n list (candidate_width * i), add-zero)
     (by_iff
     (guard _ (at_most layer_count (word list i layer_word))
     (guard _ (at_most n (get_or list (candidate_width * i) 0))
@@ -247,12 +247,12 @@ code_of height = 2
 code_of lay_out = 3
 
 kinds_differ : (a b : QuestionKind) → code_of a ≡ code_of b → a ≡ b
-kinds_differ a b e = sym (back a) ∙ ap (λ n. get_or byCode n both) e ∙ back b
+kinds_differ a b e = sym (back a) ∙ ap (λ n. get_or by_code n both) e ∙ back b
   where
-    byCode : List QuestionKind
-    byCode = both ∷ width ∷ height ∷ lay_out ∷ []
+    by_code : List QuestionKind
+    by_code = both ∷ width ∷ height ∷ lay_out ∷ []
 
-    back : (a : QuestionKind) → get_or byCode (code_of a) both ≡ a
+    back : (a : QuestionKind) → get_or by_code (code_of a) both ≡ a
     back both = refl
     back width = refl
     back height = refl

@@ -33,36 +33,36 @@ module _ (P : Asked → Type 0) (each : OfMeasures P) where
   chosen true x y h k = h
   chosen false x y h k = k
 
-  after-keywords : (node : ℕ) (across down : SizingKeywordResolution) (known : MaybeSize) (stretch : Size) (later : Asked) → P later
+  after_keywords_lem : (node : ℕ) (across down : SizingKeywordResolution) (known : MaybeSize) (stretch : Size) (later : Asked) → P later
       → P (or_later (keyword_asked node across down known stretch) later)
   unfolding keyword_asked
-  after-keywords node NoKeyword NoKeyword known stretch later h = h
-  after-keywords node NoKeyword (Exact y) known stretch later h = h
-  after-keywords node NoKeyword (Measure down) known stretch later h = each.height _
-  after-keywords node (Exact w) NoKeyword known stretch later h = h
-  after-keywords node (Exact w) (Exact y) known stretch later h = h
-  after-keywords node (Exact w) (Measure down) known stretch later h = each.height _
-  after-keywords node (Measure across) NoKeyword known stretch later h = each.width _
-  after-keywords node (Measure across) (Exact y) known stretch later h = each.width _
-  after-keywords node (Measure across) (Measure down) known stretch later h = each.both _
+  after_keywords_lem node NoKeyword NoKeyword known stretch later h = h
+  after_keywords_lem node NoKeyword (Exact y) known stretch later h = h
+  after_keywords_lem node NoKeyword (Measure down) known stretch later h = each.height _
+  after_keywords_lem node (Exact w) NoKeyword known stretch later h = h
+  after_keywords_lem node (Exact w) (Exact y) known stretch later h = h
+  after_keywords_lem node (Exact w) (Measure down) known stretch later h = each.height _
+  after_keywords_lem node (Measure across) NoKeyword known stretch later h = each.width _
+  after_keywords_lem node (Measure across) (Exact y) known stretch later h = each.width _
+  after_keywords_lem node (Measure across) (Measure down) known stretch later h = each.both _
 
   -- lay out tells the node of its box and the size that the replies kept come to
-  pub of-asked : (container : ContainingBlock) (style : Style) (candidate : OofCandidate) (replies : Replies)
+  pub of_asked : (container : ContainingBlock) (style : Style) (candidate : OofCandidate) (replies : Replies)
       → let box = resolved_box container style candidate in
       ((space : AvailableSize) → P (lay_out_asked candidate.node (size_by style box (size_keywords style box) replies) space))
       → P (asked_after container style candidate replies)
   unfolding asked_after asked_of size_asked size_by
-  of-asked container style candidate replies lays =
+  of_asked container style candidate replies lays =
       let box = resolved_box container style candidate in
       let keywords = size_keywords style box in
       let later = size_asked candidate.node style box keywords replies in
       let h : P later = chosen (fill_given replies.fill || both_present (stretched_by style box keywords replies).known) _ _ (lays box.space) (each.fill _) in
       chosen (is_first replies.keyword replies.fill) _ later
-      (after-keywords candidate.node keywords.width keywords.height box.size (keyword_stretch box) later h)
+      (after_keywords_lem candidate.node keywords.width keywords.height box.size (keyword_stretch box) later h)
       h
 
 -- so the stage tells the kind
 pub stage_tells_kind : StageTellsKind
 stage_tells_kind container style candidate replies =
-    of-asked (λ a. kind_of_question a.question ≡ kind_at a.stage) (record { both = λ m. refl; width = λ m. refl; height = λ m. refl; fill = λ m. refl }) container style candidate replies
+    of_asked (λ a. kind_of_question a.question ≡ kind_at a.stage) (record { both = λ m. refl; width = λ m. refl; height = λ m. refl; fill = λ m. refl }) container style candidate replies
     (λ space. refl)

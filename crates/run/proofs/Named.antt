@@ -24,21 +24,21 @@ named_exactly styles i k = (λ e. there ((bad_is_first styles i k).0 e), λ f. (
     there : First styles i k → FirstNotAllowed styles i k
     there f =
         record {
-          item-there = f.item-there;
+          item_there = f.item-there;
           word_there = f.word-there;
-          not-allowed = (word_decided styles i k).holds f.breaks-it;
-          words-before = λ l p. (word_exactly styles i l).0 (f.words-before l p);
-          items-before = λ j p l q. (word_exactly styles j l).0 (f.items-before j p l q);
+          not_allowed = (word_decided styles i k).holds f.breaks-it;
+          words_before = λ l p. (word_exactly styles i l).0 (f.words-before l p);
+          items_before = λ j p l q. (word_exactly styles j l).0 (f.items-before j p l q);
         }
 
     back : FirstNotAllowed styles i k → First styles i k
     back f =
         record {
-          item-there = f.item-there;
+          item_there = f.item-there;
           word_there = f.word-there;
-          breaks-it = broken styles i k f.not-allowed;
-          words-before = λ l p. (word_exactly styles i l).1 (f.words-before l p);
-          items-before = λ j p l q. (word_exactly styles j l).1 (f.items-before j p l q);
+          breaks_it = broken styles i k f.not-allowed;
+          words_before = λ l p. (word_exactly styles i l).1 (f.words-before l p);
+          items_before = λ j p l q. (word_exactly styles j l).1 (f.items-before j p l q);
         }
 
 pub nothing_exactly : NothingExactly

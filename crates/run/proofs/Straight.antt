@@ -43,7 +43,7 @@ use Rattle.run.specs.Theorems.{laid_count, laid_so_far, Heard, next, Loan, own, 
 use Rattle.run.proofs.Ways.{NextWay, asks, ends, next_way, OpeningWay, begins, opening_way, ReplyWay, measures, lays_out, reply_way, opening_room, reply_room, lent_all}
 use Rattle.run.proofs.Refusals.{refused_in, saying, turn_refused, finished_refuses}
 use Rattle.run.proofs.EachQuestion.{stage_tells_kind}
-use Rattle.run.proofs.BoxTalk.{Asks, heard_by, hearing_during, At, at_first, asks_at, kept_at, laid-at}
+use Rattle.run.proofs.BoxTalk.{Asks, heard_by, hearing_during, At, at_first, asks_at, kept_at, laid_at_lem}
 use Rattle.run.proofs.Worlds.{list_back, rear, rear_count, laid_in, laid_last, claimed_count, claimed_after, unclaimed_after, laid_after, Sound, opening_sound, First, first_back, after_sound}
 
 module _ (o : Opening) (lent : Lent) where
@@ -55,11 +55,11 @@ module _ (o : Opening) (lent : Lent) where
   abbrev style : ℕ → Style
   style = style_at lent.styles
 
-  abbrev workingAt : World → List ℕ
-  workingAt w = appended lent.working 0 (claimed_in w)
+  abbrev working_at : World → List ℕ
+  working_at w = appended lent.working 0 (claimed_in w)
 
-  abbrev countsAt : World → ℕ → ℕ → Counts
-  countsAt w boxes answered =
+  abbrev counts_at : World → ℕ → ℕ → Counts
+  counts_at w boxes answered =
       record { filled = record { working = length (claimed_in w); unclaimed = length w.unclaimed }; begun = boxes; answered = answered }
 
   abbrev leaving : World → Step → Outcome
@@ -67,24 +67,24 @@ module _ (o : Opening) (lent : Lent) where
       record {
         step = step;
         layouts = laid_into lent.layouts w.laid;
-        working = workingAt w;
+        working = working_at w;
         unclaimed = appended lent.unclaimed 0 w.unclaimed;
       }
 
   -- whatever comes next; a box asks; the run has ended
-  abbrev proceedingAt : World → ℕ → Outcome
-  proceedingAt w answered = leaving w (proceeding lent.styles (workingAt w) run (countsAt w (length w.laid) answered) w.overflow)
+  abbrev proceeding_at : World → ℕ → Outcome
+  proceeding_at w answered = leaving w (proceeding lent.styles (working_at w) run (counts_at w (length w.laid) answered) w.overflow)
 
-  abbrev askingAt : World → Replies → ℕ → Outcome
-  askingAt w replies answered =
-      leaving w (asking lent.styles (workingAt w) run (countsAt w (length w.laid + 1) answered) w.overflow replies)
+  abbrev asking_at : World → Replies → ℕ → Outcome
+  asking_at w replies answered =
+      leaving w (asking lent.styles (working_at w) run (counts_at w (length w.laid + 1) answered) w.overflow replies)
 
-  abbrev finishingAt : World → ℕ → Outcome
-  finishingAt w answered = leaving w (finishing run (countsAt w (length w.laid) answered) w.overflow)
+  abbrev finishing_at : World → ℕ → Outcome
+  finishing_at w answered = leaving w (finishing run (counts_at w (length w.laid) answered) w.overflow)
 
-  begun-at : (candidates : List ℕ) → begun o candidates lent ≡ proceedingAt (at_opening (claims_of o) (candidates_in candidates)) 0
+  begun_at : (candidates : List ℕ) → begun o candidates lent ≡ proceeding_at (at_opening (claims_of o) (candidates_in candidates)) 0
   unfolding begun at_opening laid_into
-  begun-at candidates = rw (zero-add, zero-add) refl
+  begun_at candidates = rw (zero-add, zero-add) refl
 
   -- ---- the box at hand
 
@@ -92,43 +92,43 @@ module _ (o : Opening) (lent : Lent) where
   IsFirst w c rest = First lent.working w c rest
 
   -- is the first that waits
-  box-at : {w : World} {c : OofCandidate} {rest : List OofCandidate} (answered : ℕ) → IsFirst w c rest
-      → box_at_hand (workingAt w) (countsAt w (length w.laid + 1) answered) ≡ c
+  box_at : {w : World} {c : OofCandidate} {rest : List OofCandidate} (answered : ℕ) → IsFirst w c rest
+      → box_at_hand (working_at w) (counts_at w (length w.laid + 1) answered) ≡ c
   unfolding box_at_hand
-  box-at {w} answered f =
-      ap (λ (i : ℕ). candidate_of (record_at candidate_width (workingAt w) i)) (last (length w.laid)) ∙ first_back lent.working f
+  box_at {w} answered f =
+      ap (λ (i : ℕ). candidate_of (record_at candidate_width (working_at w) i)) (last (length w.laid)) ∙ first_back lent.working f
     where
       last : (n : ℕ) → n + 1 - 1 ≡ n
       last n = omega arith
 
   -- its question
-  abbrev questionOf : OofCandidate → Replies → Question
-  questionOf c replies = (asked_after (container_of o) (style c.node) c replies).question
+  abbrev question_of : OofCandidate → Replies → Question
+  question_of c replies = (asked_after (container_of o) (style c.node) c replies).question
 
-  abbrev stageOf : OofCandidate → Replies → Stage
-  stageOf c replies = (asked_after (container_of o) (style c.node) c replies).stage
+  abbrev stage_of : OofCandidate → Replies → Stage
+  stage_of c replies = (asked_after (container_of o) (style c.node) c replies).stage
 
-  asked-at : {w : World} {c : OofCandidate} {rest : List OofCandidate} (replies : Replies) (answered : ℕ) → IsFirst w c rest
-      → (askingAt w replies answered).step.answer ≡ Ask (questionOf c replies)
+  asked_at : {w : World} {c : OofCandidate} {rest : List OofCandidate} (replies : Replies) (answered : ℕ) → IsFirst w c rest
+      → (asking_at w replies answered).step.answer ≡ Ask (question_of c replies)
   unfolding asking
-  asked-at replies answered f = ap (λ (c : OofCandidate). Ask (questionOf c replies)) (box-at answered f)
+  asked_at replies answered f = ap (λ (c : OofCandidate). Ask (question_of c replies)) (box_at answered f)
 
-  kind-at : {w : World} {c : OofCandidate} {rest : List OofCandidate} (replies : Replies) (answered : ℕ) → IsFirst w c rest
-      → awaited (askingAt w replies answered).step.state.progress ≡ some (kind_of_question (questionOf c replies))
+  kind_at_lem : {w : World} {c : OofCandidate} {rest : List OofCandidate} (replies : Replies) (answered : ℕ) → IsFirst w c rest
+      → awaited (asking_at w replies answered).step.state.progress ≡ some (kind_of_question (question_of c replies))
   unfolding asking
-  kind-at {c = c} replies answered f =
-      ap (λ (c : OofCandidate). some (kind_at (stageOf c replies))) (box-at answered f)
+  kind_at_lem {c = c} replies answered f =
+      ap (λ (c : OofCandidate). some (kind_at (stage_of c replies))) (box_at answered f)
       ∙ ap some (sym (stage_tells_kind (container_of o) (style c.node) c replies))
 
   -- a reply is taken as it takes it
   taken_at : {w : World} {c : OofCandidate} {rest : List OofCandidate} (replies : Replies) (answered : ℕ) (given : Reply) → IsFirst w c rest
-      → taken_by (askingAt w replies answered).step.state given ≡ taken replies (stageOf c replies) given
+      → taken_by (asking_at w replies answered).step.state given ≡ taken replies (stage_of c replies) given
   unfolding taken_by asking
-  taken_at replies answered given f = ap (λ (c : OofCandidate). taken replies (stageOf c replies) given) (box-at answered f)
+  taken_at replies answered given f = ap (λ (c : OofCandidate). taken replies (stage_of c replies) given) (box_at answered f)
 
   -- what it comes to
-  abbrev placedBy : OofCandidate → Replies → Rect → List ℕ → Placed
-  placedBy c replies overflow surfaced =
+  abbrev placed_by : OofCandidate → Replies → Rect → List ℕ → Placed
+  placed_by c replies overflow surfaced =
       record { outcome = layout_after (container_of o) (style c.node) c replies overflow; surfaced = candidates_in surfaced }
 
   -- ---- a call on what the last one left
@@ -138,31 +138,31 @@ module _ (o : Opening) (lent : Lent) where
       record {
         styles = lent.styles;
         layouts = laid_into lent.layouts w.laid;
-        working = workingAt w;
+        working = working_at w;
         unclaimed = appended lent.unclaimed 0 w.unclaimed;
       }
 
   -- a size was replied: the same world, one reply more
-  measured-at : (w : World) (replies r : Replies) (answered : ℕ)
-      → measured_on (askingAt w replies answered).step.state r (lent_at w) ≡ askingAt w r (answered + 1)
+  measured_at : (w : World) (replies r : Replies) (answered : ℕ)
+      → measured_on (asking_at w replies answered).step.state r (lent_at w) ≡ asking_at w r (answered + 1)
   unfolding measured_on asking
-  measured-at w replies r answered = refl
+  measured_at w replies r answered = refl
 
   -- the box was laid out: the world after it
-  laid-out-at : {w : World} {c : OofCandidate} {rest : List OofCandidate} (replies : Replies) (overflow : Rect) (surfaced : List ℕ) (answered : ℕ)
+  laid_out_at : {w : World} {c : OofCandidate} {rest : List OofCandidate} (replies : Replies) (overflow : Rect) (surfaced : List ℕ) (answered : ℕ)
       → IsFirst w c rest
-      → laid_out (askingAt w replies answered).step.state overflow surfaced (lent_at w)
-      ≡ proceedingAt (after_box (claims_of o) w c rest (placedBy c replies overflow surfaced)) (answered + 1)
+      → laid_out (asking_at w replies answered).step.state overflow surfaced (lent_at w)
+      ≡ proceeding_at (after_box (claims_of o) w c rest (placed_by c replies overflow surfaced)) (answered + 1)
   unfolding laid_out asking after_box
-  laid-out-at {w} {c} {rest} replies overflow surfaced answered f =
-      let p = placedBy c replies overflow surfaced in
+  laid_out_at {w} {c} {rest} replies overflow surfaced answered f =
+      let p = placed_by c replies overflow surfaced in
       let b : Box = record { candidate = c; layout = p.outcome.layout } in
       let cs = map (moved (By p.outcome.layout.location)) (candidates_in surfaced) in
       let inside = keep (claims_of o) true cs in
       let outside = keep (claims_of o) false cs in
       let claimed = claimed_after (claims_of o) w c rest p f.waiting in
       let unclaimed = unclaimed_after (claims_of o) w c rest p in
-      rw (box-at answered f)
+      rw (box_at answered f)
       (λ i.
       joined p (sym (laid_last lent.layouts w.laid b) i) (rear lent.working (claimed_in w) inside claimed i)
       (rear lent.unclaimed w.unclaimed outside unclaimed i)
@@ -184,7 +184,7 @@ module _ (o : Opening) (lent : Lent) where
 
   -- what it surfaced has room
   room_at : (w : World) (replies : Replies) (answered : ℕ) (h : Heard) (stage : Stage) {overflow : Rect}
-      → reply_verdict (askingAt w replies answered).step.state h.reply h.surfaced (lent_at w) ≡ accepted
+      → reply_verdict (asking_at w replies answered).step.state h.reply h.surfaced (lent_at w) ≡ accepted
       → taken replies stage h.reply ≡ Laid overflow
       → length (claimed_in w) + length (keep (claims_of o) true (candidates_in h.surfaced)) ≤ length lent.working / candidate_width
   unfolding asking
@@ -192,16 +192,16 @@ module _ (o : Opening) (lent : Lent) where
       subst₂ (λ (l : List ℕ) (n : ℕ). length (claimed_in w) + length (keep (claims_of o) true (candidates_in l)) ≤ n / candidate_width)
       (lent_all replies stage h.reply h.surfaced k)
       (appended_length lent.working 0 (claimed_in w))
-      (reply_room (askingAt w replies answered).step.state h.reply h.surfaced (lent_at w) v)
+      (reply_room (asking_at w replies answered).step.state h.reply h.surfaced (lent_at w) v)
 
   -- ---- where a run stands
 
-  abbrev boxesFrom : ℕ → World → List OofCandidate → Course
-  boxesFrom most w waiting = boxes most (container_of o) (claims_of o) style w waiting
+  abbrev boxes_from : ℕ → World → List OofCandidate → Course
+  boxes_from most w waiting = boxes most (container_of o) (claims_of o) style w waiting
 
   -- the course after a box
   abbrev onward : ℕ → World → OofCandidate → List OofCandidate → Placed → Course
-  onward most w c rest p = let v = after_box (claims_of o) w c rest p in boxesFrom most v v.waiting
+  onward most w c rest p = let v = after_box (claims_of o) w c rest p in boxes_from most v v.waiting
 
   data Position (answered : ℕ) (x : Outcome) (course : Course) : Type 0 where
     -- in the dialogue of the first box that waits; `most` more may follow
@@ -210,7 +210,7 @@ module _ (o : Opening) (lent : Lent) where
         → IsFirst w c rest
         → most + suc (length w.laid) ≡ 4096
         → At (container_of o) (style c.node) c replies t
-        → x ≡ askingAt w replies answered
+        → x ≡ asking_at w replies answered
         → course ≡ during w t (onward most w c rest)
         → Position answered x course
     -- at the end
@@ -218,7 +218,7 @@ module _ (o : Opening) (lent : Lent) where
         (w : World)
         → w.waiting ≡ []
         → Sound lent.working w
-        → x ≡ finishingAt w answered
+        → x ≡ finishing_at w answered
         → course ≡ ended w
         → Position answered x course
 
@@ -228,75 +228,75 @@ module _ (o : Opening) (lent : Lent) where
 
   -- the next box, or the end
   proceed : (w : World) (most answered : ℕ) → Sound lent.working w → most + length w.laid ≡ 4096
-      → Position answered (proceedingAt w answered) (boxesFrom most w w.waiting)
+      → Position answered (proceeding_at w answered) (boxes_from most w w.waiting)
   unfolding boxes
   proceed w most answered s m =
-      go w.waiting most refl m (next_way lent.styles (workingAt w) run (countsAt w (length w.laid) answered) w.overflow)
+      go w.waiting most refl m (next_way lent.styles (working_at w) run (counts_at w (length w.laid) answered) w.overflow)
     where
       held : (waiting : List OofCandidate) → w.waiting ≡ waiting → length (claimed_in w) ≡ length w.laid + length waiting
       held waiting e = claimed_count w ∙ ap (λ (l : List OofCandidate). length w.laid + length l) e
 
-      none_left : (most : ℕ) → boxesFrom most w [] ≡ ended w
+      none_left : (most : ℕ) → boxes_from most w [] ≡ ended w
       none_left zero = refl
       none_left (suc most) = refl
 
       go : (waiting : List OofCandidate) (most : ℕ) → w.waiting ≡ waiting → most + length w.laid ≡ 4096
-          → NextWay lent.styles (workingAt w) run (countsAt w (length w.laid) answered) w.overflow
-          → Position answered (proceedingAt w answered) (boxesFrom most w w.waiting)
+          → NextWay lent.styles (working_at w) run (counts_at w (length w.laid) answered) w.overflow
+          → Position answered (proceeding_at w answered) (boxes_from most w w.waiting)
       go [] most e m (asks h d) = absurd (omega (arith, held [] e))
-      go [] most e m (ends h d) = over w e s (ap (leaving w) d) (ap (boxesFrom most w) e ∙ none_left most)
+      go [] most e m (ends h d) = over w e s (ap (leaving w) d) (ap (boxes_from most w) e ∙ none_left most)
       go (c ∷ rest) zero e m n = absurd (let r = s.room in let l = s.most in omega (arith, held (c ∷ rest) e))
       go (c ∷ rest) (suc most) e m (asks h d) =
           waits w c rest most no_replies (placed (container_of o) (style c.node) c) (record { waiting = e; sound = s }) (omega arith)
           (at_first (container_of o) (style c.node) c)
           (ap (leaving w) d)
-          (ap (boxesFrom (suc most) w) e)
+          (ap (boxes_from (suc most) w) e)
       go (c ∷ rest) (suc most) e m (ends h d) = absurd (omega (arith, held (c ∷ rest) e))
 
   -- ---- a call moves it on
 
-  replied-on : (w : World) (c : OofCandidate) (rest : List OofCandidate) (most : ℕ) (replies : Replies) (t : Talk Placed) (answered : ℕ) (h : Heard)
+  replied_on : (w : World) (c : OofCandidate) (rest : List OofCandidate) (most : ℕ) (replies : Replies) (t : Talk Placed) (answered : ℕ) (h : Heard)
       → IsFirst w c rest
       → most + suc (length w.laid) ≡ 4096
       → At (container_of o) (style c.node) c replies t
-      → refused_in (next lent.styles (askingAt w replies answered) h) ≡ false
-      → Position (answered + 1) (next lent.styles (askingAt w replies answered) h) (hearing (during w t (onward most w c rest)) h)
+      → refused_in (next lent.styles (asking_at w replies answered) h) ≡ false
+      → Position (answered + 1) (next lent.styles (asking_at w replies answered) h) (hearing (during w t (onward most w c rest)) h)
   unfolding next during
-  replied-on w c rest most replies t answered h f m a n =
-      go (reply_way (askingAt w replies answered).step.state h.reply h.surfaced (lent_at w))
+  replied_on w c rest most replies t answered h f m a n =
+      go (reply_way (asking_at w replies answered).step.state h.reply h.surfaced (lent_at w))
     where
-      takes : {k : Taken} → taken_by (askingAt w replies answered).step.state h.reply ≡ k → taken replies (stageOf c replies) h.reply ≡ k
+      takes : {k : Taken} → taken_by (asking_at w replies answered).step.state h.reply ≡ k → taken replies (stage_of c replies) h.reply ≡ k
       takes k = sym (taken_at replies answered h.reply f) ∙ k
 
       front : hearing (during w t (onward most w c rest)) h ≡ during w (after t (heard_by h)) (onward most w c rest)
       front = hearing_during w (onward most w c rest) h (asks_at (container_of o) (style c.node) c a)
 
-      go : ReplyWay (askingAt w replies answered).step.state h.reply h.surfaced (lent_at w)
-          → Position (answered + 1) (next lent.styles (askingAt w replies answered) h) (hearing (during w t (onward most w c rest)) h)
+      go : ReplyWay (asking_at w replies answered).step.state h.reply h.surfaced (lent_at w)
+          → Position (answered + 1) (next lent.styles (asking_at w replies answered) h) (hearing (during w t (onward most w c rest)) h)
       go (ReplyWay.turnedDown r x) = no (ap refused_in x) n
       go (measures r v k x) =
           waits w c rest most r (after t (heard_by h)) f m (kept_at (container_of o) (style c.node) c (heard_by h) a (takes k))
-          (x ∙ measured-at w replies r answered)
+          (x ∙ measured_at w replies r answered)
           front
       go (lays_out overflow v k x) =
-          let p = placedBy c replies overflow h.surfaced in
-          moved_to (x ∙ laid-out-at replies overflow h.surfaced answered f)
-          (front ∙ ap (λ (u : Talk Placed). during w u (onward most w c rest)) (laid-at (container_of o) (style c.node) c (heard_by h) a (takes k)))
+          let p = placed_by c replies overflow h.surfaced in
+          moved_to (x ∙ laid_out_at replies overflow h.surfaced answered f)
+          (front ∙ ap (λ (u : Talk Placed). during w u (onward most w c rest)) (laid_at_lem (container_of o) (style c.node) c (heard_by h) a (takes k)))
           (proceed (after_box (claims_of o) w c rest p) most (answered + 1)
           (after_sound (claims_of o) lent.working p h.surfaced refl f (room_at w replies answered h _ v (takes k)))
           (ap (λ (n : ℕ). most + n) (laid_after (claims_of o) w c rest p) ∙ m))
 
   -- an ended run takes no reply
-  never-after : {A : Type 0} (w : World) (answered : ℕ) (h : Heard) → refused_in (next lent.styles (finishingAt w answered) h) ≡ false → A
+  never_after : {A : Type 0} (w : World) (answered : ℕ) (h : Heard) → refused_in (next lent.styles (finishing_at w answered) h) ≡ false → A
   unfolding next finishing
-  never-after w answered h n = no (finished_refuses (finishingAt w answered).step.state h.reply h.surfaced (lent_at w) refl) n
+  never_after w answered h n = no (finished_refuses (finishing_at w answered).step.state h.reply h.surfaced (lent_at w) refl) n
 
-  one-call : {answered : ℕ} {x : Outcome} {course : Course} (h : Heard) → Position answered x course → refused_in (next lent.styles x h) ≡ false
+  one_call : {answered : ℕ} {x : Outcome} {course : Course} (h : Heard) → Position answered x course → refused_in (next lent.styles x h) ≡ false
       → Position (answered + 1) (next lent.styles x h) (hearing course h)
-  one-call {answered} h (waits w c rest most replies t f m a d k) n =
+  one_call {answered} h (waits w c rest most replies t f m a d k) n =
       moved_to (ap (λ (x : Outcome). next lent.styles x h) d) (ap (λ (course : Course). hearing course h) k)
-      (replied-on w c rest most replies t answered h f m a (sym (ap (λ (x : Outcome). refused_in (next lent.styles x h)) d) ∙ n))
-  one-call {answered} h (over w e s d k) n = never-after w answered h (sym (ap (λ (x : Outcome). refused_in (next lent.styles x h)) d) ∙ n)
+      (replied_on w c rest most replies t answered h f m a (sym (ap (λ (x : Outcome). refused_in (next lent.styles x h)) d) ∙ n))
+  one_call {answered} h (over w e s d k) n = never_after w answered h (sym (ap (λ (x : Outcome). refused_in (next lent.styles x h)) d) ∙ n)
 
   -- ---- over a whole list of replies
 
@@ -307,14 +307,14 @@ module _ (o : Opening) (lent : Lent) where
     same : x ≡ saying x.step.answer last
     itself : refused_in x ≡ false → x ≡ last
 
-  next-same : {x : Outcome} (y : Outcome) (h : Heard) → x ≡ saying x.step.answer y → next lent.styles x h ≡ next lent.styles y h
+  next_same : {x : Outcome} (y : Outcome) (h : Heard) → x ≡ saying x.step.answer y → next lent.styles x h ≡ next lent.styles y h
   unfolding next
-  next-same y h e = ap (λ (z : Outcome). next lent.styles z h) e
+  next_same y h e = ap (λ (z : Outcome). next lent.styles z h) e
 
   -- one call more
-  after-refused : {answered : ℕ} {x : Outcome} {course : Course} (t : Turn) → refused_in (turned lent.styles x t) ≡ true → Through answered x course
+  after_refused : {answered : ℕ} {x : Outcome} {course : Course} (t : Turn) → refused_in (turned lent.styles x t) ≡ true → Through answered x course
       → Through answered (turned lent.styles x t) course
-  after-refused {x = x} t e p =
+  after_refused {x = x} t e p =
       record {
         last = p.last;
         position = p.position;
@@ -322,41 +322,41 @@ module _ (o : Opening) (lent : Lent) where
         itself = λ f. no e f;
       }
 
-  after-heeded : {answered : ℕ} {x : Outcome} {course : Course} (h : Heard) → refused_in (next lent.styles x h) ≡ false → Through answered x course
+  after_heeded : {answered : ℕ} {x : Outcome} {course : Course} (h : Heard) → refused_in (next lent.styles x h) ≡ false → Through answered x course
       → Through (answered + 1) (next lent.styles x h) (hearing course h)
-  after-heeded {x = x} h e p =
-      let d = next-same p.last h p.same in
+  after_heeded {x = x} h e p =
+      let d = next_same p.last h p.same in
       record {
         last = next lent.styles x h;
-        position = moved_to d refl (one-call h p.position (sym (ap refused_in d) ∙ e));
+        position = moved_to d refl (one_call h p.position (sym (ap refused_in d) ∙ e));
         same = refl;
         itself = λ f. refl;
       }
 
   -- which is lent the run's own slices
-  heeded-own : {answered : ℕ} {x : Outcome} {course : Course} (t : Turn) → Lends t.loan (turned lent.styles x t).step.answer
+  heeded_own : {answered : ℕ} {x : Outcome} {course : Course} (t : Turn) → Lends t.loan (turned lent.styles x t).step.answer
       → refused_in (turned lent.styles x t) ≡ false
       → Through answered x course
       → Through (answered + 1) (turned lent.styles x t) (hearing course t.heard)
-  heeded-own {answered} {x} {course} t l e p = go t.loan l e
+  heeded_own {answered} {x} {course} t l e p = go t.loan l e
     where
       go : (loan : Loan) → Lends loan (next_with lent.styles x t.heard loan).step.answer → refused_in (next_with lent.styles x t.heard loan) ≡ false
           → Through (answered + 1) (next_with lent.styles x t.heard loan) (hearing course t.heard)
-      go own l e = after-heeded t.heard e p
+      go own l e = after_heeded t.heard e p
       go (other others) l e = no l e
 
   -- any number of them
   abbrev After : ℕ → Course → List Heard → Outcome → Type 0
   After answered course taken x = Through (answered + length taken) x (foldl hearing course taken)
 
-  all-calls : (answered : ℕ) (x : Outcome) (course : Course) (turns : List Turn) → AllLend lent.styles x turns → Through answered x course
+  all_calls : (answered : ℕ) (x : Outcome) (course : Course) (turns : List Turn) → AllLend lent.styles x turns → Through answered x course
       → After answered course (heeded lent.styles x turns) (foldl (turned lent.styles) x turns)
   unfolding heeded
-  all-calls answered x course [] l p = rw add-zero p
-  all-calls answered x course (t ∷ turns) l p =
+  all_calls answered x course [] l p = rw add-zero p
+  all_calls answered x course (t ∷ turns) l p =
       let y = turned lent.styles x t in
-      go y (heeded lent.styles y turns) (refused_in y) (λ e. all-calls answered y course turns l.1 (after-refused t e p))
-      (λ e. all-calls (answered + 1) y (hearing course t.heard) turns l.1 (heeded-own t l.0 e p))
+      go y (heeded lent.styles y turns) (refused_in y) (λ e. all_calls answered y course turns l.1 (after_refused t e p))
+      (λ e. all_calls (answered + 1) y (hearing course t.heard) turns l.1 (heeded_own t l.0 e p))
       refl
     where
       one_on : (m n : ℕ) → m + 1 + n ≡ m + suc n
@@ -373,17 +373,17 @@ module _ (o : Opening) (lent : Lent) where
 
   -- ---- what stands there
 
-  says-asking : (w : World) (k : Placed → Course) (answered : ℕ) {q : Question} {t : Talk Placed} → Asks q t
+  says_asking : (w : World) (k : Placed → Course) (answered : ℕ) {q : Question} {t : Talk Placed} → Asks q t
       → (so_far (during w t k) ≡ w) × (begun_in (during w t k) ≡ length w.laid + 1) × (said_after answered (during w t k) ≡ Ask q)
       × (awaited_in (during w t k) ≡ some (kind_of_question q))
   unfolding during
-  says-asking w k answered (Asks.asks reply) = (refl, refl, refl, refl)
+  says_asking w k answered (Asks.asks reply) = (refl, refl, refl, refl)
 
   -- at a world: the last call that wasn't refused left it with this step
   stands_at : (w : World) (answered : ℕ) (step : Step) {x y : Outcome} {course : Course} → x ≡ saying x.step.answer y
       → (refused_in x ≡ false → x ≡ y)
       → y ≡ leaving w step
-      → step.state.counts ≡ countsAt w (begun_in course) answered
+      → step.state.counts ≡ counts_at w (begun_in course) answered
       → laid_count step.state.progress step.state.counts.begun ≡ length w.laid
       → step.state.overflow ≡ w.overflow
       → open_in lent.styles (leaving w step) ≡ said_after answered course
@@ -394,9 +394,9 @@ module _ (o : Opening) (lent : Lent) where
   stands_at w answered step {x} {y} {course} d i e c n v p q a s =
       record {
         layouts = left (λ z. z.layouts) refl ∙ ap (λ (v : World). laid_into lent.layouts v.laid) (sym s);
-        working = left (λ z. z.working) refl ∙ ap workingAt (sym s);
+        working = left (λ z. z.working) refl ∙ ap working_at (sym s);
         unclaimed = left (λ z. z.unclaimed) refl ∙ ap (λ (v : World). appended lent.unclaimed 0 v.unclaimed) (sym s);
-        filled = left (λ z. z.step.state.counts.filled) refl ∙ ap (λ (c : Counts). c.filled) c ∙ ap (λ (v : World). (countsAt v 0 0).filled) (sym s);
+        filled = left (λ z. z.step.state.counts.filled) refl ∙ ap (λ (c : Counts). c.filled) c ∙ ap (λ (v : World). (counts_at v 0 0).filled) (sym s);
         begun = left (λ z. z.step.state.counts.begun) refl ∙ ap (λ (c : Counts). c.begun) c;
         counted = left (λ z. z.step.state.counts.answered) refl ∙ ap (λ (c : Counts). c.answered) c;
         laid = left laid_so_far refl ∙ n ∙ ap (λ (v : World). length v.laid) (sym s);
@@ -416,14 +416,14 @@ module _ (o : Opening) (lent : Lent) where
     where
       go : Position answered p.last course → Stands lent answered x course
       go (waits w c rest most replies t f m a d k) =
-          let says = says-asking w (onward most w c rest) answered (asks_at (container_of o) (style c.node) c a) in
-          let asked = asked-at replies answered f ∙ sym says.2 in
+          let says = says_asking w (onward most w c rest) answered (asks_at (container_of o) (style c.node) c a) in
+          let asked = asked_at replies answered f ∙ sym says.2 in
           subst (Stands lent answered x) (sym k)
-          (stands_at w answered (askingAt w replies answered).step p.same p.itself d (ap (λ (n : ℕ). countsAt w n answered) (sym says.1))
+          (stands_at w answered (asking_at w replies answered).step p.same p.itself d (ap (λ (n : ℕ). counts_at w n answered) (sym says.1))
           (last (length w.laid))
           refl
           asked
-          (kind-at replies answered f ∙ sym says.3)
+          (kind_at_lem replies answered f ∙ sym says.3)
           asked
           says.0)
         where
@@ -431,13 +431,13 @@ module _ (o : Opening) (lent : Lent) where
           last n = omega arith
       go (over w e s d k) =
           subst (Stands lent answered x) (sym k)
-          (stands_at w answered (finishingAt w answered).step p.same p.itself d refl refl refl refl refl refl refl)
+          (stands_at w answered (finishing_at w answered).step p.same p.itself d refl refl refl refl refl refl refl)
 
   -- at the end the hoisted order is that of the boxes laid out
-  ended-order : (w : World) (answered : ℕ) → w.waiting ≡ [] → Sound lent.working w
-      → hoisted (finishingAt w answered) ≡ map (λ (b : Box). b.candidate.node) w.laid
+  ended_order : (w : World) (answered : ℕ) → w.waiting ≡ [] → Sound lent.working w
+      → hoisted (finishing_at w answered) ≡ map (λ (b : Box). b.candidate.node) w.laid
   unfolding finishing
-  ended-order w answered e s =
+  ended_order w answered e s =
       ap (map (λ (c : OofCandidate). c.node))
       (list_back lent.working (claimed_in w) s.fits s.room ∙ ap (λ (l : List OofCandidate). laid_in w ++ l) e ∙ append-nil (laid_in w))
       ∙ map-map (λ (c : OofCandidate). c.node) (λ (b : Box). b.candidate) w.laid
@@ -455,11 +455,11 @@ at_last o candidates lent turns e l = go (opening_way o candidates lent)
     go (OpeningWay.turnedDown r x) = no (ap refused_in x) e
     go (begins v x) =
         rw zero-add at
-        (all-calls o lent 0 (opened o candidates lent) (straight 4096 (container_of o) (claims_of o) (style o lent) (candidates_in candidates)) turns l
+        (all_calls o lent 0 (opened o candidates lent) (straight 4096 (container_of o) (claims_of o) (style o lent) (candidates_in candidates)) turns l
         (record {
           last = opened o candidates lent;
           position =
-              moved_to o lent (x ∙ begun-at o lent candidates) refl
+              moved_to o lent (x ∙ begun_at o lent candidates) refl
               (proceed o lent (at_opening (claims_of o) (candidates_in candidates)) 4096 0
               (opening_sound (claims_of o) lent.working candidates (opening_room o candidates lent v))
               refl);
@@ -495,5 +495,5 @@ hoisted_order o candidates lent turns w e l d = go p.position
     go (waits v c rest most replies t f m a x k) =
         not_asking w v (onward o lent most v c rest) (asks_at (container_of o) (style o lent c.node) c a) (subst (EndsIn w) k ending)
     go (over v f s x k) =
-        ap hoisted p.same ∙ ap hoisted x ∙ ended-order o lent v (length (heeded_in o candidates lent turns)) f s
+        ap hoisted p.same ∙ ap hoisted x ∙ ended_order o lent v (length (heeded_in o candidates lent turns)) f s
         ∙ ap (λ (v : World). map (λ (b : Box). b.candidate.node) v.laid) (subst (EndsIn w) k ending)

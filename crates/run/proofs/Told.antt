@@ -34,7 +34,7 @@ use Rattle.run.specs.Run.{box_at_hand, asking, finishing, proceeding, begun, ope
 use Rattle.run.specs.Theorems.{is_refused, Heard, next, Turn, turned, open_by, open_in, Left, opening, reply, AllRefused, WroteSize, ToldIsWritten}
 use Rattle.run.proofs.Ways.{NextWay, asks, ends, next_way, OpeningWay, begins, opening_way, ReplyWay, measures, lays_out, reply_way, never_kept}
 use Rattle.run.proofs.Refusals.{refused_in, saying, turn_refused}
-use Rattle.run.proofs.EachQuestion.{of-asked}
+use Rattle.run.proofs.EachQuestion.{of_asked}
 
 -- ---- of a box
 
@@ -51,7 +51,7 @@ unfolding layout_after box_layout layout_of
 asked_size container style candidate replies overflow input e =
     let box = resolved_box container style candidate in
     subst (Tells candidate.node (size_by style box (size_keywords style box) replies)) e
-    (of-asked (λ a. Tells candidate.node (size_by style box (size_keywords style box) replies) a.question)
+    (of_asked (λ a. Tells candidate.node (size_by style box (size_keywords style box) replies) a.question)
     (record { both = λ m. tt; width = λ m. tt; height = λ m. tt; fill = λ m. tt })
     container style candidate replies
     (λ space. (refl, refl)))

@@ -61,7 +61,7 @@ next_way styles working run counts overflow = go (ltb counts.begun counts.filled
 -- ---- an opening
 
 pub data OpeningWay (o : Opening) (candidates : List ℕ) (lent : Lent) : Type 0 where
-  turnedDown : (r : Refusal) → opened o candidates lent ≡ unwritten lent (record { state = closed lent; answer = Refused r }) → OpeningWay o candidates lent
+  turned_down : (r : Refusal) → opened o candidates lent ≡ unwritten lent (record { state = closed lent; answer = Refused r }) → OpeningWay o candidates lent
   begins : opening_verdict o candidates lent ≡ accepted → opened o candidates lent ≡ begun o candidates lent → OpeningWay o candidates lent
 
 pub opening_way : (o : Opening) (candidates : List ℕ) (lent : Lent) → OpeningWay o candidates lent
@@ -70,12 +70,12 @@ opening_way o candidates lent = go (opening_verdict o candidates lent) refl
   where
     go : (v : Verdict) → opening_verdict o candidates lent ≡ v → OpeningWay o candidates lent
     go accepted e = begins e (rw e refl)
-    go (refused r) e = turnedDown r (rw e refl)
+    go (refused r) e = turned_down r (rw e refl)
 
 -- ---- a reply
 
 pub data ReplyWay (s : State) (reply : Reply) (surfaced : List ℕ) (lent : Lent) : Type 0 where
-  turnedDown : (r : Refusal) → replied s reply surfaced lent ≡ refusing s lent r → ReplyWay s reply surfaced lent
+  turned_down : (r : Refusal) → replied s reply surfaced lent ≡ refusing s lent r → ReplyWay s reply surfaced lent
   measures :
       (replies : Replies) → reply_verdict s reply surfaced lent ≡ accepted → taken_by s reply ≡ Kept replies
       → replied s reply surfaced lent ≡ measured_on s replies lent
@@ -90,8 +90,8 @@ unfolding replied
 reply_way s reply surfaced lent = go (reply_verdict s reply surfaced lent) (taken_by s reply) refl refl
   where
     go : (v : Verdict) (t : Taken) → reply_verdict s reply surfaced lent ≡ v → taken_by s reply ≡ t → ReplyWay s reply surfaced lent
-    go (refused r) t d e = turnedDown r (rw d refl)
-    go accepted Wrong d e = turnedDown WrongReply (rw (d, e) refl)
+    go (refused r) t d e = turned_down r (rw d refl)
+    go accepted Wrong d e = turned_down WrongReply (rw (d, e) refl)
     go accepted (Kept replies) d e = measures replies d e (rw (d, e) refl)
     go accepted (Laid overflow) d e = lays_out overflow d e (rw (d, e) refl)
 

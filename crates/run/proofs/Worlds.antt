@@ -18,7 +18,7 @@ use Rattle.sweep.specs.Sweep.{first_candidates, candidates_in, moved, keep, appe
 use Rattle.sweep.specs.Laws.{AllFit}
 use Rattle.sweep.specs.declared.Shift.TheVariants.{Unmoved, By}
 use Rattle.sweep.proofs.Laws.{swept_fits, kept_fits, appended_back}
-use Rattle.sweep.proofs.Steps.{kept-moved, appended_twice}
+use Rattle.sweep.proofs.Steps.{kept_moved, appended_twice}
 use Rattle.oof_box.specs.Box.{Placed}
 use Rattle.run.specs.Straight.{World, Box, at_opening, after_box}
 use Rattle.run.specs.Theorems.{claimed_in, laid_into}
@@ -152,6 +152,6 @@ after_sound by working {w} {c} {rest} p surfaced e f h =
     let all = claimed_after by w c rest p f.waiting ∙ ap (λ (l : List OofCandidate). claimed_in w ++ keep by true (map (moved shift) l)) e in
     record {
       fits = subst AllFit (sym all) (fits_append (claimed_in w) (keep by true cs) f.sound.fits (kept_fits by cs (swept_fits shift surfaced)).0);
-      room = rw (all, length-append, kept-moved by true shift (candidates_in surfaced)) h;
+      room = rw (all, length-append, kept_moved by true shift (candidates_in surfaced)) h;
       most = f.sound.most;
     }

@@ -84,11 +84,11 @@ StyleIsBad styles = (i : ℕ) × (k : ℕ) × (i < items styles) × (k < item_wo
 -- request #103, "that item and the first of its words": word k of item i is not allowed, all words before it in its item are, and all of the
 -- items before
 pub record FirstNotAllowed (styles : List ℕ) (i k : ℕ) : Type 0 where
-  pub item-there : i < items styles
+  pub item_there : i < items styles
   pub word_there : k < item_words
-  pub not-allowed : ¬ WordIsAllowed styles i k
-  pub words-before : (l : ℕ) → l < k → WordIsAllowed styles i l
-  pub items-before : (j : ℕ) → j < i → (l : ℕ) → l < item_words → WordIsAllowed styles j l
+  pub not_allowed : ¬ WordIsAllowed styles i k
+  pub words_before : (l : ℕ) → l < k → WordIsAllowed styles i l
+  pub items_before : (j : ℕ) → j < i → (l : ℕ) → l < item_words → WordIsAllowed styles j l
 
 -- no word of the table breaks a rule; a part of a record behind the last whole one is no item
 abbrev pub AllAllowed : List ℕ → Type 0

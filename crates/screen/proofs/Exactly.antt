@@ -130,11 +130,11 @@ screen_there text e =
     record {
       items = drop (bytes_of First) text;
       candidates = drop (candidates_at n) text;
-      first-line = line_there (fields_of First) text parts.0 (eqb-true _ 10 parts.1);
-      item-lines = subst (StartsLines Item n (drop (bytes_of First) text)) items (lines_there Item n (drop (bytes_of First) text) four.1);
-      candidate-lines = subst (StartsLines Candidate m (drop (candidates_at n) text)) candidates (lines_there Candidate m (drop (candidates_at n) text) five.1);
-      few-items = told.fewItems;
-      few-candidates = told.fewCandidates;
+      first_line = line_there (fields_of First) text parts.0 (eqb-true _ 10 parts.1);
+      item_lines = subst (StartsLines Item n (drop (bytes_of First) text)) items (lines_there Item n (drop (bytes_of First) text) four.1);
+      candidate_lines = subst (StartsLines Candidate m (drop (candidates_at n) text)) candidates (lines_there Candidate m (drop (candidates_at n) text) five.1);
+      few_items_lem = told.fewItems;
+      few_candidates_lem = told.fewCandidates;
     }
 
 there_screen : (text : List ℕ) → IsScreen text → is_screen text ≡ true

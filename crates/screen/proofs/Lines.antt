@@ -54,17 +54,17 @@ module _ (ks : List Kind) (text : List ℕ) (at j : ℕ) where
     unfolding good_fields
     good_more = rw (drop-cons ks j Code h, drop-drop COLUMNS (at + COLUMNS * j) text, next at j, add-one j) refl
 
-    pub good-stops : is_good (word_of (get_or ks j Code) (field text (at + COLUMNS * j))) ≡ false → good_fields (drop j ks) (drop (at + COLUMNS * j) text) ≡ false
-    good-stops e = good_more ∙ rw e refl
+    pub good_stops : is_good (word_of (get_or ks j Code) (field text (at + COLUMNS * j))) ≡ false → good_fields (drop j ks) (drop (at + COLUMNS * j) text) ≡ false
+    good_stops e = good_more ∙ rw e refl
 
-    pub good-goes-on : is_good (word_of (get_or ks j Code) (field text (at + COLUMNS * j))) ≡ true
+    pub good_goes_on : is_good (word_of (get_or ks j Code) (field text (at + COLUMNS * j))) ≡ true
         → good_fields (drop j ks) (drop (at + COLUMNS * j) text) ≡ good_fields (drop (j + 1) ks) (drop (at + COLUMNS * (j + 1)) text)
-    good-goes-on e = good_more ∙ rw e refl
+    good_goes_on e = good_more ∙ rw e refl
 
 module _ (ks : List Kind) (text : List ℕ) (at first n j : ℕ) where
-  pub words-none : n ≤ j → words_of (part ks (first + j) (n - j)) (drop (at + COLUMNS * j) text) ≡ []
+  pub words_none : n ≤ j → words_of (part ks (first + j) (n - j)) (drop (at + COLUMNS * j) text) ≡ []
   unfolding words_of part
-  words-none h = rw (done j n h) refl
+  words_none h = rw (done j n h) refl
 
   module _ (h : j < n) (k : first + n ≤ length ks) where
     here : first + j < length ks
@@ -75,10 +75,10 @@ module _ (ks : List Kind) (text : List ℕ) (at first n j : ℕ) where
     unfolding words_of part
     words_more = rw (turn j n h, drop-cons ks (first + j) Code here, drop-drop COLUMNS (at + COLUMNS * j) text, next at j, along first j) refl
 
-    pub words-stored : (out : List ℕ) (to : ℕ)
+    pub words_stored : (out : List ℕ) (to : ℕ)
         → sets out (to + j) (words_of (part ks (first + j) (n - j)) (drop (at + COLUMNS * j) text))
         ≡ sets (set out (to + j) (value_of (word_of (get_or ks (first + j) Code) (field text (at + COLUMNS * j))))) (to + (j + 1)) (words_of (part ks (first + (j + 1)) (n - (j + 1))) (drop (at + COLUMNS * (j + 1)) text))
-    words-stored out to = rw (words_more, along to j) refl
+    words_stored out to = rw (words_more, along to j) refl
 
 pub words_length : (ks : List Kind) (text : List ℕ) → length (words_of ks text) ≡ length ks
 unfolding words_of
@@ -103,13 +103,13 @@ words_at (k ∷ ks) text (suc j) h =
 -- ---- a line
 
 module _ (line : Line) (text : List ℕ) (at : ℕ) where
-  pub line-bad : good_fields (fields_of line) (drop at text) ≡ false → good_line line (drop at text) ≡ false
+  pub line_bad : good_fields (fields_of line) (drop at text) ≡ false → good_line line (drop at text) ≡ false
   unfolding good_line
-  line-bad e = rw e refl
+  line_bad e = rw e refl
 
-  pub line-fed : good_fields (fields_of line) (drop at text) ≡ true → good_line line (drop at text) ≡ eqb (get_or text (at + COLUMNS * length (fields_of line)) 0) 10
+  pub line_fed : good_fields (fields_of line) (drop at text) ≡ true → good_line line (drop at text) ≡ eqb (get_or text (at + COLUMNS * length (fields_of line)) 0) 10
   unfolding good_line
-  line-fed e = rw (e, get_or-drop at text (COLUMNS * length (fields_of line)) 0) refl
+  line_fed e = rw (e, get_or-drop at text (COLUMNS * length (fields_of line)) 0) refl
 
 -- ---- lines one after another
 
@@ -130,11 +130,11 @@ module _ (line : Line) (text : List ℕ) (p i n : ℕ) where
     unfolding good_lines
     lines_more = rw (turn i n h, drop-drop (bytes_of line) p text) refl
 
-    pub lines-stop : good_line line (drop p text) ≡ false → good_lines line (n - i) (drop p text) ≡ false
-    lines-stop e = lines_more ∙ rw e refl
+    pub lines_stop : good_line line (drop p text) ≡ false → good_lines line (n - i) (drop p text) ≡ false
+    lines_stop e = lines_more ∙ rw e refl
 
-    pub lines-go-on : good_line line (drop p text) ≡ true → good_lines line (n - i) (drop p text) ≡ good_lines line (n - (i + 1)) (drop (p + bytes_of line) text)
-    lines-go-on e = lines_more ∙ rw e refl
+    pub lines_go_on : good_line line (drop p text) ≡ true → good_lines line (n - i) (drop p text) ≡ good_lines line (n - (i + 1)) (drop (p + bytes_of line) text)
+    lines_go_on e = lines_more ∙ rw e refl
 
 module _ (ks : List Kind) (line : Line) (text : List ℕ) (p f i rows : ℕ) where
   pub rows_none : rows ≤ i → rows_of ks line (rows - i) (drop (p + f) text) ≡ []
@@ -148,8 +148,8 @@ module _ (ks : List Kind) (line : Line) (text : List ℕ) (p f i rows : ℕ) whe
       over : (p f b : ℕ) → p + f + b ≡ p + b + f
       over p f b = omega arith
 
-  pub rows-stored : i < rows → (out : List ℕ) (q n : ℕ) → length ks ≡ n
+  pub rows_stored : i < rows → (out : List ℕ) (q n : ℕ) → length ks ≡ n
       → sets out q (rows_of ks line (rows - i) (drop (p + f) text)) ≡ sets (sets out q (words_of ks (drop (p + f) text))) (q + n) (rows_of ks line (rows - (i + 1)) (drop (p + bytes_of line + f) text))
-  rows-stored h out q n e =
+  rows_stored h out q n e =
       rw (rows_more h)
       (sets_append (words_of ks (drop (p + f) text)) (rows_of ks line (rows - (i + 1)) (drop (p + bytes_of line + f) text)) out q ∙ rw (words_length ks (drop (p + f) text), e) refl)

@@ -34,56 +34,56 @@ screen_bytes_lem n m = rw (candidates_at_lem n, candidate_bytes) refl
 -- ---- the counts
 
 module _ (text : List ℕ) where
-  pub items-told : value_of (word_of Code (take COLUMNS (drop (COLUMNS * ITEM_COUNT) text))) ≡ item_count text
+  pub items_told : value_of (word_of Code (take COLUMNS (drop (COLUMNS * ITEM_COUNT) text))) ≡ item_count text
   unfolding item_count header_of first_fields
-  items-told = sym (words_at first_fields text ITEM_COUNT (lit< tt))
+  items_told = sym (words_at first_fields text ITEM_COUNT (lit< tt))
 
-  pub candidates-told : value_of (word_of Code (take COLUMNS (drop (COLUMNS * CANDIDATE_COUNT) text))) ≡ candidate_count text
+  pub candidates_told : value_of (word_of Code (take COLUMNS (drop (COLUMNS * CANDIDATE_COUNT) text))) ≡ candidate_count text
   unfolding candidate_count header_of first_fields
-  candidates-told = sym (words_at first_fields text CANDIDATE_COUNT (lit< tt))
+  candidates_told = sym (words_at first_fields text CANDIDATE_COUNT (lit< tt))
 
 -- ---- one test after another
 
 module _ (text : List ℕ) where
-  pub first-bad : good_line First text ≡ false → BadLine ≡ answer_of text
+  pub first_bad : good_line First text ≡ false → BadLine ≡ answer_of text
   unfolding answer_of is_screen
-  first-bad e = rw e refl
+  first_bad e = rw e refl
 
   pub too_short : length text < FIRST_BYTES → BadLine ≡ answer_of text
-  too_short h = first-bad none
+  too_short h = first_bad none
     where
       none : good_line First text ≡ false
       none = unfold good_line in rw (first_width, get_or-eq_default text 0 {n = 110} (omega arith)) (and-false (good_fields (fields_of First) text))
 
   module _ (n m : ℕ) (p : n ≡ item_count text) (q : m ≡ candidate_count text) (f : good_line First text ≡ true) where
-    pub items-over : MAX_ITEMS < n → BadLine ≡ answer_of text
+    pub items_over : MAX_ITEMS < n → BadLine ≡ answer_of text
     unfolding answer_of is_screen
-    items-over h = rw (f, ← p, lt-leb n MAX_ITEMS h) refl
+    items_over h = rw (f, ← p, lt-leb n MAX_ITEMS h) refl
 
     module _ (a : n ≤ MAX_ITEMS) where
-      pub candidates-over : MAX_CANDIDATES < m → BadLine ≡ answer_of text
+      pub candidates_over : MAX_CANDIDATES < m → BadLine ≡ answer_of text
       unfolding answer_of is_screen
-      candidates-over h = rw (f, ← p, ← q, le-leb n MAX_ITEMS a, lt-leb m MAX_CANDIDATES h) refl
+      candidates_over h = rw (f, ← p, ← q, le-leb n MAX_ITEMS a, lt-leb m MAX_CANDIDATES h) refl
 
       module _ (b : m ≤ MAX_CANDIDATES) where
-        pub bytes-differ : (length text ≡ FIRST_BYTES + n * ITEM_BYTES + m * CANDIDATE_BYTES → ⊥) → BadLine ≡ answer_of text
+        pub bytes_differ : (length text ≡ FIRST_BYTES + n * ITEM_BYTES + m * CANDIDATE_BYTES → ⊥) → BadLine ≡ answer_of text
         unfolding answer_of is_screen
-        bytes-differ d = rw (f, ← p, ← q, le-leb n MAX_ITEMS a, le-leb m MAX_CANDIDATES b, screen_bytes_lem n m, ne_eqb (length text) (FIRST_BYTES + n * ITEM_BYTES + m * CANDIDATE_BYTES) d) refl
+        bytes_differ d = rw (f, ← p, ← q, le-leb n MAX_ITEMS a, le-leb m MAX_CANDIDATES b, screen_bytes_lem n m, ne_eqb (length text) (FIRST_BYTES + n * ITEM_BYTES + m * CANDIDATE_BYTES) d) refl
 
         module _ (s : length text ≡ FIRST_BYTES + n * ITEM_BYTES + m * CANDIDATE_BYTES) where
-          pub items-bad : good_lines Item n (drop FIRST_BYTES text) ≡ false → BadLine ≡ answer_of text
+          pub items_bad : good_lines Item n (drop FIRST_BYTES text) ≡ false → BadLine ≡ answer_of text
           unfolding answer_of is_screen
-          items-bad g =
+          items_bad g =
               rw (f, ← p, ← q, le-leb n MAX_ITEMS a, le-leb m MAX_CANDIDATES b, screen_bytes_lem n m, eq-eqb (length text) (FIRST_BYTES + n * ITEM_BYTES + m * CANDIDATE_BYTES) s, first_bytes, g) refl
 
-          pub candidates-bad : good_lines Item n (drop FIRST_BYTES text) ≡ true → good_lines Candidate m (drop (FIRST_BYTES + n * ITEM_BYTES) text) ≡ false → BadLine ≡ answer_of text
+          pub candidates_bad : good_lines Item n (drop FIRST_BYTES text) ≡ true → good_lines Candidate m (drop (FIRST_BYTES + n * ITEM_BYTES) text) ≡ false → BadLine ≡ answer_of text
           unfolding answer_of is_screen
-          candidates-bad g h =
+          candidates_bad g h =
               rw (f, ← p, ← q, le-leb n MAX_ITEMS a, le-leb m MAX_CANDIDATES b, screen_bytes_lem n m, eq-eqb (length text) (FIRST_BYTES + n * ITEM_BYTES + m * CANDIDATE_BYTES) s, first_bytes, g, candidates_at_lem n, h) refl
 
-          pub all-good : good_lines Item n (drop FIRST_BYTES text) ≡ true → good_lines Candidate m (drop (FIRST_BYTES + n * ITEM_BYTES) text) ≡ true → Read n m ≡ answer_of text
+          pub all_good : good_lines Item n (drop FIRST_BYTES text) ≡ true → good_lines Candidate m (drop (FIRST_BYTES + n * ITEM_BYTES) text) ≡ true → Read n m ≡ answer_of text
           unfolding answer_of is_screen
-          all-good g h =
+          all_good g h =
               rw (f, ← p, ← q, le-leb n MAX_ITEMS a, le-leb m MAX_CANDIDATES b, screen_bytes_lem n m, eq-eqb (length text) (FIRST_BYTES + n * ITEM_BYTES + m * CANDIDATE_BYTES) s, first_bytes, g, candidates_at_lem n, h) refl
 
 -- ---- what an answer tells
@@ -100,8 +100,8 @@ pub record Told (text : List ℕ) (n m : ℕ) : Type 0 where
   pub good : is_screen text ≡ true
   pub items : n ≡ item_count text
   pub candidates : m ≡ candidate_count text
-  pub fewItems : n ≤ 128
-  pub fewCandidates : m ≤ 256
+  pub few_items : n ≤ 128
+  pub few_candidates : m ≤ 256
   pub bytes : length text ≡ FIRST_BYTES + n * ITEM_BYTES + m * CANDIDATE_BYTES
 
 pub screen_told : (text : List ℕ) → is_screen text ≡ true → Told text (item_count text) (candidate_count text)
@@ -116,8 +116,8 @@ screen_told text e =
       good = e;
       items = refl;
       candidates = refl;
-      fewItems = leb-true n MAX_ITEMS t.0;
-      fewCandidates = leb-true m MAX_CANDIDATES t.1;
+      few_items = leb-true n MAX_ITEMS t.0;
+      few_candidates = leb-true m MAX_CANDIDATES t.1;
       bytes = eqb-true (length text) (screen_bytes n m) t.2 ∙ screen_bytes_lem n m;
     }
 
@@ -164,14 +164,14 @@ module _ (text l after : List ℕ) (n m : ℕ) (t : Told text n m) where
   unfolding written header_of
   header_read e = e ∙ rw (t.good, header_part) refl
 
-  pub styles-read : after ≡ sets l 0 (rows_of (part (fields_of Item) 0 style_words) Item n (drop FIRST_BYTES text)) → after ≡ written (is_screen text) l (styles_of text)
+  pub styles_read : after ≡ sets l 0 (rows_of (part (fields_of Item) 0 style_words) Item n (drop FIRST_BYTES text)) → after ≡ written (is_screen text) l (styles_of text)
   unfolding written styles_of
-  styles-read e = e ∙ rw (t.good, styles_part, ← t.items, first_bytes) refl
+  styles_read e = e ∙ rw (t.good, styles_part, ← t.items, first_bytes) refl
 
-  pub replies-read : after ≡ sets l 0 (rows_of (part (fields_of Item) style_words reply_width) Item n (drop (FIRST_BYTES + COLUMNS * style_words) text)) → after ≡ written (is_screen text) l (replies_of text)
+  pub replies_read : after ≡ sets l 0 (rows_of (part (fields_of Item) style_words reply_width) Item n (drop (FIRST_BYTES + COLUMNS * style_words) text)) → after ≡ written (is_screen text) l (replies_of text)
   unfolding written replies_of style_fields
-  replies-read e = e ∙ rw (t.good, replies_part, ← t.items, first_bytes) refl
+  replies_read e = e ∙ rw (t.good, replies_part, ← t.items, first_bytes) refl
 
-  pub candidates-read : after ≡ sets l 0 (rows_of (part (fields_of Candidate) 0 candidate_width) Candidate m (drop (FIRST_BYTES + n * ITEM_BYTES) text)) → after ≡ written (is_screen text) l (candidates_of text)
+  pub candidates_read : after ≡ sets l 0 (rows_of (part (fields_of Candidate) 0 candidate_width) Candidate m (drop (FIRST_BYTES + n * ITEM_BYTES) text)) → after ≡ written (is_screen text) l (candidates_of text)
   unfolding written candidates_of
-  candidates-read e = e ∙ rw (t.good, candidates_part, ← t.items, ← t.candidates, candidates_at_lem n) refl
+  candidates_read e = e ∙ rw (t.good, candidates_part, ← t.items, ← t.candidates, candidates_at_lem n) refl

@@ -28,11 +28,11 @@ pub data StartsLines (l : Line) : ℕ → List ℕ → List ℕ → Type 0 where
 pub record IsScreen (text : List ℕ) : Type 0 where
   pub items : List ℕ
   pub candidates : List ℕ
-  pub first-line : StartsLine (fields_of First) text items
-  pub item-lines : StartsLines Item (item_count text) items candidates
-  pub candidate-lines : StartsLines Candidate (candidate_count text) candidates []
-  pub few-items : item_count text ≤ 128
-  pub few-candidates : candidate_count text ≤ 256
+  pub first_line : StartsLine (fields_of First) text items
+  pub item_lines : StartsLines Item (item_count text) items candidates
+  pub candidate_lines : StartsLines Candidate (candidate_count text) candidates []
+  pub few_items_lem : item_count text ≤ 128
+  pub few_candidates_lem : candidate_count text ≤ 256
 
 -- the test decides it
 abbrev pub ScreenExactly : Type 0

@@ -18,44 +18,44 @@ no_number s v e = let n : ◌≡◌ {A = ℕ} 0 1 = cc in omega arith
 -- ---- one digit more
 
 module _ (b : ℕ) (d : is_digit b ≡ true) (t : Bool) (u : ℕ) where
-  spelled-more : (xs : List ℕ) (s : Bool) (v : ℕ) → spelled s v xs ≡ Number t u → spelled s v (xs ++ (b ∷ [])) ≡ Number t (u * 10 + (b - 48))
+  spelled_more : (xs : List ℕ) (s : Bool) (v : ℕ) → spelled s v xs ≡ Number t u → spelled s v (xs ++ (b ∷ [])) ≡ Number t (u * 10 + (b - 48))
   unfolding spelled
-  spelled-more [] s v e = rw d (more s v e)
+  spelled_more [] s v e = rw d (more s v e)
     where
       more : (s : Bool) (v : ℕ) → Number s v ≡ Number t u → Number s (v * 10 + (b - 48)) ≡ Number t (u * 10 + (b - 48))
       more s v e = let p : s ≡ t = cc in let q : v ≡ u = cc in rw (p, q) refl
-  spelled-more (x ∷ xs) s v e = go (is_digit x) (spelled-more xs s (v * 10 + (x - 48))) e
+  spelled_more (x ∷ xs) s v e = go (is_digit x) (spelled_more xs s (v * 10 + (x - 48))) e
     where
       go : (c : Bool) → (spelled s (v * 10 + (x - 48)) xs ≡ Number t u → spelled s (v * 10 + (x - 48)) (xs ++ (b ∷ [])) ≡ Number t (u * 10 + (b - 48)))
           → cond c (spelled s (v * 10 + (x - 48)) xs) Malformed ≡ Number t u → cond c (spelled s (v * 10 + (x - 48)) (xs ++ (b ∷ []))) Malformed ≡ Number t (u * 10 + (b - 48))
       go true f e = f e
       go false f e = absurd (no_number t u e)
 
-  unsigned-more : (xs : List ℕ) (s : Bool) → unsigned s xs ≡ Number t u → unsigned s (xs ++ (b ∷ [])) ≡ Number t (u * 10 + (b - 48))
+  unsigned_more : (xs : List ℕ) (s : Bool) → unsigned s xs ≡ Number t u → unsigned s (xs ++ (b ∷ [])) ≡ Number t (u * 10 + (b - 48))
   unfolding unsigned
-  unsigned-more [] s e = absurd (no_number t u e)
-  unsigned-more (x ∷ xs) s e = spelled-more (x ∷ xs) s 0 e
+  unsigned_more [] s e = absurd (no_number t u e)
+  unsigned_more (x ∷ xs) s e = spelled_more (x ∷ xs) s 0 e
 
-  signed-more : (xs : List ℕ) → signed xs ≡ Number t u → signed (xs ++ (b ∷ [])) ≡ Number t (u * 10 + (b - 48))
+  signed_more : (xs : List ℕ) → signed xs ≡ Number t u → signed (xs ++ (b ∷ [])) ≡ Number t (u * 10 + (b - 48))
   unfolding signed
-  signed-more [] e = absurd (no_number t u e)
-  signed-more (x ∷ xs) e = go (eqb x 45) (eqb x 43) e
+  signed_more [] e = absurd (no_number t u e)
+  signed_more (x ∷ xs) e = go (eqb x 45) (eqb x 43) e
     where
       go : (c c' : Bool) → cond c (unsigned true xs) (cond c' (unsigned false xs) (unsigned false (x ∷ xs))) ≡ Number t u
           → cond c (unsigned true (xs ++ (b ∷ []))) (cond c' (unsigned false (xs ++ (b ∷ []))) (unsigned false (x ∷ xs ++ (b ∷ [])))) ≡ Number t (u * 10 + (b - 48))
-      go true c' e = unsigned-more xs true e
-      go false true e = unsigned-more xs false e
-      go false false e = unsigned-more (x ∷ xs) false e
+      go true c' e = unsigned_more xs true e
+      go false true e = unsigned_more xs false e
+      go false false e = unsigned_more (x ∷ xs) false e
 
-  field-more : (xs : List ℕ) → numeral_of xs ≡ Number t u → numeral_of (xs ++ (b ∷ [])) ≡ Number t (u * 10 + (b - 48))
+  field_more : (xs : List ℕ) → numeral_of xs ≡ Number t u → numeral_of (xs ++ (b ∷ [])) ≡ Number t (u * 10 + (b - 48))
   unfolding numeral_of unblank signed
-  field-more [] e = absurd (no_number t u e)
-  field-more (x ∷ xs) e = go (eqb x 32) (field-more xs) e
+  field_more [] e = absurd (no_number t u e)
+  field_more (x ∷ xs) e = go (eqb x 32) (field_more xs) e
     where
       go : (c : Bool) → (signed (unblank xs) ≡ Number t u → signed (unblank (xs ++ (b ∷ []))) ≡ Number t (u * 10 + (b - 48)))
           → signed (cond c (unblank xs) (x ∷ xs)) ≡ Number t u → signed (cond c (unblank (xs ++ (b ∷ []))) (x ∷ xs ++ (b ∷ []))) ≡ Number t (u * 10 + (b - 48))
       go true f e = f e
-      go false f e = signed-more (x ∷ xs) e
+      go false f e = signed_more (x ∷ xs) e
 
 -- ---- blanks, a sign and the first digit
 
@@ -107,7 +107,7 @@ shorter n k h = let e : 10 ^ suc k ≡ 10 ^ k * 10 = pow-suc 10 k in omega arith
 longer : (s : Bool) (n w : ℕ) → 10 ≤ n → numeral_of (cells w (Digits s (n / 10))) ≡ Number s (n / 10) → numeral_of (cells (suc w) (Digits s n)) ≡ Number s n
 unfolding cells left_of cell_of
 longer s n w h e =
-    rw (le-leb 10 n h) (field-more (48 + n % 10) (digit_is (n % 10) (last_digit n)) s (n / 10) (cells w (Digits s (n / 10))) e ∙ ap (Number s) (whole n))
+    rw (le-leb 10 n h) (field_more (48 + n % 10) (digit_is (n % 10) (last_digit n)) s (n / 10) (cells w (Digits s (n / 10))) e ∙ ap (Number s) (whole n))
 
 first_plain : (n w : ℕ) → n < 10 → numeral_of (cells (suc w) (Digits false n)) ≡ Number false n
 unfolding cells left_of cell_of

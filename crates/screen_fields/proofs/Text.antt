@@ -36,25 +36,25 @@ unfolding part
 part_more s i n h k = rw (turn i n h, add-one i, drop-cons s i 0 (within i n h k)) refl
 
 module _ (s : List ℕ) (i n : ℕ) (h : i < n) (k : n ≤ length s) where
-  pub blank-more : get_or s i 0 ≡ 32 → unblank (part s i (n - i)) ≡ unblank (part s (i + 1) (n - (i + 1)))
+  pub blank_more : get_or s i 0 ≡ 32 → unblank (part s i (n - i)) ≡ unblank (part s (i + 1) (n - (i + 1)))
   unfolding unblank
-  blank-more e = rw (part_more s i n h k) (rw (eq-eqb (get_or s i 0) 32 e) refl)
+  blank_more e = rw (part_more s i n h k) (rw (eq-eqb (get_or s i 0) 32 e) refl)
 
-  pub blank-ends : (get_or s i 0 ≡ 32 → ⊥) → unblank (part s i (n - i)) ≡ part s i (n - i)
+  pub blank_ends : (get_or s i 0 ≡ 32 → ⊥) → unblank (part s i (n - i)) ≡ part s i (n - i)
   unfolding unblank
-  blank-ends e = rw (part_more s i n h k) (rw (ne_eqb (get_or s i 0) 32 e) refl)
+  blank_ends e = rw (part_more s i n h k) (rw (ne_eqb (get_or s i 0) 32 e) refl)
 
-  pub digit-more : (g : Bool) (v : ℕ) → is_digit (get_or s i 0) ≡ true → spelled g v (part s i (n - i)) ≡ spelled g (v * 10 + (get_or s i 0 - 48)) (part s (i + 1) (n - (i + 1)))
+  pub digit_more : (g : Bool) (v : ℕ) → is_digit (get_or s i 0) ≡ true → spelled g v (part s i (n - i)) ≡ spelled g (v * 10 + (get_or s i 0 - 48)) (part s (i + 1) (n - (i + 1)))
   unfolding spelled
-  digit-more g v e = rw (part_more s i n h k) (rw e refl)
+  digit_more g v e = rw (part_more s i n h k) (rw e refl)
 
-  pub digit-none : (g : Bool) (v : ℕ) → is_digit (get_or s i 0) ≡ false → spelled g v (part s i (n - i)) ≡ Malformed
+  pub digit_none : (g : Bool) (v : ℕ) → is_digit (get_or s i 0) ≡ false → spelled g v (part s i (n - i)) ≡ Malformed
   unfolding spelled
-  digit-none g v e = rw (part_more s i n h k) (rw e refl)
+  digit_none g v e = rw (part_more s i n h k) (rw e refl)
 
-  pub unsigned-some : (g : Bool) → unsigned g (part s i (n - i)) ≡ spelled g 0 (part s i (n - i))
+  pub unsigned_some : (g : Bool) → unsigned g (part s i (n - i)) ≡ spelled g 0 (part s i (n - i))
   unfolding unsigned
-  unsigned-some g = rw (part_more s i n h k) refl
+  unsigned_some g = rw (part_more s i n h k) refl
 
 pub blank_none : (s : List ℕ) (i n : ℕ) → n ≤ i → unblank (part s i (n - i)) ≡ part s i (n - i)
 unfolding unblank
@@ -109,14 +109,14 @@ unfolding signed
 signed_none s i n h = rw (part_none s i n h) refl
 
 module _ (s : List ℕ) (i n : ℕ) (h : i < n) (k : n ≤ length s) where
-  pub signed-minus : get_or s i 0 ≡ 45 → signed (part s i (n - i)) ≡ unsigned true (part s (i + 1) (n - (i + 1)))
+  pub signed_minus : get_or s i 0 ≡ 45 → signed (part s i (n - i)) ≡ unsigned true (part s (i + 1) (n - (i + 1)))
   unfolding signed
-  signed-minus e = rw (part_more s i n h k) (rw (eq-eqb (get_or s i 0) 45 e) refl)
+  signed_minus e = rw (part_more s i n h k) (rw (eq-eqb (get_or s i 0) 45 e) refl)
 
-  pub signed-plus : (get_or s i 0 ≡ 45 → ⊥) → get_or s i 0 ≡ 43 → signed (part s i (n - i)) ≡ unsigned false (part s (i + 1) (n - (i + 1)))
+  pub signed_plus : (get_or s i 0 ≡ 45 → ⊥) → get_or s i 0 ≡ 43 → signed (part s i (n - i)) ≡ unsigned false (part s (i + 1) (n - (i + 1)))
   unfolding signed
-  signed-plus d e = rw (part_more s i n h k) (rw (ne_eqb (get_or s i 0) 45 d, eq-eqb (get_or s i 0) 43 e) refl)
+  signed_plus d e = rw (part_more s i n h k) (rw (ne_eqb (get_or s i 0) 45 d, eq-eqb (get_or s i 0) 43 e) refl)
 
-  pub signed-plain : (get_or s i 0 ≡ 45 → ⊥) → (get_or s i 0 ≡ 43 → ⊥) → signed (part s i (n - i)) ≡ unsigned false (part s i (n - i))
+  pub signed_plain : (get_or s i 0 ≡ 45 → ⊥) → (get_or s i 0 ≡ 43 → ⊥) → signed (part s i (n - i)) ≡ unsigned false (part s i (n - i))
   unfolding signed
-  signed-plain d e = rw (part_more s i n h k) (rw (ne_eqb (get_or s i 0) 45 d, ne_eqb (get_or s i 0) 43 e) refl)
+  signed_plain d e = rw (part_more s i n h k) (rw (ne_eqb (get_or s i 0) 45 d, ne_eqb (get_or s i 0) 43 e) refl)

@@ -134,7 +134,7 @@ style_holds_float style.contain = false
 
 -- a field of an item line is a float: a style's words by their kinds; the replies, all of them
 abbrev pub item_holds_float : ℕ → Bool
-item_holds_float j = cond (ltb j style.styleWords) (style_holds_float (style.kind_of j)) true
+item_holds_float j = cond (ltb j style.style_words) (style_holds_float (style.kind_of j)) true
 
 -- the same by numbers: the two values of each length, the ratio, the scrollbar width, the replies
 abbrev pub item_float : ℕ → Bool

@@ -59,7 +59,7 @@ use Rattle.placer.proofs.Nodes.{good_below, keep_below}
 use Rattle.script.specs.Script.{scripted_reply, played_on, played, played_out}
 use Rattle.script.specs.Theorems.{is_finish, OpenedFinishes}
 use Rattle.script.proofs.Ends.{open_in, stays, Reached, once, run_ends}
-use Rattle.sweep.proofs.Listed.{listed-good}
+use Rattle.sweep.proofs.Listed.{listed_good}
 
 -- ---- a scripted reply is of its question's kind
 
@@ -85,9 +85,9 @@ module _ (replies : List ℕ) where
   keyword_fits node (Measure across) (Exact h) known stretch later f = λ r. refl
   keyword_fits node (Measure across) (Measure down) known stretch later f = λ r. refl
 
-  asked-fits : (container : ContainingBlock) (style : Style) (candidate : OofCandidate) (kept : Replies) → Fits (asked_after container style candidate kept)
+  asked_fits : (container : ContainingBlock) (style : Style) (candidate : OofCandidate) (kept : Replies) → Fits (asked_after container style candidate kept)
   unfolding asked_after asked_of size_asked taken
-  asked-fits container style candidate kept =
+  asked_fits container style candidate kept =
       let box = resolved_box container style candidate in
       let keywords = size_keywords style box in
       let later : Fits (size_asked candidate.node style box keywords kept) = either (fill_given kept.fill || both_present (stretched_by style box keywords kept).known) _ _ (λ r. refl) (λ r. refl) in
@@ -96,15 +96,15 @@ module _ (replies : List ℕ) where
 -- ---- an accepted opening
 
 module _ (o : Opening) (candidates : List ℕ) (lent : Lent) where
-  abbrev inList : Bool → List OofCandidate
-  inList list = keep (claims_of o) list (candidates_in candidates)
+  abbrev in_list : Bool → List OofCandidate
+  in_list list = keep (claims_of o) list (candidates_in candidates)
 
   record Checked : Type 0 where
     slices : bad_slices lent ≡ false
     style : bad_style lent.styles ≡ false
-    working : length (inList true) ≤ length lent.working / candidate_width
-    unclaimed : length (inList false) ≤ length lent.unclaimed / candidate_width
-    listed : bad_candidate lent.styles (appended lent.working 0 (inList true)) (length (inList true)) ≡ false
+    working : length (in_list true) ≤ length lent.working / candidate_width
+    unclaimed : length (in_list false) ≤ length lent.unclaimed / candidate_width
+    listed : bad_candidate lent.styles (appended lent.working 0 (in_list true)) (length (in_list true)) ≡ false
 
   checked : opening_verdict o candidates lent ≡ accepted → Checked
   unfolding opening_verdict bad_candidate list_full room candidates_in
@@ -113,9 +113,9 @@ module _ (o : Opening) (candidates : List ℕ) (lent : Lent) where
       let style = passed _ _ _ extent.1 in
       let candidate = passed _ _ _ style.1 in
       let full = neither _ _ (passed _ _ _ candidate.1).0 in
-      let inside = leb-true (0 + length (inList true)) (length lent.working / candidate_width) (not-false _ full.0) in
-      let outside = leb-true (0 + length (inList false)) (length lent.unclaimed / candidate_width) (not-false _ full.1) in
-      let fit : length (inList true) ≤ length lent.working / candidate_width = omega (arith, inside) in
+      let inside = leb-true (0 + length (in_list true)) (length lent.working / candidate_width) (not-false _ full.0) in
+      let outside = leb-true (0 + length (in_list false)) (length lent.unclaimed / candidate_width) (not-false _ full.1) in
+      let fit : length (in_list true) ≤ length lent.working / candidate_width = omega (arith, inside) in
       record {
         slices = (neither (bad_slices lent) _ extent.0).0;
         style = style.0;
@@ -123,7 +123,7 @@ module _ (o : Opening) (candidates : List ℕ) (lent : Lent) where
         unclaimed = omega (arith, outside);
         listed =
             ap not
-            (listed-good lent.working (inList true)
+            (listed_good lent.working (in_list true)
             (le_trans (mul-le-mul_left candidate_width fit) (mul-div-le (length lent.working) candidate_width))
             (items lent.styles)
             (keep_below _ (claims_of o) true (candidates_in candidates) (good_below _ candidates _ (not-false _ candidate.0))));
@@ -156,16 +156,16 @@ neither_of d e = rw (d, e) refl
 
 module _ (replies : List ℕ) (o : Opening) (candidates : List ℕ) (lent : Lent) (c : Checked o candidates lent) where
   abbrev working : List ℕ
-  working = appended lent.working 0 (inList o candidates lent true)
+  working = appended lent.working 0 (in_list o candidates lent true)
 
   abbrev unclaimed : List ℕ
-  unclaimed = appended lent.unclaimed 0 (inList o candidates lent false)
+  unclaimed = appended lent.unclaimed 0 (in_list o candidates lent false)
 
   abbrev run : Opened
   run = record { container = container_of o; claims = claims_of o; extents = extents_of lent }
 
   abbrev filled : Filled
-  filled = record { working = length (inList o candidates lent true); unclaimed = length (inList o candidates lent false) }
+  filled = record { working = length (in_list o candidates lent true); unclaimed = length (in_list o candidates lent false) }
 
   -- what a reply is lent
   abbrev lending : List ℕ → Lent
@@ -179,15 +179,15 @@ module _ (replies : List ℕ) (o : Opening) (candidates : List ℕ) (lent : Lent
 
   module _ (layouts : List ℕ) (same : length layouts ≡ length lent.layouts) where
     lengths : (length working ≡ length lent.working) × (length unclaimed ≡ length lent.unclaimed)
-    lengths = (appended_length lent.working 0 (inList o candidates lent true), appended_length lent.unclaimed 0 (inList o candidates lent false))
+    lengths = (appended_length lent.working 0 (in_list o candidates lent true), appended_length lent.unclaimed 0 (in_list o candidates lent false))
 
-    slices-good : bad_slices (lending layouts) ≡ false
+    slices_good : bad_slices (lending layouts) ≡ false
     unfolding bad_slices bad_table bad_list
-    slices-good = rw (same, lengths.0, lengths.1) c.slices
+    slices_good = rw (same, lengths.0, lengths.1) c.slices
 
-    lengths-kept : other_lengths (extents_of lent) (lending layouts) ≡ false
+    lengths_kept_lem : other_lengths (extents_of lent) (lending layouts) ≡ false
     unfolding other_lengths
-    lengths-kept =
+    lengths_kept_lem =
         rw (
           eq-eqb (length lent.styles) (length lent.styles) refl,
           eq-eqb (length layouts) (length lent.layouts) same,
@@ -197,31 +197,31 @@ module _ (replies : List ℕ) (o : Opening) (candidates : List ℕ) (lent : Lent
         refl
 
     module _ (counts : Counts) (held : counts.filled ≡ filled) (first : 1 ≤ counts.begun) (most : counts.begun ≤ filled.working) (few : counts.answered ≤ 3 * counts.begun) where
-      fits-working : counts.filled.working ≤ length working / candidate_width
-      fits-working = rw (held, lengths.0) c.working
+      fits_working : counts.filled.working ≤ length working / candidate_width
+      fits_working = rw (held, lengths.0) c.working
 
-      fits-unclaimed : counts.filled.unclaimed ≤ length unclaimed / candidate_width
-      fits-unclaimed = rw (held, lengths.1) c.unclaimed
+      fits_unclaimed : counts.filled.unclaimed ≤ length unclaimed / candidate_width
+      fits_unclaimed = rw (held, lengths.1) c.unclaimed
 
-      begun-few : counts.begun ≤ counts.filled.working
-      begun-few = rw held most
+      begun_few : counts.begun ≤ counts.filled.working
+      begun_few = rw held most
 
-      counts-good : wrong_counts (lending layouts) counts ≡ false
+      counts_good : wrong_counts (lending layouts) counts ≡ false
       unfolding wrong_counts
-      counts-good =
+      counts_good =
           rw (
-            le-ltb (length working / candidate_width) counts.filled.working fits-working,
-            le-ltb (length unclaimed / candidate_width) counts.filled.unclaimed fits-unclaimed,
+            le-ltb (length working / candidate_width) counts.filled.working fits_working,
+            le-ltb (length unclaimed / candidate_width) counts.filled.unclaimed fits_unclaimed,
             ne_eqb counts.begun 0 (λ e. omega (arith, e, first)),
-            le-ltb counts.filled.working counts.begun begun-few,
+            le-ltb counts.filled.working counts.begun begun_few,
             le-ltb (3 * counts.begun) counts.answered few,
           )
           refl
 
-      room-left : list_full (claims_of o) (lending layouts) counts.filled [] ≡ false
-      room-left =
+      room_left : list_full (claims_of o) (lending layouts) counts.filled [] ≡ false
+      room_left =
           none_full (claims_of o) (lending layouts) counts
-          (record { working = fits-working; unclaimed = fits-unclaimed; first = first; begun = begun-few; answered = few })
+          (record { working = fits_working; unclaimed = fits_unclaimed; first = first; begun = begun_few; answered = few })
 
       -- no test turns a reply of the right kind down
       accepts : (progress : Progress) (kept : Replies) (overflow : Rect) (given : Reply)
@@ -232,9 +232,9 @@ module _ (replies : List ℕ) (o : Opening) (candidates : List ℕ) (lent : Lent
           let whole : ragged candidate_width (lent_by given []) ≡ false = rw (lent_none given) refl in
           let listed : bad_candidate lent.styles working counts.filled.working ≡ false = rw held c.listed in
           let none : bad_candidates lent.styles (lent_by given []) ≡ false = rw (lent_none given) (none_bad lent.styles []) in
-          let left : list_full (claims_of o) (lending layouts) counts.filled (lent_by given []) ≡ false = rw (lent_none given) room-left in
-          past _ (neither_of (neither_of slices-good lengths-kept) whole)
-          (past _ (neither_of right counts-good) (past _ c.style (past _ (neither_of listed none) (past _ left refl))))
+          let left : list_full (claims_of o) (lending layouts) counts.filled (lent_by given []) ≡ false = rw (lent_none given) room_left in
+          past _ (neither_of (neither_of slices_good lengths_kept_lem) whole)
+          (past _ (neither_of right counts_good) (past _ c.style (past _ (neither_of listed none) (past _ left refl))))
 
   -- a question is open, asked by the words of the opening and by what was replied to the box at hand
   record Going (x : Outcome) : Type 0 where
@@ -262,17 +262,17 @@ module _ (replies : List ℕ) (o : Opening) (candidates : List ℕ) (lent : Lent
     going : Going x → Alive x
     ended : Ended x → Alive x
 
-  ended-finish : (x : Outcome) → Ended x → is_finish x.step.answer ≡ true
+  ended_finish : (x : Outcome) → Ended x → is_finish x.step.answer ≡ true
   unfolding finishing
-  ended-finish x e = ap (λ (s : Step). is_finish s.answer) e.step
+  ended_finish x e = ap (λ (s : Step). is_finish s.answer) e.step
 
-  ended-passes : (x : Outcome) → Ended x → Passes lent.styles x
+  ended_passes : (x : Outcome) → Ended x → Passes lent.styles x
   unfolding finishing
-  ended-passes x e =
+  ended_passes x e =
       let long = lengths x.layouts e.layouts in
       record {
-        finish = ended-finish x e;
-        slices = rw (e.step, e.lists.0, e.lists.1) (neither_of (slices-good x.layouts e.layouts) (lengths-kept x.layouts e.layouts));
+        finish = ended_finish x e;
+        slices = rw (e.step, e.lists.0, e.lists.1) (neither_of (slices_good x.layouts e.layouts) (lengths_kept_lem x.layouts e.layouts));
         progress = ap (λ (s : Step). s.state.progress) e.step;
         counts =
             rw (
@@ -317,8 +317,8 @@ module _ (replies : List ℕ) (o : Opening) (candidates : List ℕ) (lent : Lent
 
   -- one scripted reply
   module _ (x : Outcome) (g : Going x) where
-    abbrev played-on : Outcome
-    played-on = played_on replies lent.styles x
+    abbrev played_on_lem : Outcome
+    played_on_lem = played_on replies lent.styles x
 
     abbrev box : OofCandidate
     box = box_at_hand working g.counts
@@ -332,9 +332,9 @@ module _ (replies : List ℕ) (o : Opening) (candidates : List ℕ) (lent : Lent
     abbrev given : Reply
     given = scripted_reply replies asked.question
 
-    is-reply : played-on ≡ replied state given [] (lending x.layouts)
+    is_reply : played_on_lem ≡ replied state given [] (lending x.layouts)
     unfolding played_on next asking
-    is-reply = rw (g.step, g.lists.0, g.lists.1) refl
+    is_reply = rw (g.step, g.lists.0, g.lists.1) refl
 
     few : g.counts.answered ≤ 3 * g.counts.begun
     unfolding asking
@@ -344,19 +344,19 @@ module _ (replies : List ℕ) (o : Opening) (candidates : List ℕ) (lent : Lent
 
     right : is_wrong (taken_by state given) ≡ false
     unfolding taken_by
-    right = asked-fits replies run.container (style_at lent.styles box.node) box g.kept g.kept
+    right = asked_fits replies run.container (style_at lent.styles box.node) box g.kept g.kept
 
     verdict : reply_verdict state given [] (lending x.layouts) ≡ accepted
     verdict = accepts x.layouts g.layouts g.counts g.held g.first g.most few (Asking asked.stage) g.kept g.overflow given right
 
-    reached : open_in played-on ≡ 1 → Reached (asked_at_opening o candidates lent) played-on (g.counts.answered + 1 + 1)
+    reached : open_in played_on_lem ≡ 1 → Reached (asked_at_opening o candidates lent) played_on_lem (g.counts.answered + 1 + 1)
     unfolding asking
     reached e =
-        subst (Reached (asked_at_opening o candidates lent) played-on) (ap (λ (n : ℕ). g.counts.answered + 1 + n) e)
+        subst (Reached (asked_at_opening o candidates lent) played_on_lem) (ap (λ (n : ℕ). g.counts.answered + 1 + n) e)
         (once replies lent.styles (asked_at_opening o candidates lent) g.reached (ap (λ (t : Step). one_if_asked t.answer) g.step))
 
     -- a size was replied
-    kept_on : (r : Replies) → played-on ≡ measured_on state r (lending x.layouts) → Alive played-on
+    kept_on : (r : Replies) → played_on_lem ≡ measured_on state r (lending x.layouts) → Alive played_on_lem
     unfolding measured_on asking
     kept_on r e =
         let step = ap (λ (y : Outcome). y.step) e in
@@ -374,27 +374,27 @@ module _ (replies : List ℕ) (o : Opening) (candidates : List ℕ) (lent : Lent
         })
 
     -- the box was laid out
-    laid_on : (overflow : Rect) → played-on ≡ laid_out state overflow [] (lending x.layouts) → Alive played-on
+    laid_on : (overflow : Rect) → played_on_lem ≡ laid_out state overflow [] (lending x.layouts) → Alive played_on_lem
     unfolding laid_out candidates_in first_candidates records keep list_words written
     laid_on overflow e =
-        proceeds played-on _ _ (ap (λ (y : Outcome). y.step) e)
+        proceeds played_on_lem _ _ (ap (λ (y : Outcome). y.step) e)
         (ap (λ (y : Outcome). length y.layouts) e ∙ laid_length state overflow [] (lending x.layouts) ∙ g.layouts)
         (ap (λ (y : Outcome). y.working) e, ap (λ (y : Outcome). y.unclaimed) e)
         (rw (add-zero g.counts.filled.working, add-zero g.counts.filled.unclaimed) g.held)
         reached
 
-    takes : (t : Taken) → taken_by state given ≡ t → is_wrong t ≡ false → Alive played-on
+    takes : (t : Taken) → taken_by state given ≡ t → is_wrong t ≡ false → Alive played_on_lem
     unfolding replied
     takes Wrong e f = no refl f
-    takes (Kept r) e f = kept_on r (is-reply ∙ rw (verdict, e) refl)
-    takes (Laid overflow) e f = laid_on overflow (is-reply ∙ rw (verdict, e) refl)
+    takes (Kept r) e f = kept_on r (is_reply ∙ rw (verdict, e) refl)
+    takes (Laid overflow) e f = laid_on overflow (is_reply ∙ rw (verdict, e) refl)
 
-    goes_on : Alive played-on
+    goes_on : Alive played_on_lem
     goes_on = takes (taken_by state given) refl right
 
   -- so many
-  finish-stays : (x : Outcome) → is_finish x.step.answer ≡ true → open_in x ≡ 0
-  finish-stays x e = go x.step.answer e
+  finish_stays : (x : Outcome) → is_finish x.step.answer ≡ true → open_in x ≡ 0
+  finish_stays x e = go x.step.answer e
     where
       go : (a : Answer) → is_finish a ≡ true → one_if_asked a ≡ 0
       go (Ask q) e = no e refl
@@ -405,11 +405,11 @@ module _ (replies : List ℕ) (o : Opening) (candidates : List ℕ) (lent : Lent
   unfolding played
   alive zero x a = a
   alive (suc n) x (going g) = alive n (played_on replies lent.styles x) (goes_on x g)
-  alive (suc n) x (ended e) = alive n (played_on replies lent.styles x) (subst Alive (sym (stays replies lent.styles x (finish-stays x (ended-finish x e)))) (ended e))
+  alive (suc n) x (ended e) = alive n (played_on replies lent.styles x) (subst Alive (sym (stays replies lent.styles x (finish_stays x (ended_finish x e)))) (ended e))
 
-  opened-alive : opened o candidates lent ≡ begun o candidates lent → Alive (opened o candidates lent)
+  opened_alive : opened o candidates lent ≡ begun o candidates lent → Alive (opened o candidates lent)
   unfolding begun asked_at_opening
-  opened-alive e =
+  opened_alive e =
       proceeds (opened o candidates lent) _ _ (ap (λ (x : Outcome). x.step) e) (ap (λ (x : Outcome). length x.layouts) e)
       (ap (λ (x : Outcome). x.working) e, ap (λ (x : Outcome). x.unclaimed) e)
       (rw (zero-add, zero-add) refl)
@@ -424,14 +424,14 @@ opened_passes o replies candidates lent e = go (opening_way o candidates lent)
   where
     go : OpeningWay o candidates lent → Passes lent.styles (played_out o replies candidates lent)
     go (OpeningWay.turnedDown r d) = no (ap (λ (x : Outcome). is_refused x.step.answer) d) e
-    go (begins v d) = at_end (alive replies o candidates lent c _ (opened o candidates lent) (opened-alive replies o candidates lent c d))
+    go (begins v d) = at_end (alive replies o candidates lent c _ (opened o candidates lent) (opened_alive replies o candidates lent c d))
       where
         c : Checked o candidates lent
         c = checked o candidates lent v
 
         at_end : Alive replies o candidates lent c (played_out o replies candidates lent) → Passes lent.styles (played_out o replies candidates lent)
         at_end (going g) = absurd (run_ends o replies candidates lent _ (ap (λ (t : Step). t.answer) g.step))
-        at_end (ended f) = ended-passes replies o candidates lent c (played_out o replies candidates lent) f
+        at_end (ended f) = ended_passes replies o candidates lent c (played_out o replies candidates lent) f
 
 pub opened_finishes : OpenedFinishes
 opened_finishes o replies candidates lent e = (opened_passes o replies candidates lent e).finish

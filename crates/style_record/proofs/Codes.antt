@@ -7,7 +7,7 @@ use mathlib.Core.Path.{◌≡◌, refl, ◌∙◌, subst}
 use mathlib.Core.Bool.{Bool, true, false, cond, not, ◌&&◌}
 use lib.Dec.{eqb, ltb}
 use borrow.Author.Tests.{lt-ltb, le-ltb}
-use Rattle.style_record.specs.Record.{Kind, tag, number, up_to, ratio, keyword, safety, contain, kind_of, code_kinds, after_lengths, style_words, ratio_present_word, box_sizing_word, flags_word, direction_word, justify_word, align_word, overflow_xWord, overflow_yWord, contain_word}
+use Rattle.style_record.specs.Record.{Kind, tag, number, up_to, ratio, keyword, safety, contain, kind_of, code_kinds, after_lengths, style_words, ratio_present_word, box_sizing_word, flags_word, direction_word, justify_word, align_word, overflow_x_word, overflow_y_word, contain_word}
 use Rattle.style_record.specs.Check.{safety_breaks, breaks_as, breaks_rule}
 use Rattle.style_record.specs.Codes.{last_code, is_ignored}
 use Rattle.style_record.specs.Laws.{CodesByTheLast}
@@ -55,8 +55,8 @@ last_of k =
     (cond (eqb k (justify_word + 1)) 2
     (cond (eqb k align_word) 10
     (cond (eqb k (align_word + 1)) 2
-    (cond (eqb k overflow_xWord) 3
-    (cond (eqb k overflow_yWord) 3
+    (cond (eqb k overflow_x_word) 3
+    (cond (eqb k overflow_y_word) 3
     (cond (eqb k contain_word) 255 4294967295))))))))))
 
 pub last_of_lem : (k : ℕ) → after_lengths ≤ k → k < style_words → last_of k ≡ last_code (kind_of k)

@@ -61,16 +61,16 @@ words_of r (suc n) k = go (breaks_rule r k) refl (words_of r n (k + 1))
 -- ---- an item
 
 pub data ItemIs (s : List ℕ) (i : ℕ) : ItemCheck → Type 0 where
-  item-good : AllGood s i → ItemIs s i NoWord
-  item-bad : (k : ℕ) → k < style_words → breaks s i k ≡ true → ((j : ℕ) → j < k → breaks s i j ≡ false) → ItemIs s i (Word k)
+  item_good : AllGood s i → ItemIs s i NoWord
+  item_bad : (k : ℕ) → k < style_words → breaks s i k ≡ true → ((j : ℕ) → j < k → breaks s i j ≡ false) → ItemIs s i (Word k)
 
 pub item_is : (s : List ℕ) (i : ℕ) → ItemIs s i (first_broken s i)
 unfolding first_broken breaks
 item_is s i = go (first_from (item s i) style_words 0) (words_of (item s i) style_words 0)
   where
     go : (c : ItemCheck) → Words (item s i) style_words 0 c → ItemIs s i c
-    go _ (none a) = item-good (λ k p. a k (omega arith) (omega arith))
-    go _ (first w p q b a) = item-bad w (omega arith) b (λ j t. a j (omega arith) t)
+    go _ (none a) = item_good (λ k p. a k (omega arith) (omega arith))
+    go _ (first w p q b a) = item_bad w (omega arith) b (λ j t. a j (omega arith) t)
 
 -- ---- the n items of a table from item i on
 
@@ -92,8 +92,8 @@ items_of s zero i = none (λ h p q. absurd (none_there i h p q))
 items_of s (suc n) i = go (first_broken s i) (item_is s i) (items_of s n (i + 1))
   where
     go : (c : ItemCheck) → ItemIs s i c → Items s n (i + 1) (checked_from s n (i + 1)) → Items s (suc n) i (or_rest i c (checked_from s n (i + 1)))
-    go _ (item-good a) v = good_in_front s n i (checked_from s n (i + 1)) a v
-    go _ (item-bad k t b w) v = first i k (omega arith) (starts i n) t b w (λ g u v. absurd (not_before i g u v))
+    go _ (item_good a) v = good_in_front s n i (checked_from s n (i + 1)) a v
+    go _ (item_bad k t b w) v = first i k (omega arith) (starts i n) t b w (λ g u v. absurd (not_before i g u v))
 
 -- ---- a table
 
@@ -108,4 +108,4 @@ table_is s = go (checked_from s (items s) 0) (items_of s (items s) 0)
     go : (c : TableCheck) → Items s (items s) 0 c → TableIs s c
     go _ (none a) = good (λ i p. a i (omega arith) (omega arith))
     go _ (first h k p q t b w a) =
-        bad h k (record { item-there = omega arith; word_there = t; breaks-it = b; words-before = w; items-before = λ g u. a g (omega arith) u })
+        bad h k (record { item_there = omega arith; word_there = t; breaks_it = b; words_before = w; items_before = λ g u. a g (omega arith) u })

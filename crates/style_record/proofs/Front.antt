@@ -43,26 +43,26 @@ one_before at l to p = omega arith
 
 -- tables that agree up to a word
 module _ (s t : List ℕ) (to : ℕ) (agree : (j : ℕ) → j ≤ to → get_or t j 0 ≡ get_or s j 0) where
-  breaks-alike : (h l : ℕ) → style_words * h + l ≤ to → breaks t h l ≡ breaks s h l
-  breaks-alike h l p = breaks_as_lem s t h h l (agree (style_words * h + (l - 1)) (one_before (style_words * h) l to p)) (agree (style_words * h + l) p)
+  breaks_alike : (h l : ℕ) → style_words * h + l ≤ to → breaks t h l ≡ breaks s h l
+  breaks_alike h l p = breaks_as_lem s t h h l (agree (style_words * h + (l - 1)) (one_before (style_words * h) l to p)) (agree (style_words * h + l) p)
 
 pub front_decides : FrontDecides
 unfolding items
 front_decides s t i k e long agree =
     (bad_is_first t i k).1
     (record {
-      item-there = there i (length t) long;
+      item_there = there i (length t) long;
       word_there = f.word-there;
-      breaks-it = same i k (up_to k (omega arith)) ∙ f.breaks-it;
-      words-before = λ j p. same i j (up_to j (omega arith)) ∙ f.words-before j p;
-      items-before = λ h p l q. same h l (sooner h l p q) ∙ f.items-before h p l q;
+      breaks_it = same i k (up_to k (omega arith)) ∙ f.breaks-it;
+      words_before = λ j p. same i j (up_to j (omega arith)) ∙ f.words-before j p;
+      items_before = λ h p l q. same h l (sooner h l p q) ∙ f.items-before h p l q;
     })
   where
     f : First s i k
     f = (bad_is_first s i k).0 e
 
     same : (h l : ℕ) → style_words * h + l ≤ style_words * i + k → breaks t h l ≡ breaks s h l
-    same h l p = breaks-alike s t (style_words * i + k) agree h l p
+    same h l p = breaks_alike s t (style_words * i + k) agree h l p
 
     there : (i n : ℕ) → style_words * i + style_words ≤ n → i < n / style_words
     there i n p = omega arith
@@ -93,43 +93,43 @@ module _ (s t : List ℕ) (n : ℕ) (whole : length s ≡ style_words * n) where
       place : (x : ℕ) → x ≡ style_words * n → style_words * (n + i) + l ≡ x + (style_words * i + l)
       place x e = omega arith
 
-  front-breaks : (h l : ℕ) → h < n → l < style_words → breaks (s ++ t) h l ≡ breaks s h l
-  front-breaks h l p q = breaks-alike s (s ++ t) (style_words * h + l) (λ j r. front j (within j r)) h l (omega arith)
+  front_breaks : (h l : ℕ) → h < n → l < style_words → breaks (s ++ t) h l ≡ breaks s h l
+  front_breaks h l p q = breaks_alike s (s ++ t) (style_words * h + l) (λ j r. front j (within j r)) h l (omega arith)
     where
       within : (j : ℕ) → j ≤ style_words * h + l → j < style_words * n
       within j r = omega arith
 
-  behind-breaks : (h l : ℕ) → breaks (s ++ t) (n + h) l ≡ breaks t h l
-  behind-breaks h l = breaks_as_lem t (s ++ t) (n + h) h l (behind h (l - 1)) (behind h l)
+  behind_breaks : (h l : ℕ) → breaks (s ++ t) (n + h) l ≡ breaks t h l
+  behind_breaks h l = breaks_as_lem t (s ++ t) (n + h) h l (behind h (l - 1)) (behind h l)
 
   -- items of both
-  items-front : items s ≡ n
+  items_front : items s ≡ n
   unfolding items
-  items-front = count (length s) whole
+  items_front = count (length s) whole
     where
       count : (x : ℕ) → x ≡ style_words * n → x / style_words ≡ n
       count x e = omega arith
 
-  items-both : items (s ++ t) ≡ n + items t
+  items_both : items (s ++ t) ≡ n + items t
   unfolding items
-  items-both = ap (λ (x : ℕ). x / style_words) (length-append s t) ∙ count (length s) (length t) whole
+  items_both = ap (λ (x : ℕ). x / style_words) (length-append s t) ∙ count (length s) (length t) whole
     where
       count : (x y : ℕ) → x ≡ style_words * n → (x + y) / style_words ≡ n + y / style_words
       count x y e = omega arith
 
-  all-front : NoneBreaks s → (h : ℕ) → h < n → AllGood (s ++ t) h
-  all-front a h p l q = front-breaks h l p q ∙ a h (subst (λ (x : ℕ). h < x) (sym items-front) p) l q
+  all_front : NoneBreaks s → (h : ℕ) → h < n → AllGood (s ++ t) h
+  all_front a h p l q = front_breaks h l p q ∙ a h (subst (λ (x : ℕ). h < x) (sym items_front) p) l q
 
-  all-behind : (h : ℕ) → n ≤ h → AllGood t (h - n) → AllGood (s ++ t) h
-  all-behind h q a l r = ap (λ (x : ℕ). breaks (s ++ t) x l) (split n h q) ∙ behind-breaks (h - n) l ∙ a l r
+  all_behind : (h : ℕ) → n ≤ h → AllGood t (h - n) → AllGood (s ++ t) h
+  all_behind h q a l r = ap (λ (x : ℕ). breaks (s ++ t) x l) (split n h q) ∙ behind_breaks (h - n) l ∙ a l r
 
   -- an item of both is one of the front, or one behind it
   either : (h : ℕ) → NoneBreaks s → (n ≤ h → AllGood t (h - n)) → AllGood (s ++ t) h
   either h a b = go (ltb h n) refl
     where
       go : (x : Bool) → ltb h n ≡ x → AllGood (s ++ t) h
-      go true q = all-front a h (ltb-true h n q)
-      go false q = all-behind h (ltb-false h n q) (b (ltb-false h n q))
+      go true q = all_front a h (ltb-true h n q)
+      go false q = all_behind h (ltb-false h n q) (b (ltb-false h n q))
 
   next : (c d : TableCheck) → TableIs s c → TableIs t d → checked s ≡ c → checked (s ++ t) ≡ or_behind n c d
   next _ d (bad i k f) v e =
@@ -137,7 +137,7 @@ module _ (s t : List ℕ) (n : ℕ) (whole : length s ≡ style_words * n) where
       (λ j p. front j (within i j k p f.word-there (here i f.item-there)))
     where
       here : (i : ℕ) → i < items s → i < n
-      here i p = subst (λ (x : ℕ). i < x) items-front p
+      here i p = subst (λ (x : ℕ). i < x) items_front p
 
       long : (i x y : ℕ) → x ≡ style_words * n → i < n → style_words * i + style_words ≤ x + y
       long i x y e p = omega arith
@@ -145,15 +145,15 @@ module _ (s t : List ℕ) (n : ℕ) (whole : length s ≡ style_words * n) where
       within : (i j k : ℕ) → j ≤ style_words * i + k → k < style_words → i < n → j < style_words * n
       within i j k p q r = omega arith
   next _ _ (good a) (good b) e =
-      (good_is_none (s ++ t)).1 (λ h p. either h a (λ q. b (h - n) (left n h (items t) q (subst (λ (x : ℕ). h < x) items-both p))))
+      (good_is_none (s ++ t)).1 (λ h p. either h a (λ q. b (h - n) (left n h (items t) q (subst (λ (x : ℕ). h < x) items_both p))))
   next _ _ (good a) (bad i k f) e =
       (bad_is_first (s ++ t) (n + i) k).1
       (record {
-        item-there = subst (λ (x : ℕ). n + i < x) (sym items-both) (on i (items t) f.item-there);
+        item_there = subst (λ (x : ℕ). n + i < x) (sym items_both) (on i (items t) f.item-there);
         word_there = f.word-there;
-        breaks-it = behind-breaks i k ∙ f.breaks-it;
-        words-before = λ j p. behind-breaks i j ∙ f.words-before j p;
-        items-before = λ h p. either h a (λ q. f.items-before (h - n) (left n h i q p));
+        breaks_it = behind_breaks i k ∙ f.breaks-it;
+        words_before = λ j p. behind_breaks i j ∙ f.words-before j p;
+        items_before = λ h p. either h a (λ q. f.items-before (h - n) (left n h i q p));
       })
     where
       on : (i m : ℕ) → i < m → n + i < n + m

@@ -15,8 +15,8 @@ use Rattle.style_record.specs.Encode.{length_words_of, rect_words_of, size_words
 use Rattle.style_record.specs.Laws.{WidthsAgree, AllGood, NoneBreaks, First, ItemGoodIsNone, GoodIsNone, BadIsFirst, SomeIsFound, EachWordAtItsIndex, EachWordIsRead, EachFieldIsWritten, DecodingIsExact}
 use Rattle.style_record.specs.declared.check.TableCheck.{TableCheck}
 use Rattle.style_record.specs.declared.check.TableCheck.TheVariants as table
-use Rattle.style_record.proofs.First.{ItemIs, item-good, item-bad, item_is, TableIs, good, bad, table_is}
-use Rattle.style_record.proofs.Written.{written_back, decoded-back}
+use Rattle.style_record.proofs.First.{ItemIs, item_good, item_bad, item_is, TableIs, good, bad, table_is}
+use Rattle.style_record.proofs.Written.{written_back, decoded_back}
 
 -- ---- the widths
 
@@ -48,12 +48,12 @@ unfolding is_good_item
 item_good_is_none s i = (λ e. there (first_broken s i) (item_is s i) e, λ a. back (first_broken s i) (item_is s i) a)
   where
     there : (c : ItemCheck) → ItemIs s i c → c ≡ NoWord → AllGood s i
-    there _ (item-good a) e = a
-    there _ (item-bad k p q w) e = no (ap is_good_item e) refl
+    there _ (item_good a) e = a
+    there _ (item_bad k p q w) e = no (ap is_good_item e) refl
 
     back : (c : ItemCheck) → ItemIs s i c → AllGood s i → c ≡ NoWord
-    back _ (item-good a) n = refl
-    back _ (item-bad k p q w) n = no q (n k p)
+    back _ (item_good a) n = refl
+    back _ (item_bad k p q w) n = no q (n k p)
 
 pub good_is_none : GoodIsNone
 unfolding is_good
@@ -122,23 +122,23 @@ each_word_at_its_index s i =
       size = record { width = refl; height = refl };
       min = record { width = refl; height = refl };
       max = record { width = refl; height = refl };
-      ratioAbsent = λ e. rw e refl;
-      ratioPresent = λ e. rw e refl;
+      ratio_absent = λ e. rw e refl;
+      ratio_present = λ e. rw e refl;
       sizing = refl;
       replaced = refl;
       table = refl;
       direction = refl;
       justify = refl;
       align = refl;
-      overflowX = refl;
-      overflowY = refl;
+      overflow_x = refl;
+      overflow_y = refl;
       scrollbar = refl;
       contain = refl;
     }
 
 pub each_word_is_read : EachWordIsRead
 unfolding style_at kept breaks
-each_word_is_read s i e = decoded-back (item s i) ((item_good_is_none s i).0 e)
+each_word_is_read s i e = decoded_back (item s i) ((item_good_is_none s i).0 e)
 
 pub each_field_is_written : EachFieldIsWritten
 each_field_is_written y f = written_back y f

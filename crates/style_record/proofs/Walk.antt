@@ -25,17 +25,17 @@ over n i h = omega arith
 -- ---- a record's words
 
 module _ (r : ℕ → ℕ) (k : ℕ) where
-  word-bad : k < style_words → breaks_rule r k ≡ true → first_from r (style_words - k) k ≡ Word k
+  word_bad : k < style_words → breaks_rule r k ≡ true → first_from r (style_words - k) k ≡ Word k
   unfolding first_from
-  word-bad h e = rw (turn style_words k h) (rw e refl)
+  word_bad h e = rw (turn style_words k h) (rw e refl)
 
   word_good : k < style_words → breaks_rule r k ≡ false → first_from r (style_words - k) k ≡ first_from r (style_words - (k + 1)) (k + 1)
   unfolding first_from
   word_good h e = rw (turn style_words k h) (rw e refl)
 
-  words-done : style_words ≤ k → first_from r (style_words - k) k ≡ NoWord
+  words_done : style_words ≤ k → first_from r (style_words - k) k ≡ NoWord
   unfolding first_from
-  words-done h = rw (over style_words k h) refl
+  words_done h = rw (over style_words k h) refl
 
 -- ---- a length starts with its tag, and no other word of it breaks a rule
 
@@ -63,38 +63,38 @@ second_below : (k : ℕ) → k < after_lengths → k + 1 + 1 < style_words
 second_below k h = omega arith
 
 module _ (k : ℕ) (h : k < after_lengths) (first : k % length_words ≡ 0) where
-  tag-kind : kind_of k ≡ tag (length_field (k / length_words))
+  tag_kind : kind_of k ≡ tag (length_field (k / length_words))
   unfolding kind_of length_kinds
-  tag-kind = rw (lt-ltb k after_lengths h, first) refl
+  tag_kind = rw (lt-ltb k after_lengths h, first) refl
 
-  value-kind : kind_of (k + 1) ≡ number
+  value_kind : kind_of (k + 1) ≡ number
   unfolding kind_of length_kinds
-  value-kind = rw (lt-ltb (k + 1) after_lengths (inside k 1 (omega arith) h first), place k 1 (omega arith) first) refl
+  value_kind = rw (lt-ltb (k + 1) after_lengths (inside k 1 (omega arith) h first), place k 1 (omega arith) first) refl
 
-  second-kind : kind_of (k + 1 + 1) ≡ number
+  second_kind : kind_of (k + 1 + 1) ≡ number
   unfolding kind_of length_kinds
-  second-kind = rw (two_on k, lt-ltb (k + 2) after_lengths (inside k 2 (omega arith) h first), place k 2 (omega arith) first) refl
+  second_kind = rw (two_on k, lt-ltb (k + 2) after_lengths (inside k 2 (omega arith) h first), place k 2 (omega arith) first) refl
 
 module _ (r : ℕ → ℕ) (k : ℕ) (h : k < after_lengths) (first : k % length_words ≡ 0) where
-  tag-rule : breaks_rule r k ≡ not (takes (length_field (k / length_words)) (r k))
+  tag_rule : breaks_rule r k ≡ not (takes (length_field (k / length_words)) (r k))
   unfolding breaks_rule breaks_as
-  tag-rule = rw (tag-kind k h first) refl
+  tag_rule = rw (tag_kind k h first) refl
 
-  value-rule : breaks_rule r (k + 1) ≡ false
+  value_rule : breaks_rule r (k + 1) ≡ false
   unfolding breaks_rule breaks_as
-  value-rule = rw (value-kind k h first) refl
+  value_rule = rw (value_kind k h first) refl
 
-  second-rule : breaks_rule r (k + 1 + 1) ≡ false
+  second_rule : breaks_rule r (k + 1 + 1) ≡ false
   unfolding breaks_rule breaks_as
-  second-rule = rw (second-kind k h first) refl
+  second_rule = rw (second_kind k h first) refl
 
-  tag-bad : takes (length_field (k / length_words)) (r k) ≡ false → first_from r (style_words - k) k ≡ Word k
-  tag-bad e = word-bad r k (below k h) (tag-rule ∙ ap not e)
+  tag_bad : takes (length_field (k / length_words)) (r k) ≡ false → first_from r (style_words - k) k ≡ Word k
+  tag_bad e = word_bad r k (below k h) (tag_rule ∙ ap not e)
 
-  tag-good : takes (length_field (k / length_words)) (r k) ≡ true → first_from r (style_words - k) k ≡ first_from r (style_words - (k + length_words)) (k + length_words)
-  tag-good e =
-      word_good r k (below k h) (tag-rule ∙ ap not e) ∙ word_good r (k + 1) (value_below k h) value-rule
-      ∙ word_good r (k + 1 + 1) (second_below k h) second-rule
+  tag_good : takes (length_field (k / length_words)) (r k) ≡ true → first_from r (style_words - k) k ≡ first_from r (style_words - (k + length_words)) (k + length_words)
+  tag_good e =
+      word_good r k (below k h) (tag_rule ∙ ap not e) ∙ word_good r (k + 1) (value_below k h) value_rule
+      ∙ word_good r (k + 1 + 1) (second_below k h) second_rule
       ∙ ap (λ (j : ℕ). first_from r (style_words - j) j) (next_length k)
 
 -- ---- the tags from one word to another, all held to one field
@@ -144,14 +144,14 @@ unfolding first_broken
 all_words s i = refl
 
 module _ (s : List ℕ) (i k : ℕ) (here : From s i k) where
-  pub words-end : style_words ≤ k → first_broken s i ≡ NoWord
-  words-end h = here ∙ words-done (item s i) k h
+  pub words_end : style_words ≤ k → first_broken s i ≡ NoWord
+  words_end h = here ∙ words_done (item s i) k h
 
   pub word_on : k < style_words → breaks_rule (item s i) k ≡ false → From s i (k + 1)
   word_on h e = here ∙ word_good (item s i) k h e
 
-  pub word-stop : k < style_words → breaks_rule (item s i) k ≡ true → first_broken s i ≡ Word k
-  word-stop h e = here ∙ word-bad (item s i) k h e
+  pub word_stop : k < style_words → breaks_rule (item s i) k ≡ true → first_broken s i ≡ Word k
+  word_stop h e = here ∙ word_bad (item s i) k h e
 
 -- a tag of a stretch is reached
 abbrev pub Tags : ℕ → ℕ → List ℕ → ℕ → ℕ → Type 0
@@ -165,9 +165,9 @@ module _ (f : Field) (from to : ℕ) (stretch : Stretch f from to) (s : List ℕ
   below_end : k < after_lengths
   below_end = let p = stretch.inside in omega arith
 
-  pub tag-on : takes f (item s i k) ≡ true → Tags from to s i (k + length_words)
-  tag-on e =
-      (later, within stretch.ends here.2, again here.2, here.3 ∙ tag-good (item s i) k below_end here.2 (stretch.taken k here.0 h _ ∙ e))
+  pub tag_on : takes f (item s i k) ≡ true → Tags from to s i (k + length_words)
+  tag_on e =
+      (later, within stretch.ends here.2, again here.2, here.3 ∙ tag_good (item s i) k below_end here.2 (stretch.taken k here.0 h _ ∙ e))
     where
       later : from ≤ k + length_words
       later = let p = here.0 in omega arith
@@ -178,8 +178,8 @@ module _ (f : Field) (from to : ℕ) (stretch : Stretch f from to) (s : List ℕ
       again : k % length_words ≡ 0 → (k + length_words) % length_words ≡ 0
       again a = omega arith
 
-  pub tag-stop : takes f (item s i k) ≡ false → first_broken s i ≡ Word k
-  tag-stop e = here.3 ∙ tag-bad (item s i) k below_end here.2 (stretch.taken k here.0 h _ ∙ e)
+  pub tag_stop : takes f (item s i k) ≡ false → first_broken s i ≡ Word k
+  tag_stop e = here.3 ∙ tag_bad (item s i) k below_end here.2 (stretch.taken k here.0 h _ ∙ e)
 
 -- a test of `!b`
 pub was_true : (b : Bool) → not b ≡ false → b ≡ true
@@ -193,13 +193,13 @@ was_false false e = refl
 -- ---- a table's items
 
 module _ (s : List ℕ) (i n : ℕ) (h : i < n) where
-  pub item-bad : {k : ℕ} → first_broken s i ≡ Word k → checked_from s (n - i) i ≡ table.Bad i k
+  pub item_bad : {k : ℕ} → first_broken s i ≡ Word k → checked_from s (n - i) i ≡ table.Bad i k
   unfolding checked_from or_rest
-  item-bad e = rw (turn n i h) (rw e refl)
+  item_bad e = rw (turn n i h) (rw e refl)
 
-  pub item-good : first_broken s i ≡ NoWord → checked_from s (n - i) i ≡ checked_from s (n - (i + 1)) (i + 1)
+  pub item_good : first_broken s i ≡ NoWord → checked_from s (n - i) i ≡ checked_from s (n - (i + 1)) (i + 1)
   unfolding checked_from or_rest
-  item-good e = rw (turn n i h) (rw e refl)
+  item_good e = rw (turn n i h) (rw e refl)
 
 pub items_done : (s : List ℕ) (i n : ℕ) → n ≤ i → checked_from s (n - i) i ≡ table.Good
 unfolding checked_from

@@ -20,7 +20,7 @@ use Rattle.style.specs.declared.alignment.AlignItems.{AlignItems}
 use Rattle.style.specs.declared.Style.{Style}
 use Rattle.style.specs.Codes.{safety_code, keyword_code, bits_code, safety_of, keyword_of, alignment_of, bit0, bit1, contain_of}
 use Rattle.style.proofs.Laws.{sizing_codes, overflow_codes, direction_codes, safety_codes, keyword_codes, bits_codes}
-use Rattle.style_record.specs.Record.{up_to, style_words, ratio_present_word, ratio_word, box_sizing_word, flags_word, direction_word, justify_word, align_word, overflow_xWord, overflow_yWord, contain_word, kind_of, code_kinds, length_kinds, length_field}
+use Rattle.style_record.specs.Record.{up_to, style_words, ratio_present_word, ratio_word, box_sizing_word, flags_word, direction_word, justify_word, align_word, overflow_x_word, overflow_y_word, contain_word, kind_of, code_kinds, length_kinds, length_field}
 use Rattle.style_record.specs.Check.{safety_breaks, breaks_as, breaks_rule}
 use Rattle.style_record.specs.Decode.{length_at, rect_at, size_at, align_at, ratio_at, overflow_at, style_of}
 use Rattle.style_record.specs.Encode.{length_words_of, rect_words_of, size_words_of, present_code, ratio_bits, align_words_of, encoded, kept_as, kept_from}
@@ -114,18 +114,18 @@ present k p e = below k (at_most 10 k p) (eqb-false k 10 e)
     below k p n = omega arith
 
 module _ (k w : ℕ) (p : ltb 10 k ≡ false) (q : safety_breaks k w ≡ false) where
-  align-if : (b : Bool) → eqb k 10 ≡ b → (keyword_code (align_if b k w).keyword ≡ cond b 0 k) × (safety_code (align_if b k w).safety ≡ cond b 0 w)
+  align_if_lem : (b : Bool) → eqb k 10 ≡ b → (keyword_code (align_if b k w).keyword ≡ cond b 0 k) × (safety_code (align_if b k w).safety ≡ cond b 0 w)
   unfolding keyword_code safety_code safety_breaks
-  align-if true e = (refl, refl)
-  align-if false e = (keyword_codes.1 k (present k p e), safety_codes.1 w (at_most 2 w (rw e at q)))
+  align_if_lem true e = (refl, refl)
+  align_if_lem false e = (keyword_codes.1 k (present k p e), safety_codes.1 w (at_most 2 w (rw e at q)))
 
-  keyword-word : keyword_code (alignment_of k w).keyword ≡ cond (eqb k 10) 0 k
+  keyword_word : keyword_code (alignment_of k w).keyword ≡ cond (eqb k 10) 0 k
   unfolding alignment_of
-  keyword-word = (align-if (eqb k 10) refl).0
+  keyword_word = (align_if_lem (eqb k 10) refl).0
 
-  safety-word : safety_code (alignment_of k w).safety ≡ cond (eqb k 10) 0 w
+  safety_word : safety_code (alignment_of k w).safety ≡ cond (eqb k 10) 0 w
   unfolding alignment_of
-  safety-word = (align-if (eqb k 10) refl).1
+  safety_word = (align_if_lem (eqb k 10) refl).1
 
 flags_word_lem : (w : ℕ) → w ≤ 3 → bits_code (bit0 w) (bit1 w) ≡ w
 flags_word_lem w h = bits_codes.1 w ∙ small w h
@@ -139,26 +139,26 @@ module _ (r : ℕ → ℕ) (good : (k : ℕ) → k < style_words → breaks_rule
   unfolding breaks_rule
   rule k h = good k h
 
-  code-word : (last k : ℕ) → k < style_words → kind_of k ≡ up_to last → r k ≤ last
+  code_word : (last k : ℕ) → k < style_words → kind_of k ≡ up_to last → r k ≤ last
   unfolding breaks_as
-  code-word last k h e = at_most last (r k) (rw e at (rule k h))
+  code_word last k h e = at_most last (r k) (rw e at (rule k h))
 
-  pub decoded-back : encoded (style_of r) ≡ kept_from r style_words 0
+  pub decoded_back : encoded (style_of r) ≡ kept_from r style_words 0
   unfolding style_of length_at rect_at size_at align_at ratio_at overflow_at contain_of length_words_of rect_words_of size_words_of align_words_of encoded kept_from kept_as kind_of code_kinds length_kinds length_field breaks_as
-  decoded-back =
-      let present = ratio_word_lem (r ratio_present_word) (r ratio_word) (code-word 1 ratio_present_word (omega arith) refl) in
+  decoded_back =
+      let present = ratio_word_lem (r ratio_present_word) (r ratio_word) (code_word 1 ratio_present_word (omega arith) refl) in
       rw (
         present.0,
         present.1,
-        sizing_codes.1 (r box_sizing_word) (code-word 1 box_sizing_word (omega arith) refl),
-        flags_word_lem (r flags_word) (code-word 3 flags_word (omega arith) refl),
-        direction_codes.1 (r direction_word) (code-word 1 direction_word (omega arith) refl),
-        keyword-word (r justify_word) (r (justify_word + 1)) (rule justify_word (omega arith)) (rule (justify_word + 1) (omega arith)),
-        safety-word (r justify_word) (r (justify_word + 1)) (rule justify_word (omega arith)) (rule (justify_word + 1) (omega arith)),
-        keyword-word (r align_word) (r (align_word + 1)) (rule align_word (omega arith)) (rule (align_word + 1) (omega arith)),
-        safety-word (r align_word) (r (align_word + 1)) (rule align_word (omega arith)) (rule (align_word + 1) (omega arith)),
-        overflow_codes.1 (r overflow_xWord) (code-word 3 overflow_xWord (omega arith) refl),
-        overflow_codes.1 (r overflow_yWord) (code-word 3 overflow_yWord (omega arith) refl),
+        sizing_codes.1 (r box_sizing_word) (code_word 1 box_sizing_word (omega arith) refl),
+        flags_word_lem (r flags_word) (code_word 3 flags_word (omega arith) refl),
+        direction_codes.1 (r direction_word) (code_word 1 direction_word (omega arith) refl),
+        keyword_word (r justify_word) (r (justify_word + 1)) (rule justify_word (omega arith)) (rule (justify_word + 1) (omega arith)),
+        safety_word (r justify_word) (r (justify_word + 1)) (rule justify_word (omega arith)) (rule (justify_word + 1) (omega arith)),
+        keyword_word (r align_word) (r (align_word + 1)) (rule align_word (omega arith)) (rule (align_word + 1) (omega arith)),
+        safety_word (r align_word) (r (align_word + 1)) (rule align_word (omega arith)) (rule (align_word + 1) (omega arith)),
+        overflow_codes.1 (r overflow_x_word) (code_word 3 overflow_x_word (omega arith) refl),
+        overflow_codes.1 (r overflow_y_word) (code_word 3 overflow_y_word (omega arith) refl),
         bits_codes.1 (r contain_word),
       )
       refl

@@ -12,7 +12,7 @@ use Rattle.style.specs.declared.alignment.AlignItems.{AlignItems}
 use Rattle.style.specs.declared.OverflowPoint.{OverflowPoint}
 use Rattle.style.specs.declared.Style.{Style}
 use Rattle.style.specs.Codes.{sizing_of, overflow_of, direction_of, alignment_of, bit0, bit1, contain_of}
-use Rattle.style_record.specs.Record.{length_words, tag_word, ratio_present_word, ratio_word, box_sizing_word, flags_word, direction_word, justify_word, align_word, overflow_xWord, overflow_yWord, scrollbar_word, contain_word, item}
+use Rattle.style_record.specs.Record.{length_words, tag_word, ratio_present_word, ratio_word, box_sizing_word, flags_word, direction_word, justify_word, align_word, overflow_x_word, overflow_y_word, scrollbar_word, contain_word, item}
 
 -- ---- from word k of a record on
 
@@ -42,7 +42,7 @@ unfoldable pub ratio_at : (ℕ → ℕ) → MaybeF32
 ratio_at r = cond (eqb (r ratio_present_word) 0) None (Some (of_bits binary32 (r ratio_word)))
 
 unfoldable pub overflow_at : (ℕ → ℕ) → OverflowPoint
-overflow_at r = record { x = overflow_of (r overflow_xWord); y = overflow_of (r overflow_yWord) }
+overflow_at r = record { x = overflow_of (r overflow_x_word); y = overflow_of (r overflow_y_word) }
 
 -- ---- a whole record
 

@@ -38,11 +38,11 @@ NoneBreaks s = (i : ℕ) → i < items s → AllGood s i
 
 -- word k of item i is the first word of the table that breaks a rule: it does, and none before it in its item, nor any of an item before
 pub record First (s : List ℕ) (i k : ℕ) : Type 0 where
-  pub item-there : i < items s
+  pub item_there : i < items s
   pub word_there : k < style_words
-  pub breaks-it : breaks s i k ≡ true
-  pub words-before : (j : ℕ) → j < k → breaks s i j ≡ false
-  pub items-before : (h : ℕ) → h < i → AllGood s h
+  pub breaks_it : breaks s i k ≡ true
+  pub words_before : (j : ℕ) → j < k → breaks s i j ≡ false
+  pub items_before : (h : ℕ) → h < i → AllGood s h
 
 -- an item is good exactly where none of its words breaks a rule
 abbrev pub ItemGoodIsNone : Type 0
@@ -147,16 +147,16 @@ pub record WordsOf (r : ℕ → ℕ) (y : Style) : Type 0 where
   pub size : SizesAt r 48 y.size
   pub min : SizesAt r 54 y.min
   pub max : SizesAt r 60 y.max
-  pub ratioAbsent : r 66 ≡ 0 → y.ratio ≡ None
-  pub ratioPresent : r 66 ≡ 1 → y.ratio ≡ Some (of_bits binary32 (r 67))
+  pub ratio_absent : r 66 ≡ 0 → y.ratio ≡ None
+  pub ratio_present : r 66 ≡ 1 → y.ratio ≡ Some (of_bits binary32 (r 67))
   pub sizing : y.sizing ≡ sizing_of (r 68)
   pub replaced : y.replaced ≡ bit0 (r 69)
   pub table : y.table ≡ bit1 (r 69)
   pub direction : y.direction ≡ direction_of (r 70)
   pub justify : y.justify ≡ alignment_of (r 71) (r 72)
   pub align : y.align ≡ alignment_of (r 73) (r 74)
-  pub overflowX : y.overflow.x ≡ overflow_of (r 75)
-  pub overflowY : y.overflow.y ≡ overflow_of (r 76)
+  pub overflow_x : y.overflow.x ≡ overflow_of (r 75)
+  pub overflow_y : y.overflow.y ≡ overflow_of (r 76)
   pub scrollbar : y.scrollbar ≡ of_bits binary32 (r 77)
   pub contain : y.contain ≡ contain_of (r 78)
 

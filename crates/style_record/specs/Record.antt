@@ -52,11 +52,11 @@ justify_word = after_lengths + 5
 abbrev pub align_word : ℕ
 align_word = after_lengths + 7
 
-abbrev pub overflow_xWord : ℕ
-overflow_xWord = after_lengths + 9
+abbrev pub overflow_x_word : ℕ
+overflow_x_word = after_lengths + 9
 
-abbrev pub overflow_yWord : ℕ
-overflow_yWord = after_lengths + 10
+abbrev pub overflow_y_word : ℕ
+overflow_y_word = after_lengths + 10
 
 abbrev pub scrollbar_word : ℕ
 scrollbar_word = after_lengths + 11

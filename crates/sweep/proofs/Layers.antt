@@ -19,7 +19,7 @@ use Rattle.sweep.specs.declared.Filled.{Filled}
 use Rattle.sweep.specs.declared.Swept.TheVariants.{Into}
 use Rattle.sweep.specs.Sweep.{first_candidates, candidates_in, layers_of, moved, side, keep, appended, Outcome, swept}
 use Rattle.sweep.specs.Laws.{AllFit, HasLayers, LayersKept}
-use Rattle.sweep.proofs.Steps.{moved_position, kept-moved, full, into, no-room-in, no-room-out, room-both}
+use Rattle.sweep.proofs.Steps.{moved_position, kept_moved, full, into, no_room_in, no_room_out, room_both}
 use Rattle.sweep.proofs.Laws.{never, swept_fits, keep_fits, appended_back}
 
 moved_layer : (s : Shift) (c : OofCandidate) → (moved s c).layer ≡ c.layer
@@ -28,14 +28,14 @@ moved_layer Unmoved c = refl
 moved_layer (By location) c = refl
 
 module _ (by : ContainingBlockClaims) (list : Bool) (s : Shift) where
-  kept-layers : (cs : List OofCandidate) → layers_of (keep by list (map (moved s) cs)) ≡ layers_of (keep by list cs)
+  kept_layers : (cs : List OofCandidate) → layers_of (keep by list (map (moved s) cs)) ≡ layers_of (keep by list cs)
   unfolding keep
-  kept-layers [] = refl
-  kept-layers (c ∷ cs) =
+  kept_layers [] = refl
+  kept_layers (c ∷ cs) =
       ap
       (λ (p : Position). layers_of (cond (side by list p) (moved s c ∷ keep by list (map (moved s) cs)) (keep by list (map (moved s) cs))))
       (moved_position s c)
-      ∙ go (keep by list (map (moved s) cs)) (keep by list cs) (kept-layers cs) (side by list c.position)
+      ∙ go (keep by list (map (moved s) cs)) (keep by list cs) (kept_layers cs) (side by list c.position)
     where
       go : (xs ys : List OofCandidate) → layers_of xs ≡ layers_of ys → (b : Bool) → layers_of (cond b (moved s c ∷ xs) xs) ≡ layers_of (cond b (c ∷ ys) ys)
       go xs ys e true = rw (moved_layer s c, e) refl
@@ -49,13 +49,13 @@ module _ (by : ContainingBlockClaims) (list : Bool) (s : Shift) where
   unfolding room
   one_list ws held cs fits r =
       let kept = keep by list (map (moved s) cs) in
-      let n = kept-moved by list s cs in
+      let n = kept_moved by list s cs in
       let fit : held + length kept ≤ length ws / candidate_width = rw n (leb-true _ _ r) in
       let there = mul-div-le (length ws) candidate_width in
       ap (λ (m : ℕ). layers_of (first_candidates (held + m) (appended ws held kept))) (sym n)
       ∙ ap layers_of (appended_back ws held kept (keep_fits by list (map (moved s) cs) fits) (omega (arith, fit, there)))
       ∙ map-append (λ (c : OofCandidate). c.layer) (first_candidates held ws) kept
-      ∙ ap (λ (l : List ℕ). layers_of (first_candidates held ws) ++ l) (kept-layers cs)
+      ∙ ap (λ (l : List ℕ). layers_of (first_candidates held ws) ++ l) (kept_layers cs)
 
 pub layers_kept : LayersKept
 layers_kept by s slice w u f after e =
@@ -78,7 +78,7 @@ layers_kept by s slice w u f after e =
         → room candidate_width (length u) f.unclaimed (length (keep by false cs)) ≡ b
         → Kept after (swept by (map (moved s) cs) w u f)
     go true true d g =
-        there (into by s cs w u f) (room-both by s cs w u f d g) _ refl
+        there (into by s cs w u f) (room_both by s cs w u f d g) _ refl
         (one_list by true s w f.working cs (swept_fits s slice) d, one_list by false s u f.unclaimed cs (swept_fits s slice) g)
-    go true false d g = never (sym e ∙ ap (λ (o : Outcome). o.answer) (no-room-out by s cs w u f d g))
-    go false b d g = never (sym e ∙ ap (λ (o : Outcome). o.answer) (no-room-in by s cs w u f d))
+    go true false d g = never (sym e ∙ ap (λ (o : Outcome). o.answer) (no_room_out by s cs w u f d g))
+    go false b d g = never (sym e ∙ ap (λ (o : Outcome). o.answer) (no_room_in by s cs w u f d))

@@ -92,18 +92,18 @@ module _ (w : List ℕ) (cs : List OofCandidate) (room : candidate_width * lengt
       ∙ rear_back candidate_width 0 (length cs) w (list_words cs) (words_length cs) (omega (arith, words_length cs))
       ∙ words_records cs
 
-  record-listed : (i : ℕ) → i < length cs → record_at candidate_width (appended w 0 cs) i ≡ get_or (map candidate_words cs) i []
-  record-listed i h = sym (record_of_records candidate_width (length cs) (appended w 0 cs) i h) ∙ ap (λ (rs : List (List ℕ)). get_or rs i []) listed
+  record_listed : (i : ℕ) → i < length cs → record_at candidate_width (appended w 0 cs) i ≡ get_or (map candidate_words cs) i []
+  record_listed i h = sym (record_of_records candidate_width (length cs) (appended w 0 cs) i h) ∙ ap (λ (rs : List (List ℕ)). get_or rs i []) listed
 
-  pub listed-good : (n : ℕ) → AllBelow n cs → good_records (candidate_kinds n) (appended w 0 cs) (length cs) ≡ true
+  pub listed_good : (n : ℕ) → AllBelow n cs → good_records (candidate_kinds n) (appended w 0 cs) (length cs) ≡ true
   unfolding good breaks
-  listed-good n a =
+  listed_good n a =
       (good_is_unbroken (candidate_kinds n) (appended w 0 cs) (length cs)).1 (
         omega (arith, appended_length w 0 cs),
         λ i k h l.
             let r = get_or (map candidate_words cs) i [] in
             ap (wrong (get_or (candidate_kinds n) k whole))
-            (sym (word_of_record candidate_width (appended w 0 cs) i k l) ∙ ap (λ (r : List ℕ). get_or r k 0) (record-listed i h)
+            (sym (word_of_record candidate_width (appended w 0 cs) i k l) ∙ ap (λ (r : List ℕ). get_or r k 0) (record_listed i h)
             ∙ ap (λ (j : ℕ). get_or r j 0) (sym (zero-add k)))
             ∙ not-true _ ((every_is candidate_width (λ k. not (breaks (candidate_kinds n) r 0 k))).0 (each_good n cs i a h) k l),
       )

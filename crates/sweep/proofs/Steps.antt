@@ -32,31 +32,31 @@ moved_position Unmoved c = refl
 moved_position (By location) c = refl
 
 module _ (by : ContainingBlockClaims) (list : Bool) where
-  pub keep-in : (c : OofCandidate) → side by list c.position ≡ true → keep by list (c ∷ []) ≡ c ∷ []
+  pub keep_in : (c : OofCandidate) → side by list c.position ≡ true → keep by list (c ∷ []) ≡ c ∷ []
   unfolding keep
-  keep-in c e = rw e refl
+  keep_in c e = rw e refl
 
   pub keep_out : (c : OofCandidate) → side by list c.position ≡ false → keep by list (c ∷ []) ≡ []
   unfolding keep
   keep_out c e = rw e refl
 
-  pub keep-first : (c : OofCandidate) (cs : List OofCandidate) → keep by list (c ∷ cs) ≡ keep by list (c ∷ []) ++ keep by list cs
+  pub keep_first : (c : OofCandidate) (cs : List OofCandidate) → keep by list (c ∷ cs) ≡ keep by list (c ∷ []) ++ keep by list cs
   unfolding keep
-  keep-first c cs = go (side by list c.position)
+  keep_first c cs = go (side by list c.position)
     where
       go : (b : Bool) → cond b (c ∷ keep by list cs) (keep by list cs) ≡ cond b (c ∷ []) [] ++ keep by list cs
       go true = refl
       go false = refl
 
   -- a move changes no position
-  pub kept-moved : (s : Shift) (cs : List OofCandidate) → length (keep by list (map (moved s) cs)) ≡ length (keep by list cs)
+  pub kept_moved : (s : Shift) (cs : List OofCandidate) → length (keep by list (map (moved s) cs)) ≡ length (keep by list cs)
   unfolding keep
-  kept-moved s [] = refl
-  kept-moved s (c ∷ cs) =
+  kept_moved s [] = refl
+  kept_moved s (c ∷ cs) =
       ap
       (λ (p : Position). length (cond (side by list p) (moved s c ∷ keep by list (map (moved s) cs)) (keep by list (map (moved s) cs))))
       (moved_position s c)
-      ∙ go (keep by list (map (moved s) cs)) (keep by list cs) (kept-moved s cs) (side by list c.position)
+      ∙ go (keep by list (map (moved s) cs)) (keep by list cs) (kept_moved s cs) (side by list c.position)
     where
       go : (xs ys : List OofCandidate) → length xs ≡ length ys → (b : Bool) → length (cond b (moved s c ∷ xs) xs) ≡ length (cond b (c ∷ ys) ys)
       go xs ys e true = ap suc e
@@ -114,7 +114,7 @@ appended_twice ws k xs ys =
 
 module _ (by : ContainingBlockClaims) (list : Bool) (c : OofCandidate) where
   pub one_in : side by list c.position ≡ true → length (keep by list (c ∷ [])) ≡ 1
-  one_in e = ap length (keep-in by list c e)
+  one_in e = ap length (keep_in by list c e)
 
   pub one_out : side by list c.position ≡ false → length (keep by list (c ∷ [])) ≡ 0
   one_out e = ap length (keep_out by list c e)
@@ -123,15 +123,15 @@ module _ (by : ContainingBlockClaims) (list : Bool) (c : OofCandidate) where
   abbrev pub Appended : Shift → List ℕ → ℕ → ℕ → List ℕ → Type 0
   Appended s ws k r after = (r ≡ k + length (keep by list (c ∷ []))) × (after ≡ appended ws k (keep by list (moved s c ∷ [])))
 
-  pub append-in : (s : Shift) (ws : List ℕ) (k : ℕ) → side by list c.position ≡ true
+  pub append_in : (s : Shift) (ws : List ℕ) (k : ℕ) → side by list c.position ≡ true
       → Appended s ws k (k + 1) (written ws (candidate_width * k) (candidate_words (moved s c)))
-  append-in s ws k e = (
+  append_in s ws k e = (
     ap (λ (m : ℕ). k + m) (sym (one_in e)),
-    sym (ap (appended ws k) (keep-in by list (moved s c) (ap (side by list) (moved_position s c) ∙ e)) ∙ appended_one ws k (moved s c)),
+    sym (ap (appended ws k) (keep_in by list (moved s c) (ap (side by list) (moved_position s c) ∙ e)) ∙ appended_one ws k (moved s c)),
   )
 
-  pub append-out : (s : Shift) (ws : List ℕ) (k : ℕ) → side by list c.position ≡ false → Appended s ws k k ws
-  append-out s ws k e = (
+  pub append_out : (s : Shift) (ws : List ℕ) (k : ℕ) → side by list c.position ≡ false → Appended s ws k k ws
+  append_out s ws k e = (
     sym (ap (λ (m : ℕ). k + m) (one_out e) ∙ add-zero k),
     sym (ap (appended ws k) (keep_out by list (moved s c) (ap (side by list) (moved_position s c) ∙ e)) ∙ appended_none ws k),
   )
@@ -155,25 +155,25 @@ module _ (by : ContainingBlockClaims) (list : Bool) where
       go true = lit≤ tt
       go false = lit≤ tt
 
-  pub count-step : (ws : List ℕ) (n i : ℕ) → i < n
+  pub count_step : (ws : List ℕ) (n i : ℕ) → i < n
       → length (keep by list (from ws n i)) ≡ length (keep by list (candidate_of (record_at candidate_width ws i) ∷ [])) + length (keep by list (from ws n (i + 1)))
-  count-step ws n i h =
+  count_step ws n i h =
       ap (λ (cs : List OofCandidate). length (keep by list cs)) (from_step ws n i h)
-      ∙ ap length (keep-first by list (candidate_of (record_at candidate_width ws i)) (from ws n (i + 1)))
+      ∙ ap length (keep_first by list (candidate_of (record_at candidate_width ws i)) (from ws n (i + 1)))
       ∙ length-append (keep by list (candidate_of (record_at candidate_width ws i) ∷ [])) (keep by list (from ws n (i + 1)))
 
   -- a list that holds m records after one candidate
-  pub append-step : (s : Shift) (ws l after : List ℕ) (k m n i : ℕ) → i < n
+  pub append_step : (s : Shift) (ws l after : List ℕ) (k m n i : ℕ) → i < n
       → m ≡ k + length (keep by list (candidate_of (record_at candidate_width ws i) ∷ []))
       → after ≡ appended l k (keep by list (moved s (candidate_of (record_at candidate_width ws i)) ∷ []))
       → appended l k (keep by list (map (moved s) (from ws n i))) ≡ appended after m (keep by list (map (moved s) (from ws n (i + 1))))
-  append-step s ws l after k m n i h p q =
+  append_step s ws l after k m n i h p q =
       let c = candidate_of (record_at candidate_width ws i) in
       let rest = map (moved s) (from ws n (i + 1)) in
       ap (λ (cs : List OofCandidate). appended l k (keep by list (map (moved s) cs))) (from_step ws n i h)
-      ∙ ap (appended l k) (keep-first by list (moved s c) rest)
+      ∙ ap (appended l k) (keep_first by list (moved s c) rest)
       ∙ appended_twice l k (keep by list (moved s c ∷ [])) (keep by list rest)
-      ∙ ap (λ (m : ℕ). appended (appended l k (keep by list (moved s c ∷ []))) (k + m) (keep by list rest)) (kept-moved by list s (c ∷ []))
+      ∙ ap (λ (m : ℕ). appended (appended l k (keep by list (moved s c ∷ []))) (k + m) (keep by list rest)) (kept_moved by list s (c ∷ []))
       ∙ sym (rw (q, p) refl)
 
 pub appended_length : (ws : List ℕ) (k : ℕ) (cs : List OofCandidate) → length (appended ws k cs) ≡ length ws
@@ -182,11 +182,11 @@ appended_length ws k cs = written_length ws (candidate_width * k) (list_words cs
 -- ---- a sweep, by its tests
 
 module _ (by : ContainingBlockClaims) (s : Shift) (cs : List OofCandidate) (w u : List ℕ) (f : Filled) where
-  roomIn : Bool
-  roomIn = room candidate_width (length w) f.working (length (keep by true cs))
+  room_in : Bool
+  room_in = room candidate_width (length w) f.working (length (keep by true cs))
 
-  roomOut : Bool
-  roomOut = room candidate_width (length u) f.unclaimed (length (keep by false cs))
+  room_out : Bool
+  room_out = room candidate_width (length u) f.unclaimed (length (keep by false cs))
 
   abbrev pub full : Outcome
   full = record { answer = Refused ListFull; working = w; unclaimed = u }
@@ -199,22 +199,22 @@ module _ (by : ContainingBlockClaims) (s : Shift) (cs : List OofCandidate) (w u 
         unclaimed = appended u f.unclaimed (keep by false (map (moved s) cs));
       }
 
-  by-room : swept by (map (moved s) cs) w u f ≡ cond (roomIn && roomOut) into full
-  unfolding swept roomIn roomOut
-  by-room = rw (kept-moved by true s cs, kept-moved by false s cs) refl
+  by_room : swept by (map (moved s) cs) w u f ≡ cond (room_in && room_out) into full
+  unfolding swept room_in room_out
+  by_room = rw (kept_moved by true s cs, kept_moved by false s cs) refl
 
-  pub no-room-in : room candidate_width (length w) f.working (length (keep by true cs)) ≡ false → swept by (map (moved s) cs) w u f ≡ full
-  unfolding roomIn
-  no-room-in e = by-room ∙ rw e refl
+  pub no_room_in : room candidate_width (length w) f.working (length (keep by true cs)) ≡ false → swept by (map (moved s) cs) w u f ≡ full
+  unfolding room_in
+  no_room_in e = by_room ∙ rw e refl
 
-  pub no-room-out : room candidate_width (length w) f.working (length (keep by true cs)) ≡ true
+  pub no_room_out : room candidate_width (length w) f.working (length (keep by true cs)) ≡ true
       → room candidate_width (length u) f.unclaimed (length (keep by false cs)) ≡ false
       → swept by (map (moved s) cs) w u f ≡ full
-  unfolding roomIn roomOut
-  no-room-out d e = by-room ∙ rw (d, e) refl
+  unfolding room_in room_out
+  no_room_out d e = by_room ∙ rw (d, e) refl
 
-  pub room-both : room candidate_width (length w) f.working (length (keep by true cs)) ≡ true
+  pub room_both : room candidate_width (length w) f.working (length (keep by true cs)) ≡ true
       → room candidate_width (length u) f.unclaimed (length (keep by false cs)) ≡ true
       → swept by (map (moved s) cs) w u f ≡ into
-  unfolding roomIn roomOut
-  room-both d e = by-room ∙ rw (d, e) refl
+  unfolding room_in room_out
+  room_both d e = by_room ∙ rw (d, e) refl

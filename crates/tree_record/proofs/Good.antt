@@ -22,9 +22,9 @@ axis_codes false false true = refl
 axis_codes false false false = refl
 
 module _ (ws : List ℕ) (at : ℕ) where
-  pub good-axis : good axis_kinds ws at ≡ cond (leb 3 (get_or ws (at + 2) 0)) false (cond (leb 3 (get_or ws (at + 3) 0)) false (cond (leb 3 (get_or ws (at + 4) 0)) false true))
+  pub good_axis : good axis_kinds ws at ≡ cond (leb 3 (get_or ws (at + 2) 0)) false (cond (leb 3 (get_or ws (at + 3) 0)) false (cond (leb 3 (get_or ws (at + 4) 0)) false true))
   unfolding good every breaks wrong
-  good-axis = axis_codes (leb 3 (get_or ws (at + 2) 0)) (leb 3 (get_or ws (at + 3) 0)) (leb 3 (get_or ws (at + 4) 0))
+  good_axis = axis_codes (leb 3 (get_or ws (at + 2) 0)) (leb 3 (get_or ws (at + 3) 0)) (leb 3 (get_or ws (at + 4) 0))
 
 -- node, position, then both axes; a float or the order is never wrong
 record_codes : (a b c d e f g h : Bool)
@@ -48,11 +48,11 @@ module _ (n : ℕ) (ws : List ℕ) (at : ℕ) where
   code : ℕ → ℕ → Bool
   code limit k = leb limit (get_or ws (at + k) 0)
 
-  pub good-record : good (candidate_kinds n) ws at
+  pub good_record : good (candidate_kinds n) ws at
       ≡ cond (leb layer_count (get_or ws (at + layer_word) 0)) false
       (cond (leb n (get_or ws at 0)) false (cond (leb 5 (get_or ws (at + 2) 0)) false (cond (good axis_kinds ws (at + 3)) (good axis_kinds ws (at + 8)) false)))
   unfolding good every breaks wrong code
-  good-record =
+  good_record =
       last_first _ (code layer_count layer_word)
       ∙ ap (cond (code layer_count layer_word) false) (record_codes (code n 0) (code 5 2) (code 3 5) (code 3 6) (code 3 7) (code 3 10) (code 3 11) (code 3 12))
       ∙ rw (add-zero, add_assoc at 3 2, add_assoc at 3 3, add_assoc at 3 4, add_assoc at 8 2, add_assoc at 8 3, add_assoc at 8 4) refl

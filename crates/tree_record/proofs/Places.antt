@@ -22,16 +22,16 @@ module _ (w : ℕ) (ws : List ℕ) (i : ℕ) where
   first : 0 < w → get_or (record_at w ws i) 0 0 ≡ get_or ws (w * i) 0
   first h = word_of_record w ws i 0 h ∙ ap (λ (m : ℕ). get_or ws m 0) (add-zero (w * i))
 
-  pub axis-place : (k : ℕ) → k + 5 ≤ w → axis_of (record_at w ws i) k ≡ axis_of ws (w * i + k)
+  pub axis_place : (k : ℕ) → k + 5 ≤ w → axis_of (record_at w ws i) k ≡ axis_of ws (w * i + k)
   unfolding axis_of
-  axis-place k h =
+  axis_place k h =
       rw
       (word_of_record w ws i k (omega arith), past k 1 (omega arith), past k 2 (omega arith), past k 3 (omega arith), past k 4 (omega arith))
       refl
 
-  pub rect-place : (k : ℕ) → k + 4 ≤ w → rect_of (record_at w ws i) k ≡ rect_of ws (w * i + k)
+  pub rect_place : (k : ℕ) → k + 4 ≤ w → rect_of (record_at w ws i) k ≡ rect_of ws (w * i + k)
   unfolding rect_of
-  rect-place k h =
+  rect_place k h =
       rw (word_of_record w ws i k (omega arith), past k 1 (omega arith), past k 2 (omega arith), past k 3 (omega arith)) refl
 
 abbrev pub candidate_from : List ℕ → ℕ → OofCandidate
@@ -48,7 +48,7 @@ pub candidate_place : (ws : List ℕ) (i : ℕ) → candidate_of (record_at cand
 unfolding candidate_of
 candidate_place ws i =
     rw
-    (first candidate_width ws i (lit< tt), word_of_record candidate_width ws i 1 (lit< tt), word_of_record candidate_width ws i 2 (lit< tt), axis-place candidate_width ws i 3 (lit≤ tt), axis-place candidate_width ws i 8 (lit≤ tt), word_of_record candidate_width ws i layer_word (lit< tt))
+    (first candidate_width ws i (lit< tt), word_of_record candidate_width ws i 1 (lit< tt), word_of_record candidate_width ws i 2 (lit< tt), axis_place candidate_width ws i 3 (lit≤ tt), axis_place candidate_width ws i 8 (lit≤ tt), word_of_record candidate_width ws i layer_word (lit< tt))
     refl
 
 abbrev pub layout_from : List ℕ → ℕ → Layout
@@ -71,13 +71,13 @@ layout_place ws i =
       first layout_width ws i (lit< tt),
       word_of_record layout_width ws i 1 (lit< tt),
       word_of_record layout_width ws i 2 (lit< tt),
-      rect-place layout_width ws i 3 (lit≤ tt),
+      rect_place layout_width ws i 3 (lit≤ tt),
       word_of_record layout_width ws i 7 (lit< tt),
       word_of_record layout_width ws i 8 (lit< tt),
       word_of_record layout_width ws i 9 (lit< tt),
       word_of_record layout_width ws i 10 (lit< tt),
-      rect-place layout_width ws i 11 (lit≤ tt),
-      rect-place layout_width ws i 15 (lit≤ tt),
-      rect-place layout_width ws i 19 (lit≤ tt),
+      rect_place layout_width ws i 11 (lit≤ tt),
+      rect_place layout_width ws i 15 (lit≤ tt),
+      rect_place layout_width ws i 19 (lit≤ tt),
     )
     refl

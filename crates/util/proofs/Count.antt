@@ -260,11 +260,11 @@ cuttable y e = go (lt (fin true 1 (pos 0)) y) (lt y (fin false 1 (pos 64))) e
 -- ---- each way to no count
 
 module _ (x : Float) where
-  pub uncounted-uncut : (lt (fin true 1 (pos 0)) (guess x) && lt (guess x) (fin false 1 (pos 64))) ≡ false → NotWhole ≡ count_of x
-  uncounted-uncut e = uncounted x (λ q v h. let g = guess_is x q h v in apart (sym (rw (above (guess x) q g, under (guess x) q h g) at e)))
+  pub uncounted_uncut : (lt (fin true 1 (pos 0)) (guess x) && lt (guess x) (fin false 1 (pos 64))) ≡ false → NotWhole ≡ count_of x
+  uncounted_uncut e = uncounted x (λ q v h. let g = guess_is x q h v in apart (sym (rw (above (guess x) q g, under (guess x) q h g) at e)))
 
-  pub uncounted-large : 9999999 < to_unsigned 64 (guess x) → NotWhole ≡ count_of x
-  uncounted-large e = uncounted x (λ q v h. let k = cut (guess x) q h (guess_is x q h v) in omega arith)
+  pub uncounted_large : 9999999 < to_unsigned 64 (guess x) → NotWhole ≡ count_of x
+  uncounted_large e = uncounted x (λ q v h. let k = cut (guess x) q h (guess_is x q h v) in omega arith)
 
-  pub uncounted-part : eq (eighths (lt x (of_bits binary32 0)) (to_unsigned 64 (guess x))) x ≡ false → NotWhole ≡ count_of x
-  uncounted-part e = uncounted x (λ q v h. apart (sym (rw (cut (guess x) q h (guess_is x q h v)) at e) ∙ tried x q h v))
+  pub uncounted_part : eq (eighths (lt x (of_bits binary32 0)) (to_unsigned 64 (guess x))) x ≡ false → NotWhole ≡ count_of x
+  uncounted_part e = uncounted x (λ q v h. apart (sym (rw (cut (guess x) q h (guess_is x q h v)) at e) ∙ tried x q h v))

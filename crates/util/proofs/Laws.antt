@@ -195,7 +195,7 @@ no_bound x min max = (refl, (nan_loses (at_most x max)).1, rw (nan_loses x).3 re
 -- ---- words
 
 pub word_is_nan : WordIsNan
-word_is_nan w = sym (nan_bits_is binary32 w) ∙ floats.nan-word w
+word_is_nan w = sym (nan_bits_is binary32 w) ∙ floats.nan_word w
 
 pub nan_word : NanWord
 unfolding to_bits

@@ -87,13 +87,13 @@ zeros s t (fin r (suc m) e) y p q = no p refl
 zeros s t (fin r zero e) nan p q = no q refl
 zeros s t (fin r zero e) (inf u) p q = no q refl
 zeros s t (fin r zero e) (fin u (suc n) d) p q = no q refl
-zeros s t (fin r zero e) (fin u zero d) p q = level-zero r (0 * up e * down d) u (0 * up d * down e) (none (up e) (down d)) (none (up d) (down e))
+zeros s t (fin r zero e) (fin u zero d) p q = level_zero r (0 * up e * down d) u (0 * up d * down e) (none (up e) (down d)) (none (up d) (down e))
   where
     none : (a b : ℕ) → 0 * a * b ≡ 0
     none a b = ap (λ (x : ℕ). x * b) (zero-mul a) ∙ zero-mul b
 
-    level-zero : (r : Bool) (a : ℕ) (u : Bool) (b : ℕ) → a ≡ 0 → b ≡ 0 → level r a u b ≡ true
-    level-zero r a u b p q = rw (p, q) (or_right (beq r u) true refl)
+    level_zero : (r : Bool) (a : ℕ) (u : Bool) (b : ℕ) → a ≡ 0 → b ≡ 0 → level r a u b ≡ true
+    level_zero r a u b p q = rw (p, q) (or_right (beq r u) true refl)
 
 both : (p q : Bool) → p && q ≡ true → (p ≡ true) × (q ≡ true)
 both true true h = (refl, refl)
@@ -118,30 +118,30 @@ at_most s a t b h = go (below s a t b) refl h
     smaller true a false b h = tt
     smaller true a true b h = omega (arith, ltb-true b a h)
 
-    equal-sized : (s : Bool) (a : ℕ) (t : Bool) (b : ℕ) → level s a t b ≡ true → AtMost s a t b
-    equal-sized false a false b h = omega (arith, eqb-true a b (both (eqb a b) true h).0)
-    equal-sized true a false b h = tt
-    equal-sized true a true b h = omega (arith, eqb-true a b (both (eqb a b) true h).0)
-    equal-sized false a true b h =
+    equal_sized : (s : Bool) (a : ℕ) (t : Bool) (b : ℕ) → level s a t b ≡ true → AtMost s a t b
+    equal_sized false a false b h = omega (arith, eqb-true a b (both (eqb a b) true h).0)
+    equal_sized true a false b h = tt
+    equal_sized true a true b h = omega (arith, eqb-true a b (both (eqb a b) true h).0)
+    equal_sized false a true b h =
         let z = both (eqb a b) (eqb a 0) h in
         (eqb-true a 0 z.1, sym (eqb-true a b z.0) ∙ eqb-true a 0 z.1)
 
     go : (l : Bool) → below s a t b ≡ l → l || level s a t b ≡ true → AtMost s a t b
     go true e h = smaller s a t b e
-    go false e h = equal-sized s a t b h
+    go false e h = equal_sized s a t b h
 
 pub is_at_most : (s : Bool) (a : ℕ) (t : Bool) (b : ℕ) → AtMost s a t b → below s a t b || level s a t b ≡ true
 is_at_most s a t b h = go (below s a t b) refl
   where
-    level-if : (s : Bool) (a : ℕ) (t : Bool) (b : ℕ) → AtMost s a t b → below s a t b ≡ false → level s a t b ≡ true
-    level-if false a false b h e = rw (eq-eqb a b (omega (arith, ltb-false a b e))) refl
-    level-if false a true b h e = rw (h.0, h.1) refl
-    level-if true a false b h e = same_level true a false b e refl
-    level-if true a true b h e = rw (eq-eqb a b (omega (arith, ltb-false b a e))) refl
+    level_if : (s : Bool) (a : ℕ) (t : Bool) (b : ℕ) → AtMost s a t b → below s a t b ≡ false → level s a t b ≡ true
+    level_if false a false b h e = rw (eq-eqb a b (omega (arith, ltb-false a b e))) refl
+    level_if false a true b h e = rw (h.0, h.1) refl
+    level_if true a false b h e = same_level true a false b e refl
+    level_if true a true b h e = rw (eq-eqb a b (omega (arith, ltb-false b a e))) refl
 
     go : (l : Bool) → below s a t b ≡ l → l || level s a t b ≡ true
     go true e = refl
-    go false e = level-if s a t b h e
+    go false e = level_if s a t b h e
 
 -- a factor of a product that is 0
 gone : (x y z : ℕ) → 0 < y → x * y ≡ 0 → x * z ≡ 0
@@ -217,13 +217,13 @@ not_above_lem (inf true) (fin t n d) h k = no k refl
 not_above_lem (inf false) (fin t n d) h k = no h refl
 not_above_lem (fin s m e) (inf true) h k = no h refl
 not_above_lem (fin s m e) (inf false) h k = no k refl
-not_above_lem (fin s m e) (fin t n d) h k = apart-sized s (m * up e * down d) t (n * up d * down e) h (at_most t (n * up d * down e) s (m * up e * down d) k)
+not_above_lem (fin s m e) (fin t n d) h k = apart_sized s (m * up e * down d) t (n * up d * down e) h (at_most t (n * up d * down e) s (m * up e * down d) k)
   where
-    apart-sized : (s : Bool) (a : ℕ) (t : Bool) (b : ℕ) → below s a t b ≡ true → AtMost t b s a → ⊥
-    apart-sized false a false b h k = omega (arith, ltb-true a b h)
-    apart-sized false a true b h k = no h refl
-    apart-sized true a false b h k = let e = k.0 in let f = k.1 in omega (arith, ltb-true 0 (a + b) h)
-    apart-sized true a true b h k = omega (arith, ltb-true b a h)
+    apart_sized : (s : Bool) (a : ℕ) (t : Bool) (b : ℕ) → below s a t b ≡ true → AtMost t b s a → ⊥
+    apart_sized false a false b h k = omega (arith, ltb-true a b h)
+    apart_sized false a true b h k = no h refl
+    apart_sized true a false b h k = let e = k.0 in let f = k.1 in omega (arith, ltb-true 0 (a + b) h)
+    apart_sized true a true b h k = omega (arith, ltb-true b a h)
 
 -- a number that another isn't below is at most that other
 pub not_lt_le : (a b : Float) → is_nan a ≡ false → is_nan b ≡ false → lt b a ≡ false → le a b ≡ true

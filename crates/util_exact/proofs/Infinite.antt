@@ -9,45 +9,45 @@ use Rattle.util_exact.specs.Integer.{N}
 use Rattle.util_exact.proofs.Exact.{Val, Exact}
 
 module _ {g b : ℕ} {x : Float} {a : N} (h : Exact g b x a) where
-  pub inf-less : inf false ⊖ x ≡ inf false
+  pub inf_less : inf false ⊖ x ≡ inf false
   unfolding sub
-  inf-less = go x h.val
+  inf_less = go x h.val
     where
       go : (x : Float) → Val x a h.z → inf false ⊖ x ≡ inf false
       go nan v = absurd v
       go (inf s) v = absurd v
       go (fin s m e) v = refl
 
-  pub less-inf : x ⊖ inf true ≡ inf false
+  pub less_inf : x ⊖ inf true ≡ inf false
   unfolding sub
-  less-inf = go x h.val
+  less_inf = go x h.val
     where
       go : (x : Float) → Val x a h.z → x ⊖ inf true ≡ inf false
       go nan v = absurd v
       go (inf s) v = absurd v
       go (fin s m e) v = refl
 
-  pub le-inf : le x (inf false) ≡ true
+  pub le_inf : le x (inf false) ≡ true
   unfolding le
-  le-inf = go x h.val
+  le_inf = go x h.val
     where
       go : (x : Float) → Val x a h.z → le x (inf false) ≡ true
       go nan v = absurd v
       go (inf s) v = absurd v
       go (fin s m e) v = refl
 
-  pub smaller-inf : smaller x (inf false) ≡ x
+  pub smaller_inf : smaller x (inf false) ≡ x
   unfolding smaller before lt is_nan zero_of
-  smaller-inf = go x h.val
+  smaller_inf = go x h.val
     where
       go : (x : Float) → Val x a h.z → smaller x (inf false) ≡ x
       go nan v = absurd v
       go (inf s) v = absurd v
       go (fin s m e) v = refl
 
-  pub larger-inf : larger x (inf true) ≡ x
+  pub larger_inf : larger x (inf true) ≡ x
   unfolding larger before lt is_nan zero_of
-  larger-inf = go x h.val
+  larger_inf = go x h.val
     where
       go : (x : Float) → Val x a h.z → larger x (inf true) ≡ x
       go nan v = absurd v

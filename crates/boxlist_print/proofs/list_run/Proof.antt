@@ -1,7 +1,7 @@
 -- Generated skeleton (tools/proof/write-skeletons), answers by hand.
 use borrow.Author.Rules.{rules}
 use Rattle.run.specs.Call.{lent}
-use Rattle.boxlist_print.proofs.Lists.{list-asked, list-finished, list-refused, few_boxes}
+use Rattle.boxlist_print.proofs.Lists.{list_asked, list_finished, list_refused, few_boxes}
 use Rattle.boxlist_print.proofs.list_run.Statement.{statement}
 use Rattle.boxlist_print.proofs.list_run.Tie as tie
 use Rattle.boxlist_print.proofs.list_run.Reads as reads
@@ -46,7 +46,7 @@ same-length-3 : tie.Need-same-length-3
 same-length-3 c = search rules
 
 returns : tie.Need-returns
-returns c = list-asked _ _ _ _ _ _ _ c.before.before.before.before.before.before.before.before.before.play-out.ensures _ c.enum_told.given.1
+returns c = list_asked _ _ _ _ _ _ _ c.before.before.before.before.before.before.before.before.before.play-out.ensures _ c.enum_told.given.1
 
 same-length-4 : tie.Need-same-length-4
 same-length-4 c = search rules
@@ -61,7 +61,7 @@ same-length-7 : tie.Need-same-length-7
 same-length-7 c = search rules
 
 returns-2 : tie.Need-returns-2
-returns-2 c = list-finished _ _ _ _ _ _ _ c.before.before.before.before.before.before.before.before.before.before.before.before.before.before.before.before.before.before.play-out.ensures _ c.before.before.before.before.before.before.before.before.before.answer.given.1 c.before.before.put-finished.ensures
+returns-2 c = list_finished _ _ _ _ _ _ _ c.before.before.before.before.before.before.before.before.before.before.before.before.before.before.before.before.before.before.play-out.ensures _ c.before.before.before.before.before.before.before.before.before.answer.given.1 c.before.before.put-finished.ensures
 
 same-length-8 : tie.Need-same-length-8
 same-length-8 c = search rules
@@ -76,7 +76,7 @@ same-length-11 : tie.Need-same-length-11
 same-length-11 c = search rules
 
 returns-3 : tie.Need-returns-3
-returns-3 c = list-refused _ _ _ _ _ _ _ c.before.before.before.before.before.before.before.before.before.before.before.before.before.before.before.play-out.ensures _ c.before.before.before.before.before.before.answer2.given.1 c.before.before.before.number.ensures c.before.before.Put-refused.ensures
+returns-3 c = list_refused _ _ _ _ _ _ _ c.before.before.before.before.before.before.before.before.before.before.before.before.before.before.before.play-out.ensures _ c.before.before.before.before.before.before.answer2.given.1 c.before.before.before.number.ensures c.before.before.Put-refused.ensures
 
 pub list-run-spec : {M : Type 1} → statement M
 list-run-spec =

@@ -1,7 +1,7 @@
 -- Generated skeleton (tools/proof/write-skeletons), answers by hand.
 use mathlib.Core.Path.{sym, ◌∙◌}
 use Rattle.screen.proofs.Whole.{read_told, bad_told}
-use Rattle.boxlist_print.proofs.Whole.{printed-bad, printed-read}
+use Rattle.boxlist_print.proofs.Whole.{printed_bad, printed_read}
 use borrow.Author.Rules.{rules}
 use Rattle.boxlist_print.proofs.list_screen.Statement.{statement}
 use Rattle.boxlist_print.proofs.list_screen.Tie as tie
@@ -35,14 +35,14 @@ list-words-requires c κs =
 returns : tie.Need-returns
 returns c =
     let text = c.before.before.before.before.before.before.before.before.before.before.before.args.text.now in
-    printed-bad c.before.before.before.before.before.before.before.before.before.before.before.args.listing text (bad_told text (sym c.before.before.before.enum_told.given.1 ∙ c.before.before.before.before.before.read-screen.ensures.answer)) (rw c.before.number.ensures at c.Put-refused.ensures)
+    printed_bad c.before.before.before.before.before.before.before.before.before.before.before.args.listing text (bad_told text (sym c.before.before.before.enum_told.given.1 ∙ c.before.before.before.before.before.read-screen.ensures.answer)) (rw c.before.number.ensures at c.Put-refused.ensures)
 
 returns-2 : tie.Need-returns-2
 returns-2 c =
     let text = c.before.before.before.before.before.before.before.before.before.before.before.before.before.before.before.args.text.now in
     let read = c.before.before.before.before.before.before.before.before.before.read-screen.ensures in
     let t = read_told text _ _ (sym c.before.before.before.before.before.before.before.answer.given.1 ∙ read.answer) in
-    printed-read c.before.before.before.before.before.before.before.before.before.before.before.before.before.before.before.args.listing text _ _ t _ _ _ _ read.header read.styles read.replies read.candidates c.list-words.ensures
+    printed_read c.before.before.before.before.before.before.before.before.before.before.before.before.before.before.before.args.listing text _ _ t _ _ _ _ read.header read.styles read.replies read.candidates c.list-words.ensures
 
 pub list-screen-spec : {M : Type 1} → statement M
 list-screen-spec =

@@ -1,7 +1,7 @@
 -- Generated skeleton (tools/proof/write-skeletons), answers by hand.
 use borrow.Author.Rules.{rules}
 use mathlib.Core.Path.{refl, sym, ◌∙◌}
-use Rattle.boxreach_lines.proofs.Lines.{refused-stores}
+use Rattle.boxreach_lines.proofs.Lines.{refused_stores}
 use Rattle.boxreach_lines.proofs.put_refused.Statement.{statement}
 use Rattle.boxreach_lines.proofs.put_refused.Tie as tie
 use Rattle.boxreach_lines.proofs.put_refused.Reads as reads
@@ -37,7 +37,7 @@ same_length : tie.Need-same-length
 same_length c = search rules
 
 returns : tie.Need-returns
-returns c = sym (refused-stores _ _ _ ∙ rw (← c.before.before.before.before.before.before.before.before.before.before.before.put-bytes.ensures, ← c.before.before.before.before.before.before.before.put-code.ensures, ← c.before.before.put-bytes2.ensures) refl)
+returns c = sym (refused_stores _ _ _ ∙ rw (← c.before.before.before.before.before.before.before.before.before.before.before.put-bytes.ensures, ← c.before.before.before.before.before.before.before.put-code.ensures, ← c.before.before.put-bytes2.ensures) refl)
 
 pub put-refused-spec : {M : Type 1} → statement M
 put-refused-spec =

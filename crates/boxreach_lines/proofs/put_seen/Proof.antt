@@ -1,7 +1,7 @@
 -- Generated skeleton (tools/proof/write-skeletons), answers by hand.
 use borrow.Author.Rules.{rules}
 use mathlib.Core.Path.{refl, sym, ◌∙◌}
-use Rattle.boxreach_lines.proofs.Lines.{seen-stores}
+use Rattle.boxreach_lines.proofs.Lines.{seen_stores}
 use Rattle.boxreach_lines.proofs.put_seen.Statement.{statement}
 use Rattle.boxreach_lines.proofs.put_seen.Tie as tie
 use Rattle.boxreach_lines.proofs.put_seen.Reads as reads
@@ -34,7 +34,7 @@ same_length : tie.Need-same-length
 same_length c = search rules
 
 returns : tie.Need-returns
-returns c = c.before.before.put-code2.ensures ∙ rw (c.before.before.before.before.before.before.put-code.ensures, c.before.before.before.before.before.before.before.before.before.before.put-bytes.ensures) (sym (seen-stores _ _ _ _))
+returns c = c.before.before.put-code2.ensures ∙ rw (c.before.before.before.before.before.before.put-code.ensures, c.before.before.before.before.before.before.before.before.before.before.put-bytes.ensures) (sym (seen_stores _ _ _ _))
 
 pub put-seen-spec : {M : Type 1} → statement M
 put-seen-spec =

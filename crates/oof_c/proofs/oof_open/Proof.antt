@@ -1,6 +1,6 @@
 -- Generated skeleton (tools/proof/write-skeletons), answers by hand.
 use Rattle.oof_c_words.specs.Entry.{words, opening_of}
-use Rattle.oof_c.proofs.Calls.{opened-in-words}
+use Rattle.oof_c.proofs.Calls.{opened_in_words_lem}
 use borrow.Author.Rules.{rules}
 use Rattle.oof_c.proofs.oof_open.Statement.{statement}
 use Rattle.oof_c.proofs.oof_open.Tie as tie
@@ -31,7 +31,7 @@ same-length-3 c = search rules
 returns : tie.Need-returns
 returns c =
     let a = c.before.before.before.before.before.before.before.before.before.before.before.before.before.before.before.before.before.before.before.args in
-    opened-in-words (words a.layouts.now a.working.now a.unclaimed.now a.state.now a.answer.now) c.tell.result
+    opened_in_words_lem (words a.layouts.now a.working.now a.unclaimed.now a.state.now a.answer.now) c.tell.result
     (opening_of a.width a.height a.x a.y a.direction a.claims a.overflow-x a.overflow-y) a.candidates.now a.styles.now
     c.before.before.before.before.before.before.before.before.before.before.«open».ensures c.before.before.state-words.ensures c.tell.ensures
 

@@ -1,6 +1,6 @@
 -- Generated skeleton (tools/proof/write-skeletons), answers by hand.
 use Rattle.oof_c_words.specs.Entry.{words}
-use Rattle.oof_c.proofs.Calls.{replied-in-words}
+use Rattle.oof_c.proofs.Calls.{replied_in_words_lem}
 use borrow.Author.Rules.{rules}
 use Rattle.oof_c.proofs.respond.Statement.{statement}
 use Rattle.oof_c.proofs.respond.Tie as tie
@@ -35,7 +35,7 @@ same-length-3 c = search rules
 returns : tie.Need-returns
 returns c =
     let a = c.before.before.before.before.before.before.before.before.before.before.before.before.before.before.before.before.before.before.before.before.before.args in
-    replied-in-words (words a.layouts.now a.working.now a.unclaimed.now a.state.now a.answer.now) c.tell.result
+    replied_in_words_lem (words a.layouts.now a.working.now a.unclaimed.now a.state.now a.answer.now) c.tell.result
     a.reply a.surfaced.now a.styles.now c.before.before.before.before.before.before.before.before.before.before.before.before.before.before.state-of.ensures
     c.before.before.before.before.before.before.before.before.before.before.reply.ensures c.before.before.keep.ensures c.tell.ensures
 

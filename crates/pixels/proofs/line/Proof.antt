@@ -1,6 +1,6 @@
 -- Generated skeleton (tools/proof/write-skeletons), answers by hand.
 -- `pixels::line` meets its contract. Assumes nothing.
-use Rattle.pixels.proofs.Held.{back, within_abs, held_eighths, start_fits, start-within, end_fits, end-within, held_pixel, line_is_sums}
+use Rattle.pixels.proofs.Held.{back, within_abs, held_eighths, start_fits, start_within, end_fits, end_within, held_pixel, line_is_sums}
 use borrow.Author.Rules.{rules}
 use mathlib.Core.Path.{refl}
 use lib.IntN.{◌+ℤ◌, ◌-ℤ◌}
@@ -33,13 +33,13 @@ pixel-requires : tie.Need-pixel-requires
 pixel-requires c κs =
     let a = c.before.before.before.args in
     rw (c.before.before.in-eighths.ensures, c.before.in-eighths2.ensures, held_eighths a.at, held_eighths a.offset, back _ (start_fits a.at a.offset))
-    (within_abs 29999997 (in_eighths a.at -ℤ in_eighths a.offset) (start-within a.at a.offset))
+    (within_abs 29999997 (in_eighths a.at -ℤ in_eighths a.offset) (start_within a.at a.offset))
 
 pixel-requires-2 : tie.Need-pixel-requires-2
 pixel-requires-2 c κs =
     let a = c.before.before.before.before.args in
     rw (c.before.before.before.in-eighths.ensures, c.before.before.in-eighths2.ensures, c.before.in-eighths3.ensures, held_eighths a.at, held_eighths a.offset, held_eighths a.size, back _ (start_fits a.at a.offset), back _ (end_fits a.at a.offset a.size))
-    (within_abs 29999997 (in_eighths a.at -ℤ in_eighths a.offset +ℤ in_eighths a.size) (end-within a.at a.offset a.size))
+    (within_abs 29999997 (in_eighths a.at -ℤ in_eighths a.offset +ℤ in_eighths a.size) (end_within a.at a.offset a.size))
 
 returns : tie.Need-returns
 returns c =
@@ -49,7 +49,7 @@ returns c =
     let k = c.before.before.in-eighths3.ensures in
     let s = rw (i, j, held_eighths a.at, held_eighths a.offset, back _ (start_fits a.at a.offset)) at c.before.pixel.ensures in
     let e = rw (i, j, k, held_eighths a.at, held_eighths a.offset, held_eighths a.size, back _ (start_fits a.at a.offset), back _ (end_fits a.at a.offset a.size)) at c.pixel2.ensures in
-    rw (s, e, line_is_sums a.at a.size a.offset, held_pixel _ (start-within a.at a.offset), held_pixel _ (end-within a.at a.offset a.size)) refl
+    rw (s, e, line_is_sums a.at a.size a.offset, held_pixel _ (start_within a.at a.offset), held_pixel _ (end_within a.at a.offset a.size)) refl
 
 pub line-spec : {M : Type 1} → statement M
 line-spec =

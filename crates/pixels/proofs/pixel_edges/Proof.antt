@@ -2,7 +2,7 @@
 -- `pixels::pixel_edges` meets its contract. Assumes nothing.
 use mathlib.Core.Bool.{false}
 use Rattle.pixels.specs.Pixels.{numbers_read, all_accepted, pixel_edges, edges_of}
-use Rattle.pixels.proofs.Held.{held_start, held-end}
+use Rattle.pixels.proofs.Held.{held_start, held_end}
 use mathlib.Core.Path.{◌≡◌, refl, sym, ◌∙◌}
 use borrow.Author.Rules.{rules}
 use borrow.Author.Tests.{not-true, not-false}
@@ -31,7 +31,7 @@ returns-2 c =
     let x = c.before.before.before.line.ensures in
     let y = c.before.before.line2.ensures in
     simp (← c.before.before.before.before.before.are-accepted.ensures, not-false c.before.before.before.before.before.are-accepted.result c.before.before.before.before.if1.false, ← c.before.before.before.line.ensures, ← c.before.before.line2.ensures)
-    (rw (held_start _ _ _ _ x, held-end _ _ _ _ x, held_start _ _ _ _ y, held-end _ _ _ _ y) refl)
+    (rw (held_start _ _ _ _ x, held_end _ _ _ _ x, held_start _ _ _ _ y, held_end _ _ _ _ y) refl)
 
 pub pixel-edges-spec : {M : Type 1} → statement M
 pixel-edges-spec =

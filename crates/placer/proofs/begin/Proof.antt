@@ -1,5 +1,5 @@
 -- Generated skeleton (tools/proof/write-skeletons), answers by hand.
-use Rattle.placer.proofs.Openings.{no_room, first-at-hand, swept-in}
+use Rattle.placer.proofs.Openings.{no_room, first_at_hand, swept_in}
 use Rattle.run.specs.Call.{lent}
 use Rattle.run.specs.Run.{closed}
 use borrow.Author.Rules.{rules}
@@ -39,7 +39,7 @@ proceed-requires : tie.Need-proceed-requires
 proceed-requires c κs =
     λ more.
     let a = c.before.before.before.before.before.before.before.before.before.before.before.before.before.before.before.before.before.before.before.before.before.before.args in
-    first-at-hand a.o a.candidates.now (lent a.styles.now a.layouts.now a.working.now a.unclaimed.now) _ _ _
+    first_at_hand a.o a.candidates.now (lent a.styles.now a.layouts.now a.working.now a.unclaimed.now) _ _ _
     c.before.before.before.before.before.before.before.before.before.before.before.before.before.before.before.before.before.before.before.before.before.before.requires (rw (c.before.before.before.before.before.before.before.before.before.before.before.before.claims-of.ensures, c.before.before.before.filled.given.1) at c.before.before.before.before.before.before.before.before.before.sweep.ensures) more
 
 same_length : tie.Need-same-length
@@ -64,7 +64,7 @@ returns-2 : tie.Need-returns-2
 unfolding closed
 returns-2 c =
     let a = c.before.before.before.before.before.before.before.before.before.before.before.before.before.before.before.before.before.before.before.before.before.before.before.args in
-    swept-in a.o a.candidates.now (lent a.styles.now a.layouts.now a.working.now a.unclaimed.now) _ _ _ _
+    swept_in a.o a.candidates.now (lent a.styles.now a.layouts.now a.working.now a.unclaimed.now) _ _ _ _
     (rw (c.before.before.before.before.before.before.before.before.before.before.before.before.before.claims-of.ensures, c.before.before.before.before.filled.given.1) at c.before.before.before.before.before.before.before.before.before.before.sweep.ensures) (rw (c.before.before.container-of.ensures, c.before.before.before.before.before.before.before.before.before.before.before.before.before.claims-of.ensures, c.before.before.before.before.before.before.before.before.before.before.before.before.before.before.before.closed.ensures) at c.proceed.ensures)
 
 pub begin-spec : {M : Type 1} → statement M

@@ -1,5 +1,5 @@
 -- Generated skeleton (tools/proof/write-skeletons), answers by hand.
-use Rattle.placer.proofs.Replies.{turned_down, not-wrong, kept, cleared-laid, laid}
+use Rattle.placer.proofs.Replies.{turned_down, not_wrong, kept, cleared_laid, laid}
 use Rattle.run.proofs.Ways.{counted}
 use Rattle.placer.proofs.Calls.{reply_passed, at_hand}
 use Rattle.run.specs.Call.{lent}
@@ -52,7 +52,7 @@ enum-known-overflow c = search rules
 settle-requires : tie.Need-settle-requires
 settle-requires c κs =
     let a = c.before.before.before.before.before.before.before.before.before.before.before.before.before.before.before.before.before.before.args in
-    cleared-laid a.s a.reply a.surfaced.now (lent a.styles.now a.layouts.now a.working.now a.unclaimed.now) _
+    cleared_laid a.s a.reply a.surfaced.now (lent a.styles.now a.layouts.now a.working.now a.unclaimed.now) _
     (rw c.before.before.before.before.before.before.before.enum_told.given.1 at c.before.before.before.before.before.before.before.before.before.check-reply.ensures) (sym c.before.before.before.before.before.before.taken-by.ensures ∙ c.before.before.before.before.overflow.given.1)
 
 same_length : tie.Need-same-length
@@ -82,7 +82,7 @@ same-length-6 c = search rules
 returns-2 : tie.Need-returns-2
 returns-2 c =
     let a = c.before.before.before.before.before.before.before.before.before.before.before.before.before.before.before.args in
-    not-wrong a.s a.reply a.surfaced.now (lent a.styles.now a.layouts.now a.working.now a.unclaimed.now)
+    not_wrong a.s a.reply a.surfaced.now (lent a.styles.now a.layouts.now a.working.now a.unclaimed.now)
     (rw c.before.before.before.before.enum_told.given.1 at c.before.before.before.before.before.before.check-reply.ensures) (sym c.before.before.before.taken-by.ensures ∙ c.before.enum-told2.given.1)
 
 same-length-7 : tie.Need-same-length-7

@@ -2,7 +2,7 @@
 use borrow.Author.Rules.{rules}
 use mathlib.Core.Path.{refl, ◌∙◌}
 use Rattle.pixels.proofs.Held.{back}
-use Rattle.reach.proofs.Held.{rest-fits, right-fits}
+use Rattle.reach.proofs.Held.{rest_fits, right_fits}
 use Rattle.reach.proofs.from_start.Statement.{statement}
 use Rattle.reach.proofs.from_start.Tie as tie
 use Rattle.reach.proofs.from_start.Reads as reads
@@ -19,14 +19,14 @@ sub-result c =
     let b = c.before.before in
     let x = b.args in
     let p = b.requires in
-    rw (back _ b.ranges.area, back _ b.ranges.left) (rest-fits x.area x.left x.size p.0 p.1 p.2)
+    rw (back _ b.ranges.area, back _ b.ranges.left) (rest_fits x.area x.left x.size p.0 p.1 p.2)
 
 sub-result-2 : tie.Need-overflow-sub-result-2
 sub-result-2 c =
     let b = c.before.before in
     let x = b.args in
     let p = b.requires in
-    rw (back _ b.ranges.area, back _ b.ranges.left, back _ b.ranges.size, back _ (rest-fits x.area x.left x.size p.0 p.1 p.2)) (right-fits x.area x.left x.size p.0 p.1 p.2)
+    rw (back _ b.ranges.area, back _ b.ranges.left, back _ b.ranges.size, back _ (rest_fits x.area x.left x.size p.0 p.1 p.2)) (right_fits x.area x.left x.size p.0 p.1 p.2)
 
 returns : tie.Need-returns
 returns c = rw (back _ c.before.before.ranges.left, c.enum_told.given.1) refl
@@ -36,7 +36,7 @@ returns-2 c =
     let b = c.before.before in
     let x = b.args in
     let p = b.requires in
-    rw (back _ b.ranges.area, back _ b.ranges.left, back _ b.ranges.size, back _ (rest-fits x.area x.left x.size p.0 p.1 p.2), back _ (right-fits x.area x.left x.size p.0 p.1 p.2), c.enum-told2.given.1) refl
+    rw (back _ b.ranges.area, back _ b.ranges.left, back _ b.ranges.size, back _ (rest_fits x.area x.left x.size p.0 p.1 p.2), back _ (right_fits x.area x.left x.size p.0 p.1 p.2), c.enum-told2.given.1) refl
 
 pub from-start-spec : {M : Type 1} → statement M
 from-start-spec =

@@ -3,7 +3,7 @@ use borrow.Author.Rules.{rules}
 use mathlib.Core.Path.{refl, sym, ◌∙◌}
 use Rattle.pixels.proofs.Held.{back, held_eighths}
 use Rattle.reach.specs.Reach.{last_offset}
-use Rattle.reach.proofs.Held.{apart_fits, apart-smaller}
+use Rattle.reach.proofs.Held.{apart_fits, apart_smaller}
 use Rattle.reach.proofs.last_offset.Statement.{statement}
 use Rattle.reach.proofs.last_offset.Tie as tie
 use Rattle.reach.proofs.last_offset.Reads as reads
@@ -29,7 +29,7 @@ sub-or-zero c =
 or-zero-requires : tie.Need-or-zero-requires
 or-zero-requires c κs =
     let x = c.before.before.before.before.args in
-    rw (c.before.in-eighths.ensures, c.in-eighths2.ensures, held_eighths x.far, held_eighths x.area, back _ (apart_fits x.far x.area)) (apart-smaller x.far x.area)
+    rw (c.before.in-eighths.ensures, c.in-eighths2.ensures, held_eighths x.far, held_eighths x.area, back _ (apart_fits x.far x.area)) (apart_smaller x.far x.area)
 
 returns : tie.Need-returns
 unfolding last_offset

@@ -3,7 +3,7 @@ use mathlib.Core.Path.{refl, sym, ap, ◌∙◌}
 use Rattle.pixels.proofs.Held.{back}
 use Rattle.reach.specs.declared.Offset.TheVariants.{At}
 use Rattle.reach.proofs.Held.{at_most_zero, above_zero, end_fits, past_fits, first_fits, first_small}
-use Rattle.reach.proofs.Axis.{no_size, no-area, ends-before, too_far, at_first}
+use Rattle.reach.proofs.Axis.{no_size, no_area, ends_before, too_far, at_first}
 use Rattle.reach.proofs.least_offset.Statement.{statement}
 use Rattle.reach.proofs.least_offset.Tie as tie
 use Rattle.reach.proofs.least_offset.Reads as reads
@@ -22,7 +22,7 @@ returns-2 c =
     let b = c.before.before in
     let x = b.args in
     let p = b.requires in
-    sym (no-area x.area x.start x.size x.last (at_most_zero x.area (rw (back _ b.ranges.area) at c.if2.true)))
+    sym (no_area x.area x.start x.size x.last (at_most_zero x.area (rw (back _ b.ranges.area) at c.if2.true)))
 
 add-if3 : tie.Need-overflow-add-if3
 add-if3 c =
@@ -36,7 +36,7 @@ returns-3 c =
     let b = c.before.before.before in
     let x = b.args in
     let p = b.requires in
-    sym (ends-before x.area x.start x.size x.last (at_most_zero _ (rw (back _ b.ranges.start, back _ b.ranges.size, back _ (end_fits x.area x.start x.size p.0 p.1 p.2)) at c.if3.true)))
+    sym (ends_before x.area x.start x.size x.last (at_most_zero _ (rw (back _ b.ranges.start, back _ b.ranges.size, back _ (end_fits x.area x.start x.size p.0 p.1 p.2)) at c.if3.true)))
 
 sub-or-zero : tie.Need-overflow-sub-or-zero
 sub-or-zero c =

@@ -3,7 +3,7 @@ use borrow.Author.Rules.{rules}
 use mathlib.Core.Path.{refl, sym, ap, ◌∙◌}
 use Rattle.run.specs.Call.{lent}
 use Rattle.placer_check.specs.Verdict.{verdict_of}
-use Rattle.finished.proofs.There.{record-is-there, layout-is-there}
+use Rattle.finished.proofs.There.{record_is_there, layout_is_there}
 use Rattle.reach.specs.Reach.{answered_by, reached}
 use Rattle.reach.proofs.reach.Statement.{statement}
 use Rattle.reach.proofs.reach.Tie as tie
@@ -27,7 +27,7 @@ layout-at-requires c κs =
     let a = c.before.before.before.before.before.before.before.before.before.before.args in
     let l = lent a.styles.now a.layouts.now a.working.now a.unclaimed.now in
     let e = sym c.before.before.check-finished.ensures ∙ ap verdict_of c.enum_told.given.1 in
-    (record-is-there a.s l a.place e, layout-is-there a.s l a.place e)
+    (record_is_there a.s l a.place e, layout_is_there a.s l a.place e)
 
 reach-box-requires : tie.Need-reach-box-requires
 reach-box-requires c κs = search rules

@@ -6,7 +6,7 @@ use mathlib.Core.Path.{◌≡◌, refl, sym, ◌∙◌}
 use lib.ListN.{drop}
 use Rattle.screen_fields.specs.Format.{fields_of, COLUMNS}
 use Rattle.screen.specs.Screen.{good_fields}
-use Rattle.screen.proofs.Lines.{good_none, good-stops, good-goes-on}
+use Rattle.screen.proofs.Lines.{good_none, good_stops, good_goes_on}
 use Rattle.screen.proofs.good_fields.Statement.{statement}
 use Rattle.screen.proofs.good_fields.Tie as tie
 use Rattle.screen.proofs.good_fields.Reads as reads
@@ -51,14 +51,14 @@ loop-again c =
     let w = c.before.before.before.before.before.width_of_lem.ensures in
     let h = rw w at c.before.before.before.loop-test.true in
     let e = rw c.before.before.kind-of.ensures at c.before.is-good.ensures in
-    (search rules, c.before.before.before.before.loop.invariant.1 ∙ good-goes-on _ _ _ _ h (sym e ∙ c.if1.true))
+    (search rules, c.before.before.before.before.loop.invariant.1 ∙ good_goes_on _ _ _ _ h (sym e ∙ c.if1.true))
 
 returns : tie.Need-returns invariant-loop decreases-loop
 returns c =
     let w = c.before.before.before.before.before.width_of_lem.ensures in
     let h = rw w at c.before.before.before.loop-test.true in
     let e = rw c.before.before.kind-of.ensures at c.before.is-good.ensures in
-    sym (c.before.before.before.before.loop.invariant.1 ∙ good-stops _ _ _ _ h (sym e ∙ c.if1.false))
+    sym (c.before.before.before.before.loop.invariant.1 ∙ good_stops _ _ _ _ h (sym e ∙ c.if1.false))
 
 returns-2 : tie.Need-returns-2 invariant-loop decreases-loop
 returns-2 c = sym (c.before.loop.invariant.1 ∙ good_none _ _ _ _ (rw c.before.before.width_of_lem.ensures at c.loop-test.false))

@@ -7,7 +7,7 @@ use mathlib.Core.Path.{◌≡◌, refl, sym, ◌∙◌}
 use lib.ListN.{length, drop}
 use Rattle.screen_fields.specs.Format.{bytes_of}
 use Rattle.screen.specs.Screen.{good_lines}
-use Rattle.screen.proofs.Lines.{one_less, lines_none, lines-stop, lines-go-on}
+use Rattle.screen.proofs.Lines.{one_less, lines_none, lines_stop, lines_go_on}
 use Rattle.screen.proofs.good_lines.Statement.{statement}
 use Rattle.screen.proofs.good_lines.Tie as tie
 use Rattle.screen.proofs.good_lines.Reads as reads
@@ -35,7 +35,7 @@ add-p : tie.Need-overflow-add-p invariant-loop decreases-loop
 add-p c = omega (arith, one_less c.before.before.before.loop.i c.before.before.before.before.before.before.args.n (bytes_of c.before.before.before.before.before.before.args.line) c.before.before.loop-test.true)
 
 returns : tie.Need-returns invariant-loop decreases-loop
-returns c = sym (c.before.before.before.loop.invariant.2 ∙ lines-stop c.before.before.before.before.before.before.args.line c.before.before.before.before.before.before.args.text.now c.before.before.before.loop.p c.before.before.before.loop.i c.before.before.before.before.before.before.args.n c.before.before.loop-test.true (sym c.before.good-line.ensures ∙ c.if1.false))
+returns c = sym (c.before.before.before.loop.invariant.2 ∙ lines_stop c.before.before.before.before.before.before.args.line c.before.before.before.before.before.before.args.text.now c.before.before.before.loop.p c.before.before.before.loop.i c.before.before.before.before.before.before.args.n c.before.before.loop-test.true (sym c.before.good-line.ensures ∙ c.if1.false))
 
 add-i : tie.Need-overflow-add-i invariant-loop decreases-loop
 add-i c = search rules
@@ -49,7 +49,7 @@ loop-again c =
     let inv = c.before.before.before.loop.invariant in
     let h = c.before.before.loop-test.true in
     let e = sym c.before.good-line.ensures ∙ c.if1.true in
-    (search rules, rw w (omega (arith, one_less c.before.before.before.loop.i c.before.before.before.before.before.before.args.n (bytes_of c.before.before.before.before.before.before.args.line) c.before.before.loop-test.true)), inv.2 ∙ rw w (lines-go-on c.before.before.before.before.before.before.args.line c.before.before.before.before.before.before.args.text.now c.before.before.before.loop.p c.before.before.before.loop.i c.before.before.before.before.before.before.args.n h e))
+    (search rules, rw w (omega (arith, one_less c.before.before.before.loop.i c.before.before.before.before.before.before.args.n (bytes_of c.before.before.before.before.before.before.args.line) c.before.before.loop-test.true)), inv.2 ∙ rw w (lines_go_on c.before.before.before.before.before.before.args.line c.before.before.before.before.before.before.args.text.now c.before.before.before.loop.p c.before.before.before.loop.i c.before.before.before.before.before.before.args.n h e))
 
 returns-2 : tie.Need-returns-2 invariant-loop decreases-loop
 returns-2 c = sym (c.before.loop.invariant.2 ∙ lines_none c.before.before.before.before.args.line c.before.before.before.before.args.text.now c.before.loop.p c.before.loop.i c.before.before.before.before.args.n c.loop-test.false)

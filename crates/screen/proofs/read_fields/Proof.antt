@@ -8,7 +8,7 @@ use lib.Seq.{sets}
 use Rattle.screen_fields.specs.Format.{fields_of, COLUMNS}
 use Rattle.screen_fields.specs.Place.{part}
 use Rattle.screen.specs.Screen.{words_of}
-use Rattle.screen.proofs.Lines.{width_small, words-none, words-stored}
+use Rattle.screen.proofs.Lines.{width_small, words_none, words_stored}
 use borrow.Author.Rules.{rules}
 use Rattle.screen.proofs.read_fields.Statement.{statement}
 use Rattle.screen.proofs.read_fields.Tie as tie
@@ -64,13 +64,13 @@ loop-again c =
     let inv = c.before.before.before.loop.invariant in
     let h = c.before.before.loop-test.true in
     let k = c.before.before.before.before.before.before.requires.1.0 in
-    (search rules, simp length-set inv.1, inv.2 ∙ rw (c.value-at.ensures, c.before.kind-of.ensures) (words-stored _ _ _ _ _ _ h k _ _))
+    (search rules, simp length-set inv.1, inv.2 ∙ rw (c.value-at.ensures, c.before.kind-of.ensures) (words_stored _ _ _ _ _ _ h k _ _))
 
 same_length : tie.Need-same-length invariant-loop decreases-loop
 same_length c = search rules
 
 returns : tie.Need-returns invariant-loop decreases-loop
-returns c = sym (c.before.loop.invariant.2 ∙ rw (words-none _ _ _ _ _ _ c.loop-test.false) refl)
+returns c = sym (c.before.loop.invariant.2 ∙ rw (words_none _ _ _ _ _ _ c.loop-test.false) refl)
 
 pub read-fields-spec : {M : Type 1} → statement M
 read-fields-spec =

@@ -9,7 +9,7 @@ use lib.Seq.{sets}
 use Rattle.screen_fields.specs.Format.{fields_of, COLUMNS, bytes_of}
 use Rattle.screen_fields.specs.Place.{part}
 use Rattle.screen.specs.Screen.{rows_of}
-use Rattle.screen.proofs.Lines.{width_small, bytes_are, one_less, part_length, rows_none, rows-stored}
+use Rattle.screen.proofs.Lines.{width_small, bytes_are, one_less, part_length, rows_none, rows_stored}
 use Rattle.screen.proofs.read_rows.Statement.{statement}
 use Rattle.screen.proofs.read_rows.Tie as tie
 use Rattle.screen.proofs.read_rows.Reads as reads
@@ -67,7 +67,7 @@ loop-again c =
       rw w (omega (arith, one_less c.before.before.before.before.before.loop.i c.before.before.before.before.before.before.before.before.before.args.rows (bytes_of c.before.before.before.before.before.before.before.before.before.args.line) c.before.before.before.before.loop-test.true)),
       omega (arith, one_less c.before.before.before.before.before.loop.i c.before.before.before.before.before.before.before.before.before.args.rows c.before.before.before.before.before.before.before.before.before.args.n c.before.before.before.before.loop-test.true),
       search rules,
-      inv.4 ∙ rw (w, e) (rows-stored _ _ _ _ _ _ _ h _ _ _ (part_length _ _ _ k)),
+      inv.4 ∙ rw (w, e) (rows_stored _ _ _ _ _ _ _ h _ _ _ (part_length _ _ _ k)),
     )
 
 same_length : tie.Need-same-length invariant-loop decreases-loop

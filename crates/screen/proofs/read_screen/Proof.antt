@@ -4,7 +4,7 @@ use native.Mathlib.Omega.{arith}
 use mathlib.Core.Path.{refl, sym, ◌∙◌}
 use Rattle.screen.specs.Screen.{written}
 use Rattle.screen_fields.proofs.Table.{first_width, item_width, candidate_width_lem, item_bytes, candidate_bytes}
-use Rattle.screen.proofs.Whole.{read_told, bad_told, header_read, styles-read, replies-read, candidates-read}
+use Rattle.screen.proofs.Whole.{read_told, bad_told, header_read, styles_read, replies_read, candidates_read}
 use borrow.Author.Rules.{rules}
 use Rattle.screen.proofs.read_screen.Statement.{statement}
 use Rattle.screen.proofs.read_screen.Tie as tie
@@ -56,9 +56,9 @@ returns-2 c =
     record {
       answer = e;
       header = header_read text _ _ _ _ t c.before.before.before.before.before.before.read-fields.ensures;
-      styles = styles-read text _ _ _ _ t c.before.before.before.before.read-rows.ensures;
-      replies = replies-read text _ _ _ _ t c.before.before.read-rows2.ensures;
-      candidates = candidates-read text _ _ _ _ t (rw add-zero at c.read-rows3.ensures);
+      styles = styles_read text _ _ _ _ t c.before.before.before.before.read-rows.ensures;
+      replies = replies_read text _ _ _ _ t c.before.before.read-rows2.ensures;
+      candidates = candidates_read text _ _ _ _ t (rw add-zero at c.read-rows3.ensures);
     }
 
 pub read-screen-spec : {M : Type 1} → statement M

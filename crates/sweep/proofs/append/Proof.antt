@@ -1,6 +1,6 @@
 -- Generated skeleton (tools/proof/write-skeletons), answers by hand.
 use borrow.Author.Rules.{rules}
-use Rattle.sweep.proofs.Steps.{from, from_start, from_end, count-step, append-step, appended_none}
+use Rattle.sweep.proofs.Steps.{from, from_start, from_end, count_step, append_step, appended_none}
 use Rattle.sweep.specs.Sweep.{moved, keep, appended}
 use Rattle.tree_record.specs.Candidate.{candidate_width}
 use lib.ListN.{length}
@@ -32,7 +32,7 @@ append-one-requires : tie.Need-append-one-requires invariant-loop decreases-loop
 append-one-requires c κs =
     let l = c.before.before.loop in
     let a = c.before.before.before.before.before.args in
-    let s = count-step a.claims a.claimed a.candidates.now _ l.i c.before.loop-test.true in
+    let s = count_step a.claims a.claimed a.candidates.now _ l.i c.before.loop-test.true in
     (search rules, omega arith)
 
 add-i : tie.Need-overflow-add-i invariant-loop decreases-loop
@@ -47,8 +47,8 @@ loop-again c =
     let l = d.before.loop in
     let a = d.before.before.before.before.args in
     let p = c.before.before.append-one.ensures in
-    let s = count-step a.claims a.claimed a.candidates.now _ l.i d.loop-test.true in
-    (search rules, search rules, omega (arith, p.0), l.invariant.3 ∙ append-step _ _ _ _ _ _ _ _ _ _ d.loop-test.true p.0 p.1)
+    let s = count_step a.claims a.claimed a.candidates.now _ l.i d.loop-test.true in
+    (search rules, search rules, omega (arith, p.0), l.invariant.3 ∙ append_step _ _ _ _ _ _ _ _ _ _ d.loop-test.true p.0 p.1)
 
 same_length : tie.Need-same-length invariant-loop decreases-loop
 same_length c = c.before.loop.invariant.1

@@ -1,5 +1,5 @@
 -- Generated skeleton (tools/proof/write-skeletons), answers by hand.
-use Rattle.sweep.proofs.Steps.{one_in, append-in, append-out}
+use Rattle.sweep.proofs.Steps.{one_in, append_in, append_out}
 use Rattle.tree_record.specs.Candidate.{candidate_width, candidate_of}
 use Rattle.records.specs.Records.{record_at}
 use mathlib.Core.Path.{sym, ◌∙◌}
@@ -40,14 +40,14 @@ returns c =
     let e = c.before.before.before.before.before.before.before.candidate-at.ensures in
     let a = c.before.before.before.before.before.before.before.before.before.before.args in
     let t = rw e at (sym c.before.before.before.before.before.before.goes.ensures ∙ c.before.before.before.before.before.if1.true) in
-    let p = append-in a.claims a.claimed (candidate_of (record_at candidate_width a.candidates.now a.i)) a.shift a.list.now a.held t in
+    let p = append_in a.claims a.claimed (candidate_of (record_at candidate_width a.candidates.now a.i)) a.shift a.list.now a.held t in
     (p.0, c.before.before.write-candidate.ensures ∙ rw (c.before.before.before.moved.ensures, e) p.1)
 
 returns-2 : tie.Need-returns-2
 returns-2 c =
     let a = c.before.before.before.before.before.args in
     let t = rw c.before.before.candidate-at.ensures at (sym c.before.goes.ensures ∙ c.if1.false) in
-    append-out a.claims a.claimed (candidate_of (record_at candidate_width a.candidates.now a.i)) a.shift a.list.now a.held t
+    append_out a.claims a.claimed (candidate_of (record_at candidate_width a.candidates.now a.i)) a.shift a.list.now a.held t
 
 pub append-one-spec : {M : Type 1} → statement M
 append-one-spec =

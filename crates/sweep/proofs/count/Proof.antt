@@ -1,6 +1,6 @@
 -- Generated skeleton (tools/proof/write-skeletons), answers by hand.
 use borrow.Author.Rules.{rules}
-use Rattle.sweep.proofs.Steps.{from, from_start, from_end, at_most_one, count-step}
+use Rattle.sweep.proofs.Steps.{from, from_start, from_end, at_most_one, count_step}
 use Rattle.sweep.specs.Sweep.{keep}
 use Rattle.tree_record.specs.Candidate.{candidate_width, candidate_of}
 use Rattle.records.specs.Records.{record_at}
@@ -45,7 +45,7 @@ loop-again c =
     let l = c.before.before.loop in
     let a = c.before.before.before.before.args in
     let x = candidate_of (record_at candidate_width a.candidates.now l.i) in
-    (search rules, omega (arith, at_most_one a.claims a.claimed x), omega (arith, count-step a.claims a.claimed a.candidates.now _ l.i c.before.loop-test.true))
+    (search rules, omega (arith, at_most_one a.claims a.claimed x), omega (arith, count_step a.claims a.claimed a.candidates.now _ l.i c.before.loop-test.true))
 
 returns : tie.Need-returns invariant-loop decreases-loop
 unfolding keep

@@ -1,6 +1,6 @@
 -- Generated skeleton (tools/proof/write-skeletons), answers by hand.
 use Rattle.sweep.specs.Sweep.{candidates_in}
-use Rattle.sweep.proofs.Steps.{no-room-in, no-room-out, room-both}
+use Rattle.sweep.proofs.Steps.{no_room_in, no_room_out, room_both}
 use Rattle.records.proofs.Laws.{room_words}
 use mathlib.Core.Path.{refl, sym, ◌∙◌}
 use native.Mathlib.Omega.{arith}
@@ -58,20 +58,20 @@ returns c =
     let o = c.before.before.before.before.before.before.before.before.before.before.before.before.before.before.count2.ensures in
     let d = rw (c.before.before.before.before.before.before.before.before.before.before.before.before.before.has_room.ensures, i) at c.before.before.before.before.before.before.before.before.before.before.before.before.if1.true in
     let e = rw (c.before.before.before.before.before.before.before.before.before.before.before.has-room2.ensures, o) at c.before.before.before.before.before.before.before.before.before.before.if2.true in
-    rw (room-both a.claims a.shift (candidates_in a.candidates.now) a.working.now a.unclaimed.now a.filled d e)
+    rw (room_both a.claims a.shift (candidates_in a.candidates.now) a.working.now a.unclaimed.now a.filled d e)
     (record { answer = rw (i, o) refl; working = c.before.before.before.before.before.before.append.ensures; unclaimed = c.before.before.append2.ensures })
 
 returns-2 : tie.Need-returns-2
 returns-2 c =
     let d = rw c.before.before.before.before.before.count.ensures at (sym c.before.before.before.has_room.ensures ∙ c.before.before.if1.true) in
     let e = rw c.before.before.before.before.count2.ensures at (sym c.before.has-room2.ensures ∙ c.if2.false) in
-    rw (no-room-out _ _ _ _ _ _ d e) (record { answer = refl; working = refl; unclaimed = refl })
+    rw (no_room_out _ _ _ _ _ _ d e) (record { answer = refl; working = refl; unclaimed = refl })
 
 returns-3 : tie.Need-returns-3
 returns-3 c =
     let a = c.before.before.before.before.before.before.before.args in
     let d = rw c.before.before.before.count.ensures at (sym c.before.has_room.ensures ∙ c.if1.false) in
-    rw (no-room-in _ _ _ _ a.unclaimed.now a.filled d) (record { answer = refl; working = refl; unclaimed = refl })
+    rw (no_room_in _ _ _ _ a.unclaimed.now a.filled d) (record { answer = refl; working = refl; unclaimed = refl })
 
 pub sweep-spec : {M : Type 1} → statement M
 sweep-spec =

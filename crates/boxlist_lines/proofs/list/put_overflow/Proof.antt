@@ -2,7 +2,7 @@
 use native.Mathlib.Omega.{arith}
 use mathlib.Core.Path.{refl, sym, ◌∙◌}
 use lib.ListN.{length-set}
-use Rattle.boxlist_lines.proofs.Lines.{overflow-stores}
+use Rattle.boxlist_lines.proofs.Lines.{overflow_stores}
 use borrow.Author.Rules.{rules}
 use Rattle.boxlist_lines.proofs.list.put_overflow.Statement.{statement}
 use Rattle.boxlist_lines.proofs.list.put_overflow.Tie as tie
@@ -37,7 +37,7 @@ same_length c = simp length-set (omega arith)
 
 returns : tie.Need-returns
 returns c =
-    sym (overflow-stores _ _ _ ∙ rw (← c.before.before.before.before.before.before.put-bytes.ensures, ← c.before.before.put-rect.ensures) refl)
+    sym (overflow_stores _ _ _ ∙ rw (← c.before.before.before.before.before.before.put-bytes.ensures, ← c.before.before.put-rect.ensures) refl)
 
 pub put-overflow-spec : {M : Type 1} → statement M
 put-overflow-spec =

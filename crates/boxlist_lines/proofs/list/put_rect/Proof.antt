@@ -1,6 +1,6 @@
 -- Generated skeleton (tools/proof/write-skeletons), answers by hand.
 use mathlib.Core.Path.{refl, sym, ◌∙◌}
-use Rattle.boxlist_lines.proofs.Lines.{then-sides}
+use Rattle.boxlist_lines.proofs.Lines.{then_sides}
 use borrow.Author.Rules.{rules}
 use Rattle.boxlist_lines.proofs.list.put_rect.Statement.{statement}
 use Rattle.boxlist_lines.proofs.list.put_rect.Tie as tie
@@ -40,7 +40,7 @@ same_length c = search rules
 
 returns : tie.Need-returns
 returns c =
-    sym (then-sides _ _ _ ∙ rw (← c.before.before.before.before.before.before.before.before.before.before.before.before.before.before.put-eighths.ensures, ← c.before.before.before.before.before.before.before.before.before.before.put-eighths2.ensures, ← c.before.before.before.before.before.before.put-eighths3.ensures, ← c.before.before.put-eighths4.ensures) refl)
+    sym (then_sides _ _ _ ∙ rw (← c.before.before.before.before.before.before.before.before.before.before.before.before.before.before.put-eighths.ensures, ← c.before.before.before.before.before.before.before.before.before.before.put-eighths2.ensures, ← c.before.before.before.before.before.before.put-eighths3.ensures, ← c.before.before.put-eighths4.ensures) refl)
 
 pub put-rect-spec : {M : Type 1} → statement M
 put-rect-spec =

@@ -2,7 +2,7 @@
 use native.Mathlib.Omega.{arith}
 use mathlib.Core.Path.{refl, sym, ◌∙◌}
 use lib.ListN.{length-set}
-use Rattle.boxlist_lines.proofs.Lines.{refusal-stores}
+use Rattle.boxlist_lines.proofs.Lines.{refusal_stores}
 use borrow.Author.Rules.{rules}
 use Rattle.boxlist_lines.proofs.list.put_refusal.Statement.{statement}
 use Rattle.boxlist_lines.proofs.list.put_refusal.Tie as tie
@@ -37,7 +37,7 @@ same_length c = simp length-set (omega arith)
 
 returns : tie.Need-returns
 returns c =
-    sym (refusal-stores _ _ _ ∙ rw (← c.before.before.before.before.before.before.put-bytes.ensures, ← c.before.before.put-code.ensures) refl)
+    sym (refusal_stores _ _ _ ∙ rw (← c.before.before.before.before.before.before.put-bytes.ensures, ← c.before.before.put-code.ensures) refl)
 
 pub put-refusal-spec : {M : Type 1} → statement M
 put-refusal-spec =

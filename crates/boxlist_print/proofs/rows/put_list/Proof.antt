@@ -1,6 +1,6 @@
 -- Generated skeleton (tools/proof/write-skeletons), answers by hand.
 use mathlib.Core.Path.{◌∙◌}
-use Rattle.boxlist_print.proofs.Boxes.{list-size, list-stored}
+use Rattle.boxlist_print.proofs.Boxes.{list_size, list_stored}
 use borrow.Author.Rules.{rules}
 use Rattle.boxlist_print.proofs.rows.put_list.Statement.{statement}
 use Rattle.boxlist_print.proofs.rows.put_list.Tie as tie
@@ -35,10 +35,10 @@ returns : tie.Need-returns
 returns c =
     let a = c.before.before.before.before.before.before.before.before.before.before.before.before.before.before.before.args in
     record {
-      size = list-size a.working.now a.n a.layouts.now a.overflow;
+      size = list_size a.working.now a.n a.layouts.now a.overflow;
       bytes =
           c.before.before.put-overflow.ensures
-          ∙ rw (c.before.before.before.before.before.before.put-rows.ensures, c.before.before.before.before.before.before.before.before.before.before.put-header.ensures) (list-stored a.working.now a.n a.layouts.now a.overflow a.out.now);
+          ∙ rw (c.before.before.before.before.before.before.put-rows.ensures, c.before.before.before.before.before.before.before.before.before.before.put-header.ensures) (list_stored a.working.now a.n a.layouts.now a.overflow a.out.now);
     }
 
 pub put-list-spec : {M : Type 1} → statement M

@@ -8,7 +8,7 @@ use lib.Seq.{sets, length-sets}
 use Rattle.boxlist_lines.specs.Lines.{ROW, rows_text}
 use Rattle.tree_record.specs.Candidate.{candidate_width}
 use Rattle.boxlist_print.specs.Rows.{rows_at}
-use Rattle.boxlist_print.proofs.Boxes.{rows_none, rows-stored}
+use Rattle.boxlist_print.proofs.Boxes.{rows_none, rows_stored}
 use Rattle.boxlist_print.proofs.rows.put_rows.Statement.{statement}
 use Rattle.boxlist_print.proofs.rows.put_rows.Tie as tie
 use Rattle.boxlist_print.proofs.rows.put_rows.Reads as reads
@@ -51,7 +51,7 @@ loop-again c =
     let inv = l.invariant in
     let h = c.before.before.before.before.loop-test.true in
     let e = c.before.before.put-box.ensures in
-    (search rules, search rules, search rules, rw (e, length-sets) inv.3, inv.4 ∙ rw e (rows-stored a.working.now a.layouts.now l.word l.i a.n h l.out l.p))
+    (search rules, search rules, search rules, rw (e, length-sets) inv.3, inv.4 ∙ rw e (rows_stored a.working.now a.layouts.now l.word l.i a.n h l.out l.p))
 
 same_length : tie.Need-same-length invariant-loop decreases-loop
 same_length c = search rules

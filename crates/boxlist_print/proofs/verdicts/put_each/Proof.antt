@@ -8,7 +8,7 @@ use lib.Seq.{sets, length-sets}
 use Rattle.run.specs.Call.{lent}
 use Rattle.boxreach_lines.specs.Lines.{VERDICT_ROW}
 use Rattle.boxlist_print.specs.Verdicts.{verdicts_from}
-use Rattle.boxlist_print.proofs.Each.{none_left, row-stored}
+use Rattle.boxlist_print.proofs.Each.{none_left, row_stored}
 use Rattle.boxlist_print.proofs.verdicts.put_each.Statement.{statement}
 use Rattle.boxlist_print.proofs.verdicts.put_each.Tie as tie
 use Rattle.boxlist_print.proofs.verdicts.put_each.Reads as reads
@@ -47,7 +47,7 @@ loop-again c =
     let inv = l.invariant in
     let h = c.before.before.before.before.loop-test.true in
     let e = c.before.before.put-verdict.ensures in
-    (search rules, search rules, rw (e, length-sets) inv.2, inv.3 ∙ rw e (row-stored a.s (lent a.styles.now a.layouts.now a.working.now a.unclaimed.now) l.i a.n h l.out l.p))
+    (search rules, search rules, rw (e, length-sets) inv.2, inv.3 ∙ rw e (row_stored a.s (lent a.styles.now a.layouts.now a.working.now a.unclaimed.now) l.i a.n h l.out l.p))
 
 same_length : tie.Need-same-length invariant-loop decreases-loop
 same_length c = search rules

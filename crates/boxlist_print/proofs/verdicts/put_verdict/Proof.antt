@@ -2,7 +2,7 @@
 use borrow.Author.Rules.{rules}
 use mathlib.Core.Path.{refl, ◌∙◌}
 use Rattle.run.specs.Call.{lent}
-use Rattle.boxlist_print.proofs.Each.{verdict-row}
+use Rattle.boxlist_print.proofs.Each.{verdict_row_lem}
 use Rattle.boxlist_print.proofs.verdicts.put_verdict.Statement.{statement}
 use Rattle.boxlist_print.proofs.verdicts.put_verdict.Tie as tie
 use Rattle.boxlist_print.proofs.verdicts.put_verdict.Reads as reads
@@ -34,7 +34,7 @@ returns : tie.Need-returns
 returns c =
     let a = c.before.before.before.before.before.before.before.before.before.before.before.before.args in
     c.before.before.put-row.ensures
-    ∙ rw (c.before.before.before.number.ensures, verdict-row a.s (lent a.styles.now a.layouts.now a.working.now a.unclaimed.now) a.place _ _ c.before.before.before.before.before.before.word_at.ensures c.before.before.before.before.before.reach.ensures) refl
+    ∙ rw (c.before.before.before.number.ensures, verdict_row_lem a.s (lent a.styles.now a.layouts.now a.working.now a.unclaimed.now) a.place _ _ c.before.before.before.before.before.before.word_at.ensures c.before.before.before.before.before.reach.ensures) refl
 
 pub put-verdict-spec : {M : Type 1} → statement M
 put-verdict-spec =

@@ -2,7 +2,7 @@
 use borrow.Author.Rules.{rules}
 use mathlib.Core.Path.{sym, ◌∙◌}
 use Rattle.run.specs.Call.{lent}
-use Rattle.boxlist_print.proofs.Each.{verdicts-bytes, verdicts-stored}
+use Rattle.boxlist_print.proofs.Each.{verdicts_bytes, verdicts_stored}
 use Rattle.boxlist_print.proofs.verdicts.put_verdicts.Statement.{statement}
 use Rattle.boxlist_print.proofs.verdicts.put_verdicts.Tie as tie
 use Rattle.boxlist_print.proofs.verdicts.put_verdicts.Reads as reads
@@ -30,8 +30,8 @@ returns c =
     let a = c.before.before.before.before.before.before.before.before.before.before.before.before.before.args in
     let l = lent a.styles.now a.layouts.now a.working.now a.unclaimed.now in
     record {
-      size = sym (verdicts-bytes a.s l);
-      bytes = c.before.before.put-each.ensures ∙ rw c.before.before.before.before.before.before.put-names.ensures (verdicts-stored a.s l a.out.now);
+      size = sym (verdicts_bytes a.s l);
+      bytes = c.before.before.put-each.ensures ∙ rw c.before.before.before.before.before.before.put-names.ensures (verdicts_stored a.s l a.out.now);
     }
 
 pub put-verdicts-spec : {M : Type 1} → statement M

@@ -1,7 +1,7 @@
 -- Generated skeleton (tools/proof/write-skeletons), answers by hand.
 use native.Mathlib.Omega.{arith}
 use Rattle.placer.proofs.Calls.{few_answered}
-use Rattle.placer.proofs.Replies.{no_room, next-box, placed}
+use Rattle.placer.proofs.Replies.{no_room, next_box, placed}
 use Rattle.placer.proofs.Calls.{reply_passed, at_hand, layout_room}
 use Rattle.oof_box.specs.declared.question.Reply.TheVariants.{LaidOut}
 use Rattle.run.specs.Run.{box_at_hand}
@@ -74,7 +74,7 @@ proceed-requires c κs =
     λ more.
     let a = c.before.before.before.before.before.before.before.before.before.before.before.before.before.before.before.before.before.before.before.before.before.before.before.before.before.before.before.before.before.before.before.before.before.before.before.before.before.args in
     let l = lent a.styles.now a.layouts.now a.working.now a.unclaimed.now in
-    next-box a.s a.overflow a.surfaced.now l _ _ _ (reply_passed a.s (LaidOut a.overflow) a.surfaced.now l c.before.before.before.before.before.before.before.before.before.before.before.before.before.before.before.before.before.before.before.before.before.before.before.before.before.before.before.before.before.before.before.before.before.before.before.before.before.requires)
+    next_box a.s a.overflow a.surfaced.now l _ _ _ (reply_passed a.s (LaidOut a.overflow) a.surfaced.now l c.before.before.before.before.before.before.before.before.before.before.before.before.before.before.before.before.before.before.before.before.before.before.before.before.before.before.before.before.before.before.before.before.before.before.before.before.before.requires)
     (rw (c.before.before.before.before.before.before.before.before.before.before.before.before.before.before.before.before.before.before.before.before.before.layout-oof-box.ensures, c.before.before.before.before.before.before.before.before.before.before.before.before.before.before.before.before.before.before.before.before.before.before.style-of.ensures, c.before.before.before.before.before.before.before.before.before.before.before.before.before.before.before.before.before.before.before.before.before.before.before.box-at-hand.ensures, c.before.before.before.before.before.before.before.before.before.filled.given.1) at c.before.before.before.before.before.before.before.before.before.before.before.before.before.before.before.sweep.ensures) more
 
 same_length : tie.Need-same-length

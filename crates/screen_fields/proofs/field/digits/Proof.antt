@@ -6,7 +6,7 @@ use Prim.Native.Nat.{◌≤◌, ◌<◌, ◌-◌, ◌^◌}
 use mathlib.Core.Path.{◌≡◌, refl, sym, ◌∙◌}
 use Rattle.screen_fields.specs.Field.{spelled}
 use Rattle.screen_fields.specs.Place.{part}
-use Rattle.screen_fields.proofs.Text.{digit-more, digit-none, unsigned-some, spelled_done, digit_low, digit_high, ten_digits, longer}
+use Rattle.screen_fields.proofs.Text.{digit_more, digit_none, unsigned_some, spelled_done, digit_low, digit_high, ten_digits, longer}
 use Rattle.screen_fields.proofs.field.digits.Statement.{statement}
 use Rattle.screen_fields.proofs.field.digits.Tie as tie
 use Rattle.screen_fields.proofs.field.digits.Reads as reads
@@ -47,7 +47,7 @@ returns-2 c =
     let h : _ ≤ _ = c.before.before.before.before.before.before.before.requires.1.1 in
     let l : _ < _ = c.before.before.before.loop-test.true in
     let inv = c.before.before.before.before.loop.invariant in
-    sym (unsigned-some _ _ _ (omega arith) h _ ∙ inv.3 ∙ digit-none _ _ _ l h _ _ (sym c.before.is_digit.ensures ∙ c.if2.false))
+    sym (unsigned_some _ _ _ (omega arith) h _ ∙ inv.3 ∙ digit_none _ _ _ l h _ _ (sym c.before.is_digit.ensures ∙ c.if2.false))
 
 add-i : tie.Need-overflow-add-i invariant-loop decreases-loop
 add-i c = search rules
@@ -61,12 +61,12 @@ loop-again c =
     let l : _ < _ = c.before.before.before.before.loop-test.true in
     let inv = c.before.before.before.before.before.loop.invariant in
     let d = sym c.before.before.is_digit.ensures ∙ c.before.if2.true in
-    (search rules, search rules, rw c.digit_value.ensures (longer _ _ _ _ inv.0 inv.2 (digit_high _ d)), rw c.digit_value.ensures (inv.3 ∙ digit-more _ _ _ l h _ _ d))
+    (search rules, search rules, rw c.digit_value.ensures (longer _ _ _ _ inv.0 inv.2 (digit_high _ d)), rw c.digit_value.ensures (inv.3 ∙ digit_more _ _ _ l h _ _ d))
 
 returns-3 : tie.Need-returns-3 invariant-loop decreases-loop
 returns-3 c =
     let h : _ ≤ _ = c.before.before.before.before.requires.1.1 in
-    sym (unsigned-some _ _ _ (omega arith) h _ ∙ c.before.loop.invariant.3 ∙ spelled_done _ _ _ _ _ c.loop-test.false)
+    sym (unsigned_some _ _ _ (omega arith) h _ ∙ c.before.loop.invariant.3 ∙ spelled_done _ _ _ _ _ c.loop-test.false)
 
 pub digits-spec : {M : Type 1} → statement M
 digits-spec =

@@ -4,7 +4,7 @@ use Prim.Native.Nat.{◌≤◌, ◌-◌}
 use mathlib.Core.Path.{◌≡◌, refl, ◌∙◌}
 use Rattle.screen_fields.specs.Field.{unblank}
 use Rattle.screen_fields.specs.Place.{part}
-use Rattle.screen_fields.proofs.Text.{blank-more, blank-ends, blank_none}
+use Rattle.screen_fields.proofs.Text.{blank_more, blank_ends, blank_none}
 use Rattle.screen_fields.proofs.field.skip_blanks.Statement.{statement}
 use Rattle.screen_fields.proofs.field.skip_blanks.Tie as tie
 use Rattle.screen_fields.proofs.field.skip_blanks.Reads as reads
@@ -25,7 +25,7 @@ shared-slice-read-if1 c = search rules
 returns : tie.Need-returns invariant-loop decreases-loop
 returns c =
     let h : _ ≤ _ = c.before.before.before.before.requires.1 in
-    record { low = search rules; high = search rules; rest = c.before.before.before.loop.invariant.2 ∙ blank-ends _ _ _ c.before.before.loop-test.true h c.if1.true }
+    record { low = search rules; high = search rules; rest = c.before.before.before.loop.invariant.2 ∙ blank_ends _ _ _ c.before.before.loop-test.true h c.if1.true }
 
 add-i : tie.Need-overflow-add-i invariant-loop decreases-loop
 add-i c = search rules
@@ -36,7 +36,7 @@ loop-less c = search rules
 loop-again : tie.Need-loop-preserved invariant-loop decreases-loop
 loop-again c =
     let h : _ ≤ _ = c.before.before.before.before.requires.1 in
-    (search rules, search rules, c.before.before.before.loop.invariant.2 ∙ blank-more _ _ _ c.before.before.loop-test.true h c.if1.false)
+    (search rules, search rules, c.before.before.before.loop.invariant.2 ∙ blank_more _ _ _ c.before.before.loop-test.true h c.if1.false)
 
 returns-2 : tie.Need-returns-2 invariant-loop decreases-loop
 returns-2 c = record { low = search rules; high = search rules; rest = c.before.loop.invariant.2 ∙ blank_none _ _ _ c.loop-test.false }

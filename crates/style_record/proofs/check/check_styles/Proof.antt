@@ -1,5 +1,5 @@
 -- Generated skeleton (tools/proof/write-skeletons), answers by hand.
-use Rattle.style_record.proofs.Walk.{From, all_words, words-end, word_on, word-stop, Tags, next_tags, tag-on, tag-stop, insets_and_margins, padding_and_borders, sizes, was_true, was_false, item-bad, item-good, items_done}
+use Rattle.style_record.proofs.Walk.{From, all_words, words_end, word_on, word_stop, Tags, next_tags, tag_on, tag_stop, insets_and_margins, padding_and_borders, sizes, was_true, was_false, item_bad, item_good, items_done}
 use Rattle.style_record.specs.Check.{checked, checked_from}
 use Rattle.style_record.specs.Record.{after_lengths, style_words, tag_word, items}
 use native.Mathlib.Nat.{sub-zero}
@@ -67,7 +67,7 @@ loop-less : tie.Need-loop-smaller Insets μ Paddings μ Sizes μ Codes μ Items 
 loop-less c = search rules
 
 loop-again : tie.Need-loop-preserved Insets μ Paddings μ Sizes μ Codes μ Items decreases-items
-loop-again c = tag-on field.InsetOrMargin _ _ insets_and_margins _ _ _ c.before.before.before.before.loop.invariant c.before.before.before.loop-test.true (sym c.before.takes.ensures ∙ was_true _ c.if1.false)
+loop-again c = tag_on field.InsetOrMargin _ _ insets_and_margins _ _ _ c.before.before.before.before.loop.invariant c.before.before.before.loop-test.true (sym c.before.takes.ensures ∙ was_true _ c.if1.false)
 
 loop2-holds : tie.Need-loop2-init Insets μ Paddings μ Sizes μ Codes μ Items decreases-items
 loop2-holds c = next_tags _ _ _ _ _ _ (omega arith) c.before.loop.invariant c.loop-test.false
@@ -91,7 +91,7 @@ loop2-less : tie.Need-loop2-smaller Insets μ Paddings μ Sizes μ Codes μ Item
 loop2-less c = search rules
 
 loop2-again : tie.Need-loop2-preserved Insets μ Paddings μ Sizes μ Codes μ Items decreases-items
-loop2-again c = tag-on field.PaddingOrBorder _ _ padding_and_borders _ _ _ c.before.before.before.before.loop2.invariant c.before.before.before.loop2-test.true (sym c.before.takes2.ensures ∙ was_true _ c.if2.false)
+loop2-again c = tag_on field.PaddingOrBorder _ _ padding_and_borders _ _ _ c.before.before.before.before.loop2.invariant c.before.before.before.loop2-test.true (sym c.before.takes2.ensures ∙ was_true _ c.if2.false)
 
 loop3-holds : tie.Need-loop3-init Insets μ Paddings μ Sizes μ Codes μ Items decreases-items
 loop3-holds c = next_tags _ _ _ _ _ _ (omega arith) c.before.loop2.invariant c.loop2-test.false
@@ -115,7 +115,7 @@ loop3-less : tie.Need-loop3-smaller Insets μ Paddings μ Sizes μ Codes μ Item
 loop3-less c = search rules
 
 loop3-again : tie.Need-loop3-preserved Insets μ Paddings μ Sizes μ Codes μ Items decreases-items
-loop3-again c = tag-on field.Size _ _ sizes _ _ _ c.before.before.before.before.loop3.invariant c.before.before.before.loop3-test.true (sym c.before.takes3.ensures ∙ was_true _ c.if3.false)
+loop3-again c = tag_on field.Size _ _ sizes _ _ _ c.before.before.before.before.loop3.invariant c.before.before.before.loop3-test.true (sym c.before.takes3.ensures ∙ was_true _ c.if3.false)
 
 loop4-holds : tie.Need-loop4-init Insets μ Paddings μ Sizes μ Codes μ Items decreases-items
 loop4-holds c = (search rules, search rules, c.before.loop3.invariant.3)
@@ -139,7 +139,7 @@ items-less : tie.Need-items-smaller Insets μ Paddings μ Sizes μ Codes μ Item
 items-less c = search rules
 
 items-again : tie.Need-items-preserved Insets μ Paddings μ Sizes μ Codes μ Items decreases-items
-items-again c = (search rules, c.before.before.before.before.before.before.before.before.before.items.invariant.1 ∙ item-good _ _ _ c.before.before.before.before.before.before.before.before.items-test.true (words-end _ _ _ c.before.loop4.invariant.2 (search rules)))
+items-again c = (search rules, c.before.before.before.before.before.before.before.before.before.items.invariant.1 ∙ item_good _ _ _ c.before.before.before.before.before.before.before.before.items-test.true (words_end _ _ _ c.before.loop4.invariant.2 (search rules)))
 
 -- left at an item's tag or code: its own test is not the way here
 returns : tie.Need-returns Insets μ Paddings μ Sizes μ Codes μ Items decreases-items
@@ -147,12 +147,12 @@ unfolding checked items
 returns c =
     ⊎_elim (λ w. absurd (omega (arith, w.0.left, c.if5.true)))
     (⊎_elim
-    (λ w. rw w.6 (sym (c.before.before.items.invariant.1 ∙ item-bad _ _ _ w.0.taken (tag-stop field.InsetOrMargin _ _ insets_and_margins _ _ _ w.1.inv w.2.taken (sym w.4.ensures ∙ was_false _ w.5.taken)))))
+    (λ w. rw w.6 (sym (c.before.before.items.invariant.1 ∙ item_bad _ _ _ w.0.taken (tag_stop field.InsetOrMargin _ _ insets_and_margins _ _ _ w.1.inv w.2.taken (sym w.4.ensures ∙ was_false _ w.5.taken)))))
     (⊎_elim
-    (λ w. rw w.8 (sym (c.before.before.items.invariant.1 ∙ item-bad _ _ _ w.0.taken (tag-stop field.PaddingOrBorder _ _ padding_and_borders _ _ _ w.3.inv w.4.taken (sym w.6.ensures ∙ was_false _ w.7.taken)))))
+    (λ w. rw w.8 (sym (c.before.before.items.invariant.1 ∙ item_bad _ _ _ w.0.taken (tag_stop field.PaddingOrBorder _ _ padding_and_borders _ _ _ w.3.inv w.4.taken (sym w.6.ensures ∙ was_false _ w.7.taken)))))
     (⊎_elim
-    (λ w. rw w.10 (sym (c.before.before.items.invariant.1 ∙ item-bad _ _ _ w.0.taken (tag-stop field.Size _ _ sizes _ _ _ w.5.inv w.6.taken (sym w.8.ensures ∙ was_false _ w.9.taken)))))
-    (λ w. rw w.11 (sym (c.before.before.items.invariant.1 ∙ item-bad _ _ _ w.0.taken (word-stop _ _ _ w.7.inv.2 w.8.taken (sym w.9.ensures ∙ w.10.taken))))))))
+    (λ w. rw w.10 (sym (c.before.before.items.invariant.1 ∙ item_bad _ _ _ w.0.taken (tag_stop field.Size _ _ sizes _ _ _ w.5.inv w.6.taken (sym w.8.ensures ∙ was_false _ w.9.taken)))))
+    (λ w. rw w.11 (sym (c.before.before.items.invariant.1 ∙ item_bad _ _ _ w.0.taken (word_stop _ _ _ w.7.inv.2 w.8.taken (sym w.9.ensures ∙ w.10.taken))))))))
     c.before.items-test.branch
 
 returns-2 : tie.Need-returns-2 Insets μ Paddings μ Sizes μ Codes μ Items decreases-items

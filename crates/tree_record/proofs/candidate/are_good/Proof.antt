@@ -1,7 +1,7 @@
 -- Generated skeleton (tools/proof/write-skeletons), answers by hand.
 use borrow.Author.Rules.{rules}
 use Rattle.tree_record.specs.Candidate.{candidate_width, candidate_kinds}
-use Rattle.records.proofs.Laws.{too_few, one-bad, all-good, one_more}
+use Rattle.records.proofs.Laws.{too_few, one_bad, all_good, one_more}
 use Rattle.records.specs.Records.{every, good}
 use mathlib.Core.Path.{◌≡◌, refl, sym, ◌∙◌}
 use mathlib.Core.Bool.{true}
@@ -44,14 +44,14 @@ loop-again c =
     (search rules, one_more _ _ _ v.1 (sym c.before.is-good.ensures ∙ c.if2.true))
 
 returns-2 : tie.Need-returns-2 invariant-loop decreases-loop
-returns-2 c = sym (one-bad _ _ _ _ c.before.before.loop-test.true (sym c.before.is-good.ensures ∙ c.if2.false))
+returns-2 c = sym (one_bad _ _ _ _ c.before.before.loop-test.true (sym c.before.is-good.ensures ∙ c.if2.false))
 
 returns-3 : tie.Need-returns-3 invariant-loop decreases-loop
 returns-3 c =
     let l = c.before.loop in
     let a = c.before.before.before.before.args in
     let e : l.i ≡ a.count = omega arith in
-    sym (all-good _ _ _ c.before.before.if1.false (rw e at l.invariant.1))
+    sym (all_good _ _ _ c.before.before.if1.false (rw e at l.invariant.1))
 
 pub are-good-spec : {M : Type 1} → statement M
 are-good-spec =

@@ -1,6 +1,6 @@
 -- Generated skeleton (tools/proof/write-skeletons), answers by hand.
 use mathlib.Core.Path.{sym, ◌∙◌}
-use Rattle.tree_record.proofs.Good.{good-axis}
+use Rattle.tree_record.proofs.Good.{good_axis}
 use borrow.Author.Tests.{le-leb, le-ltb, lt-leb, lt-ltb}
 use borrow.Author.Rules.{rules}
 use Rattle.tree_record.proofs.candidate.is_axis_good.Statement.{statement}
@@ -18,7 +18,7 @@ shared-slice-read-if1 : tie.Need-shared-slice-read-if1
 shared-slice-read-if1 c = search rules
 
 returns : tie.Need-returns
-returns c = sym (good-axis _ _ ∙ simp (le-leb _ _ c.if1.true, le-ltb _ _ c.if1.true))
+returns c = sym (good_axis _ _ ∙ simp (le-leb _ _ c.if1.true, le-ltb _ _ c.if1.true))
 
 add-if2 : tie.Need-overflow-add-if2
 add-if2 c = search rules
@@ -30,7 +30,7 @@ shared-slice-read-if2 : tie.Need-shared-slice-read-if2
 shared-slice-read-if2 c = search rules
 
 returns-2 : tie.Need-returns-2
-returns-2 c = sym (good-axis _ _ ∙ simp (lt-ltb _ _ c.before.before.if1.false, lt-leb _ _ c.before.before.if1.false, le-leb _ _ c.if2.true, le-ltb _ _ c.if2.true))
+returns-2 c = sym (good_axis _ _ ∙ simp (lt-ltb _ _ c.before.before.if1.false, lt-leb _ _ c.before.before.if1.false, le-leb _ _ c.if2.true, le-ltb _ _ c.if2.true))
 
 add-if3 : tie.Need-overflow-add-if3
 add-if3 c = search rules
@@ -42,10 +42,10 @@ shared-slice-read-if3 : tie.Need-shared-slice-read-if3
 shared-slice-read-if3 c = search rules
 
 returns-3 : tie.Need-returns-3
-returns-3 c = sym (good-axis _ _ ∙ simp (lt-ltb _ _ c.before.before.before.before.if1.false, lt-leb _ _ c.before.before.before.before.if1.false, lt-ltb _ _ c.before.before.if2.false, lt-leb _ _ c.before.before.if2.false, le-leb _ _ c.if3.true, le-ltb _ _ c.if3.true))
+returns-3 c = sym (good_axis _ _ ∙ simp (lt-ltb _ _ c.before.before.before.before.if1.false, lt-leb _ _ c.before.before.before.before.if1.false, lt-ltb _ _ c.before.before.if2.false, lt-leb _ _ c.before.before.if2.false, le-leb _ _ c.if3.true, le-ltb _ _ c.if3.true))
 
 returns-4 : tie.Need-returns-4
-returns-4 c = sym (good-axis _ _ ∙ simp (lt-ltb _ _ c.before.before.before.before.if1.false, lt-leb _ _ c.before.before.before.before.if1.false, lt-ltb _ _ c.before.before.if2.false, lt-leb _ _ c.before.before.if2.false, lt-ltb _ _ c.if3.false, lt-leb _ _ c.if3.false))
+returns-4 c = sym (good_axis _ _ ∙ simp (lt-ltb _ _ c.before.before.before.before.if1.false, lt-leb _ _ c.before.before.before.before.if1.false, lt-ltb _ _ c.before.before.if2.false, lt-leb _ _ c.before.before.if2.false, lt-ltb _ _ c.if3.false, lt-leb _ _ c.if3.false))
 
 pub is-axis-good-spec : {M : Type 1} → statement M
 is-axis-good-spec =
