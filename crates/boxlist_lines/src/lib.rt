@@ -12,7 +12,7 @@ pub mod list;
 pub const COLUMN: usize = 8;
 
 // What is still to be written of a column, from its right end.
-#[derive(Drop)]
+#[derive(Clone, Copy)]
 pub enum Ink {
     Digits(bool, u64),
     Sign,

@@ -8,7 +8,7 @@ use crate::{COLUMN, put_code, put_eighths};
 use geometry::{Point, Rect, Size};
 
 // A box: node, place, size, margins.
-#[derive(Drop)]
+#[derive(Clone, Copy)]
 pub struct Row {
     pub node: u32,
     pub location: Point,

@@ -26,7 +26,7 @@ mod rows;
 mod verdicts;
 
 // What is listed of each box: its place, size and margins, or whether scrolling brings it up.
-#[derive(Drop)]
+#[derive(Clone, Copy)]
 pub enum Listing {
     Boxes,
     Verdicts,

@@ -1,41 +1,42 @@
 // geometry.rs: lines, points, sizes and rectangles, of floats and of floats that may be absent, by value.
+#![tactic(auto)]
 ghost use Rattle.std.specs.Prelude.{◌≡◌};
 ghost use Rattle.geometry.specs.Geometry.{moved_by, counted_from, line_x, line_y, maybe_line_x, maybe_line_y, rect_of, rect_or_zero, sum_x, sum_y, sums, rect_sum, union_of, smaller_size, both_present, first_size, filled_size, definite, added_size, raised_size, clamped_size, clamped_floats, with_ratio};
 
 use util::math::MaybeF32;
 use util::{math, sys};
 
-#[derive(Drop)]
+#[derive(Clone, Copy)]
 pub struct Line {
     pub start: f32,
     pub end: f32,
 }
 
-#[derive(Drop)]
+#[derive(Clone, Copy)]
 pub struct MaybeLine {
     pub start: MaybeF32,
     pub end: MaybeF32,
 }
 
-#[derive(Drop)]
+#[derive(Clone, Copy)]
 pub struct Point {
     pub x: f32,
     pub y: f32,
 }
 
-#[derive(Drop)]
+#[derive(Clone, Copy)]
 pub struct Size {
     pub width: f32,
     pub height: f32,
 }
 
-#[derive(Drop)]
+#[derive(Clone, Copy)]
 pub struct MaybeSize {
     pub width: MaybeF32,
     pub height: MaybeF32,
 }
 
-#[derive(Drop)]
+#[derive(Clone, Copy)]
 pub struct Rect {
     pub left: f32,
     pub right: f32,
@@ -43,7 +44,7 @@ pub struct Rect {
     pub bottom: f32,
 }
 
-#[derive(Drop)]
+#[derive(Clone, Copy)]
 pub struct MaybeRect {
     pub left: MaybeF32,
     pub right: MaybeF32,

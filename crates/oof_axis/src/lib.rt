@@ -15,7 +15,7 @@ use util::math::MaybeF32;
 use util::sys;
 
 // Self-alignment by the containing block's own start and end.
-#[derive(Drop)]
+#[derive(Clone, Copy)]
 pub enum OofAlignment {
     Normal,
     Stretch,
@@ -26,7 +26,7 @@ pub enum OofAlignment {
 
 // One axis, by value. Positions count from the area's left or top edge. `size`, `place`, `inline` and `scrolls` are the
 // Rust's cb_size, static_position, is_inline and is_scroll_axis; `reversed`: start is the right edge.
-#[derive(Drop)]
+#[derive(Clone, Copy)]
 pub struct OofAxis {
     pub size: f32,
     pub inset: MaybeLine,
@@ -40,7 +40,7 @@ pub struct OofAxis {
 }
 
 // What a final size leads to in one axis: where the border box begins, and the margins used.
-#[derive(Drop)]
+#[derive(Clone, Copy)]
 pub struct AxisPlacement {
     pub position: f32,
     pub margin: Line,

@@ -19,7 +19,7 @@ use tree::layout::OofCandidate;
 use util::math::MaybeF32;
 
 // The question for size keywords, if there is one.
-#[derive(Drop)]
+#[derive(Clone, Copy)]
 pub enum KeywordQuestion {
     None,
     Ask(Asked),

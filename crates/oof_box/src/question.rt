@@ -6,7 +6,7 @@ use geometry::{MaybeSize, Rect, Size};
 use style::available_space::AvailableSize;
 
 // What is to be measured: a node, its known sizes and its available space.
-#[derive(Drop)]
+#[derive(Clone, Copy)]
 pub struct MeasureInput {
     pub node: u32,
     pub known: MaybeSize,
@@ -14,14 +14,14 @@ pub struct MeasureInput {
 }
 
 // What is to be laid out: a node, its final size and its available space.
-#[derive(Drop)]
+#[derive(Clone, Copy)]
 pub struct LayoutInput {
     pub node: u32,
     pub size: Size,
     pub space: AvailableSize,
 }
 
-#[derive(Drop)]
+#[derive(Clone, Copy)]
 pub enum Question {
     MeasureBoth(MeasureInput),
     MeasureWidth(MeasureInput),
@@ -30,7 +30,7 @@ pub enum Question {
 }
 
 // What the host says: sizes, or the scrollable overflow of a box that it laid out.
-#[derive(Drop)]
+#[derive(Clone, Copy)]
 pub enum Reply {
     Both(Size),
     Width(f32),
@@ -40,7 +40,7 @@ pub enum Reply {
 
 // Which question of a box is open: one for its size keywords, that of step 6, or lay out. It tells the two questions that
 // measure both apart.
-#[derive(Drop)]
+#[derive(Clone, Copy)]
 pub enum Stage {
     KeywordBoth,
     KeywordWidth,
@@ -50,14 +50,14 @@ pub enum Stage {
 }
 
 // A question, and the stage at which it is asked.
-#[derive(Drop)]
+#[derive(Clone, Copy)]
 pub struct Asked {
     pub stage: Stage,
     pub question: Question,
 }
 
 // The reply to the question for size keywords, once given.
-#[derive(Drop)]
+#[derive(Clone, Copy)]
 pub enum KeywordReply {
     None,
     Both(Size),
@@ -66,21 +66,21 @@ pub enum KeywordReply {
 }
 
 // The reply to the question of step 6, once given.
-#[derive(Drop)]
+#[derive(Clone, Copy)]
 pub enum FillReply {
     None,
     Both(Size),
 }
 
 // The replies to a box's measure questions so far.
-#[derive(Drop)]
+#[derive(Clone, Copy)]
 pub struct Replies {
     pub keyword: KeywordReply,
     pub fill: FillReply,
 }
 
 // What a reply comes to: of another kind than the question; kept; or the box is laid out.
-#[derive(Drop)]
+#[derive(Clone, Copy)]
 pub enum Taken {
     Wrong,
     Kept(Replies),

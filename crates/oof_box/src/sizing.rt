@@ -16,7 +16,7 @@ use util::math::MaybeF32;
 use util::sys;
 
 // Known sizes and min after step 5.
-#[derive(Drop)]
+#[derive(Clone, Copy)]
 pub struct Stretched {
     pub known: MaybeSize,
     pub min: MaybeSize,

@@ -11,7 +11,7 @@ use util::math::MaybeF32;
 use util::sys;
 
 // What a side's size keyword comes to, if it has one.
-#[derive(Drop)]
+#[derive(Clone, Copy)]
 pub enum SizingKeywordResolution {
     NoKeyword,
     Exact(f32),
@@ -19,7 +19,7 @@ pub enum SizingKeywordResolution {
 }
 
 // Of a box's two sides.
-#[derive(Drop)]
+#[derive(Clone, Copy)]
 pub struct SizingKeywords {
     pub width: SizingKeywordResolution,
     pub height: SizingKeywordResolution,

@@ -9,7 +9,7 @@ use oof_resolve::{ContainingBlock, ResolvedBox};
 use style::{Overflow, Style};
 use tree::layout::{Layout, OofCandidate};
 
-#[derive(Drop)]
+#[derive(Clone, Copy)]
 pub struct OofBoxLayout {
     pub layout: Layout,
     pub contribution: Rect,

@@ -13,7 +13,7 @@ use tree::layout::{AxisStaticPosition, OofCandidate, OofPositioningArea};
 use util::sys;
 
 // What boxes are placed in: the area, and the containing block's direction and overflow.
-#[derive(Drop)]
+#[derive(Clone, Copy)]
 pub struct ContainingBlock {
     pub area: OofPositioningArea,
     pub direction: Direction,
@@ -22,7 +22,7 @@ pub struct ContainingBlock {
 
 // A box before the host is asked. `size`, `min` and `max` are border-box sizes, size clamped and min raised to padding plus border; `fit` is the Rust's
 // stretch_fit_size, `space` the available space.
-#[derive(Drop)]
+#[derive(Clone, Copy)]
 pub struct ResolvedBox {
     pub horizontal: OofAxis,
     pub vertical: OofAxis,

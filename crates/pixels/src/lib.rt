@@ -12,7 +12,7 @@ use util::eighths::Count;
 pub mod lent;
 
 // The pixel edges of a box along one axis.
-#[derive(Drop)]
+#[derive(Clone, Copy)]
 pub struct PixelLine {
     pub start: i32,
     pub end: i32,
@@ -20,7 +20,7 @@ pub struct PixelLine {
 
 // The pixel edges of a box, counted from the area's left and top edge, each within 3,750,000 of it. The box covers the pixels from
 // `left` up to but not including `right`, and so from `top` to `bottom`: none where these are equal, or turned round by a negative size.
-#[derive(Drop)]
+#[derive(Clone, Copy)]
 pub struct PixelRect {
     pub left: i32,
     pub right: i32,
@@ -29,7 +29,7 @@ pub struct PixelRect {
 }
 
 // What `pixel_edges` answers: the edges, or refusal 9.
-#[derive(Drop)]
+#[derive(Clone, Copy)]
 pub enum Pixels {
     Edges(PixelRect),
     Refused(Refusal),

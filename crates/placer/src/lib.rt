@@ -208,7 +208,7 @@ pub fn reply(
 // ---- `compute_oof_layout`'s own part
 
 // `Option<OofPositioningArea>` of the Rust.
-#[derive(Drop)]
+#[derive(Clone, Copy)]
 pub enum MaybeArea {
     None,
     Some(OofPositioningArea),

@@ -7,7 +7,7 @@ pub mod opening;
 pub mod reply;
 
 // What the tests before that of room say of a call.
-#[derive(Drop)]
+#[derive(Clone, Copy)]
 pub enum Verdict {
     Accepted,
     Refused(Refusal),

@@ -16,14 +16,14 @@ use tree::layout::{Layout, OofPositioningArea};
 pub mod lent;
 
 // An offset on one axis, in eighths of a pixel away from the area's start edge; or none.
-#[derive(Drop)]
+#[derive(Clone, Copy)]
 pub enum Offset {
     Nowhere,
     At(u32),
 }
 
 // What is told of a box: the least offsets across and down at which box and area share a patch, or that there are none.
-#[derive(Drop)]
+#[derive(Clone, Copy)]
 pub enum Reached {
     Seen(u32, u32),
     Unseen,

@@ -9,7 +9,7 @@ use sweep::Filled;
 use tree::layout::OofPositioningArea;
 
 // What a run is opened with, beside the lent slices: the area, and the codes of direction, claims and overflow.
-#[derive(Drop)]
+#[derive(Clone, Copy)]
 pub struct Opening {
     pub area: OofPositioningArea,
     pub direction: u32,
@@ -19,14 +19,14 @@ pub struct Opening {
 }
 
 // Whether a question is open, and which one of its box.
-#[derive(Drop)]
+#[derive(Clone, Copy)]
 pub enum Progress {
     Finished,
     Asking(Stage),
 }
 
 // Filled records of the two lists, boxes begun, questions answered.
-#[derive(Drop)]
+#[derive(Clone, Copy)]
 pub struct Counts {
     pub filled: Filled,
     pub begun: usize,
@@ -34,7 +34,7 @@ pub struct Counts {
 }
 
 // The lengths of the slices lent at the opening, in words.
-#[derive(Drop)]
+#[derive(Clone, Copy)]
 pub struct Extents {
     pub styles: usize,
     pub layouts: usize,
@@ -43,7 +43,7 @@ pub struct Extents {
 }
 
 // What a run keeps from its opening.
-#[derive(Drop)]
+#[derive(Clone, Copy)]
 pub struct Opened {
     pub container: ContainingBlock,
     pub claims: ContainingBlockClaims,
@@ -51,7 +51,7 @@ pub struct Opened {
 }
 
 // All that is kept between calls. `replies` are those of the box at hand, `overflow` is the union so far.
-#[derive(Drop)]
+#[derive(Clone, Copy)]
 pub struct State {
     pub progress: Progress,
     pub replies: Replies,
@@ -61,13 +61,13 @@ pub struct State {
 }
 
 // The end of a run: its scrollable overflow, and the count of questions answered.
-#[derive(Drop)]
+#[derive(Clone, Copy)]
 pub struct Finish {
     pub overflow: Rect,
     pub count: usize,
 }
 
-#[derive(Drop)]
+#[derive(Clone, Copy)]
 pub enum Answer {
     Ask(Question),
     Finish(Finish),
@@ -75,7 +75,7 @@ pub enum Answer {
 }
 
 // What a call returns.
-#[derive(Drop)]
+#[derive(Clone, Copy)]
 pub struct Step {
     pub state: State,
     pub answer: Answer,

@@ -16,7 +16,7 @@ use style_record::words::STYLE_WORDS;
 use tree_record::candidate::CANDIDATE_WORDS;
 
 // A text is no screen (refusal 8, "bad screen line"), or one with so many items and candidates.
-#[derive(Drop)]
+#[derive(Clone, Copy)]
 pub enum Screen {
     BadLine,
     Read(usize, usize),

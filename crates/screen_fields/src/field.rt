@@ -9,14 +9,14 @@ use util::math::MaybeF32;
 use util::{bits, eighths};
 
 // What a field spells: a sign and a size, or nothing.
-#[derive(Drop)]
+#[derive(Clone, Copy)]
 pub enum Numeral {
     Malformed,
     Number(bool, u64),
 }
 
 // The word that a field stands for, or none.
-#[derive(Drop)]
+#[derive(Clone, Copy)]
 pub enum Word {
     Wrong,
     Of(u32),

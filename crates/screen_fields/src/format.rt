@@ -8,14 +8,14 @@ use style_record::words::STYLE_WORDS;
 use tree_record::candidate::{CANDIDATE_WORDS, LAYER};
 
 // A field's content: a code, or a float in eighths.
-#[derive(Drop)]
+#[derive(Clone, Copy)]
 pub enum Kind {
     Code,
     Eighths,
 }
 
 // The three kinds of line.
-#[derive(Drop)]
+#[derive(Clone, Copy)]
 pub enum Line {
     First,
     Item,

@@ -18,7 +18,7 @@ fn room() -> [u8; ROOM]
 }
 
 // What standard input gave: so many bytes, up to its end or as many as there is room for; or a read that failed.
-#[derive(Drop)]
+#[derive(Clone, Copy)]
 enum Input {
     Failed,
     Bytes(usize),
@@ -43,7 +43,7 @@ fn read_input(text: &mut [u8]) -> Input
 }
 
 // How a program ended. A read that failed is no screen, and nothing is printed.
-#[derive(Drop)]
+#[derive(Clone, Copy)]
 pub enum Ended {
     Printed,
     NotRead,

@@ -6,7 +6,7 @@ ghost use Rattle.style.specs.Values.{differs, keyword_relative, self_relative};
 use crate::Direction;
 
 // The position keyword, in the Rust's order: 0 to 9 in a record.
-#[derive(Drop)]
+#[derive(Clone, Copy)]
 pub enum AlignItemsKeyword {
     Normal,
     Start,
@@ -21,14 +21,14 @@ pub enum AlignItemsKeyword {
 }
 
 // The overflow position.
-#[derive(Drop)]
+#[derive(Clone, Copy)]
 pub enum AlignmentSafety {
     Default,
     Unsafe,
     Safe,
 }
 
-#[derive(Drop)]
+#[derive(Clone, Copy)]
 pub struct AlignItems {
     pub keyword: AlignItemsKeyword,
     pub safety: AlignmentSafety,

@@ -6,7 +6,7 @@ use geometry::{MaybeSize, Size};
 use util::math;
 use util::math::MaybeF32;
 
-#[derive(Drop)]
+#[derive(Clone, Copy)]
 pub enum AvailableSpace {
     Definite(f32),
     MinContent,
@@ -14,7 +14,7 @@ pub enum AvailableSpace {
 }
 
 // `Size<AvailableSpace>` of the Rust.
-#[derive(Drop)]
+#[derive(Clone, Copy)]
 pub struct AvailableSize {
     pub width: AvailableSpace,
     pub height: AvailableSpace,

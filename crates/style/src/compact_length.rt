@@ -1,6 +1,6 @@
 // style/compact_length.rs: a length, by its tag, its value and its second value, which sums alone read.
 
-#[derive(Drop)]
+#[derive(Clone, Copy)]
 pub struct CompactLength {
     pub tag: u32,
     pub value: f32,
@@ -8,7 +8,7 @@ pub struct CompactLength {
 }
 
 // `Rect<CompactLength>` of the Rust.
-#[derive(Drop)]
+#[derive(Clone, Copy)]
 pub struct LengthRect {
     pub left: CompactLength,
     pub right: CompactLength,
@@ -17,7 +17,7 @@ pub struct LengthRect {
 }
 
 // `Size<CompactLength>` of the Rust.
-#[derive(Drop)]
+#[derive(Clone, Copy)]
 pub struct LengthSize {
     pub width: CompactLength,
     pub height: CompactLength,

@@ -13,7 +13,7 @@ pub mod bits;
 pub mod compact_length;
 pub mod resolve;
 
-#[derive(Drop)]
+#[derive(Clone, Copy)]
 pub enum Position {
     Static,
     Relative,
@@ -23,7 +23,7 @@ pub enum Position {
 }
 
 // Which out-of-flow positions a box is the containing block of.
-#[derive(Drop)]
+#[derive(Clone, Copy)]
 pub struct ContainingBlockClaims {
     pub absolute: bool,
     pub fixed: bool,
@@ -44,7 +44,7 @@ impl ContainingBlockClaims {
     }
 }
 
-#[derive(Drop)]
+#[derive(Clone, Copy)]
 pub enum BoxSizing {
     BorderBox,
     ContentBox,
@@ -71,7 +71,7 @@ impl BoxSizing {
     }
 }
 
-#[derive(Drop)]
+#[derive(Clone, Copy)]
 pub enum Overflow {
     Visible,
     Clip,
@@ -129,7 +129,7 @@ impl Overflow {
 }
 
 // `Point<Overflow>` of the Rust.
-#[derive(Drop)]
+#[derive(Clone, Copy)]
 pub struct OverflowPoint {
     pub x: Overflow,
     pub y: Overflow,
@@ -147,7 +147,7 @@ impl OverflowPoint {
 }
 
 // Layout and paint containment; the other bits of the record's word are not read.
-#[derive(Drop)]
+#[derive(Clone, Copy)]
 pub struct Contain {
     pub layout: bool,
     pub paint: bool,
@@ -171,7 +171,7 @@ impl Contain {
     }
 }
 
-#[derive(Drop)]
+#[derive(Clone, Copy)]
 pub enum Direction {
     Ltr,
     Rtl,
@@ -210,7 +210,7 @@ impl Direction {
 
 // A decoded style. `min`, `max`, `ratio`, `sizing`, `scrollbar` are the Rust's min_size, max_size, aspect_ratio,
 // box_sizing and scrollbar_width; `justify` and `align` its justify_self and align_self, absent ones as normal.
-#[derive(Drop)]
+#[derive(Clone, Copy)]
 pub struct Style {
     pub inset: LengthRect,
     pub margin: LengthRect,

@@ -8,7 +8,7 @@ use geometry::{MaybeRect, MaybeSize, Size};
 use util::math::MaybeF32;
 
 // The fields that hold lengths, by the tags that they take.
-#[derive(Drop)]
+#[derive(Clone, Copy)]
 pub enum Field {
     InsetOrMargin,
     PaddingOrBorder,
@@ -17,7 +17,7 @@ pub enum Field {
 }
 
 // A sizing keyword. A limit of fit-content is a number of pixels.
-#[derive(Drop)]
+#[derive(Clone, Copy)]
 pub enum SizingKeyword {
     MinContent,
     MaxContent,
@@ -26,7 +26,7 @@ pub enum SizingKeyword {
     Stretch,
 }
 
-#[derive(Drop)]
+#[derive(Clone, Copy)]
 pub enum Resolved {
     NotAllowed,
     Absent,

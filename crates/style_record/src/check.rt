@@ -8,7 +8,7 @@ use crate::words;
 use style::resolve::Field;
 
 // What the check of a table finds: nothing, or the first item with a word that breaks a rule, and its first such word, in record order from 0.
-#[derive(Drop)]
+#[derive(Clone, Copy)]
 pub enum TableCheck {
     Good,
     Bad { item: usize, word: usize },

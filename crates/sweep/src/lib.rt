@@ -12,20 +12,20 @@ use tree_record::candidate::CANDIDATE_WORDS;
 use tree_record::{candidate, codes};
 
 // How far the areas of a slice's candidates move. A shift of 0 is none of these: it would turn -0 into +0.
-#[derive(Drop)]
+#[derive(Clone, Copy)]
 pub enum Shift {
     Unmoved,
     By(Point),
 }
 
 // How many records each list holds.
-#[derive(Drop)]
+#[derive(Clone, Copy)]
 pub struct Filled {
     pub working: usize,
     pub unclaimed: usize,
 }
 
-#[derive(Drop)]
+#[derive(Clone, Copy)]
 pub enum Swept {
     Refused(Refusal),
     Into(Filled),

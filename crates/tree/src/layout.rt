@@ -9,14 +9,14 @@ use style::Position;
 use style::alignment::{AlignItems, AlignItemsKeyword, AlignmentSafety};
 
 // The edge of the static area that the margin box is aligned to. Start is left or top, end is right or bottom.
-#[derive(Drop)]
+#[derive(Clone, Copy)]
 pub enum AxisStaticEdge {
     Start,
     Center,
     End,
 }
 
-#[derive(Drop)]
+#[derive(Clone, Copy)]
 pub struct AxisStaticAlign {
     pub keyword: AxisStaticEdge,
     pub safety: AlignmentSafety,
@@ -24,14 +24,14 @@ pub struct AxisStaticAlign {
 }
 
 // The static position in one axis: an area, and the alignment in it.
-#[derive(Drop)]
+#[derive(Clone, Copy)]
 pub struct AxisStaticPosition {
     pub area: Line,
     pub align: AxisStaticAlign,
 }
 
 // What `from_alignment` answers: the static position, or a refusal.
-#[derive(Drop)]
+#[derive(Clone, Copy)]
 pub enum Aligned {
     At(AxisStaticPosition),
     Refused(Refusal),
@@ -142,7 +142,7 @@ impl AxisStaticPosition {
 }
 
 // `Point<AxisStaticPosition>` of the Rust.
-#[derive(Drop)]
+#[derive(Clone, Copy)]
 pub struct StaticPosition {
     pub x: AxisStaticPosition,
     pub y: AxisStaticPosition,
@@ -150,7 +150,7 @@ pub struct StaticPosition {
 
 // An out-of-flow box that waits for its containing block. `place` is the Rust's static_position. The Rust has no layer: boxes of
 // higher layers are drawn over those of lower ones (request #104), and placement reads none.
-#[derive(Drop)]
+#[derive(Clone, Copy)]
 pub struct OofCandidate {
     pub node: u32,
     pub order: u32,
@@ -181,7 +181,7 @@ impl OofCandidate {
 }
 
 // The area that insets are resolved against, by its size and its offset in the containing block's border box.
-#[derive(Drop)]
+#[derive(Clone, Copy)]
 pub struct OofPositioningArea {
     pub size: Size,
     pub offset: Point,
@@ -189,7 +189,7 @@ pub struct OofPositioningArea {
 
 // What is known of a box when it is laid out. `overflow` and `scrollbar` are the Rust's scrollable_overflow_rect and
 // scrollbar_size.
-#[derive(Drop)]
+#[derive(Clone, Copy)]
 pub struct Layout {
     pub order: u32,
     pub size: Size,

@@ -11,7 +11,7 @@ use crate::sys;
 pub const LARGEST: u64 = 9_999_999;
 
 // Whether a float is a whole count of eighths of size 9,999,999 at most: its sign (no zero is negative) and its size.
-#[derive(Drop)]
+#[derive(Clone, Copy)]
 pub enum Count {
     NotWhole,
     Whole(bool, u64),

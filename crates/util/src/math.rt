@@ -5,7 +5,7 @@ ghost use Rattle.util.specs.Maybe.{present, or_else, unwrap_or, map_add, map_lar
 use crate::sys;
 
 // A float, or none.
-#[derive(Drop)]
+#[derive(Clone, Copy)]
 pub enum MaybeF32 {
     None,
     Some(f32),
