@@ -1,0 +1,7 @@
+use mathlib.Core.Path.{sym}
+use native.Mathlib.Nat.{div-zero}
+use borrow.Author.Rules.{rules}
+use Rattle.records.proofs.places.Goals as goal
+
+pub returns-then-width-eq0 : goal.returns-then-width-eq0
+returns-then-width-eq0 c = rw c.if-width-eq0.true (sym (div-zero _))

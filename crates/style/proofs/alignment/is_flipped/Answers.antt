@@ -1,0 +1,5 @@
+use borrow.Author.Rules.{rules}
+use Rattle.style.proofs.alignment.is_flipped.Goals as goal
+
+pub returns-then-inline : goal.returns-then-inline
+returns-then-inline c = simp (c.if-inline.true, ← c.differs.ensures)
