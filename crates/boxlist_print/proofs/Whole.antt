@@ -71,14 +71,14 @@ module _ (listing : Listing) (text : List ℕ) {r : ℕ} {before after : List �
       styles_read : take (n * style_words) styles ≡ styles_of text
       styles_read =
           ap (take (n * style_words)) (s ∙ rw t.good refl)
-          ∙ front (styles_of text) (MAX_ITEMS * style_words) (n * style_words) ((screen_words text).0 ∙ rw t.items refl) (mul-le-mul_right style_words t.fewItems)
+          ∙ front (styles_of text) (MAX_ITEMS * style_words) (n * style_words) ((screen_words text).0 ∙ rw t.items refl) (mul-le-mul_right style_words t.few_items)
 
       replies_read : take (n * reply_width) replies ≡ replies_of text
       replies_read =
           ap (take (n * reply_width)) (q ∙ rw t.good refl)
-          ∙ front (replies_of text) (MAX_ITEMS * reply_width) (n * reply_width) ((screen_words text).1 ∙ rw t.items refl) (mul-le-mul_right reply_width t.fewItems)
+          ∙ front (replies_of text) (MAX_ITEMS * reply_width) (n * reply_width) ((screen_words text).1 ∙ rw t.items refl) (mul-le-mul_right reply_width t.few_items)
 
       candidates_read : take (m * candidate_width) candidates ≡ candidates_of text
       candidates_read =
           ap (take (m * candidate_width)) (c ∙ rw t.good refl)
-          ∙ front (candidates_of text) (MAX_CANDIDATES * candidate_width) (m * candidate_width) ((screen_words text).2 ∙ rw t.candidates refl) (mul-le-mul_right candidate_width t.fewCandidates)
+          ∙ front (candidates_of text) (MAX_CANDIDATES * candidate_width) (m * candidate_width) ((screen_words text).2 ∙ rw t.candidates refl) (mul-le-mul_right candidate_width t.few_candidates)

@@ -277,9 +277,9 @@ bad_word_demands styles before c = subst (BadWordDemands styles before) (sym c) 
         record {
           call = ap (λ (x : TableCheck). check_told x before) (sym e);
           told = inl refl;
-          some = (λ o. (i, k, f.item-there, f.word-there, f.not-allowed), λ s. refl);
-          nothing = (λ z. not_one (sym z), λ a. absurd (f.not-allowed (a i f.item-there k f.word-there)));
-          written = λ o. (i, k, f, ap (λ (x : ℕ). count_word i ∷ x ∷ []) (own_count k f.word-there));
+          some = (λ o. (i, k, f.item_there, f.word_there, f.not_allowed), λ s. refl);
+          nothing = (λ z. not_one (sym z), λ a. absurd (f.not_allowed (a i f.item_there k f.word_there)));
+          written = λ o. (i, k, f, ap (λ (x : ℕ). count_word i ∷ x ∷ []) (own_count k f.word_there));
           kept = λ z. not_one (sym z);
         }
 

@@ -93,4 +93,4 @@ module _ (L A : ℕ) (room : 10 * L + 6 * A < 16777216) where
   unfolding block
   block_exact a α h =
       rw (weaker_is a.inset.start a.inset.end a)
-      (repaired_exact (weaker_of (present a.inset.start) (present a.inset.end) a.reversed) (inset_exact a.inset.start a.inset.end a α h.insetStart h.insetEnd h))
+      (repaired_exact (weaker_of (present a.inset.start) (present a.inset.end) a.reversed) (inset_exact a.inset.start a.inset.end a α h.inset_start h.inset_end h))

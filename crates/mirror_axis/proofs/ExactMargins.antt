@@ -48,7 +48,7 @@ module _ (L A : ℕ) (room : 10 * L + 6 * A < 16777216) where
   pub stretch_exact : (a : OofAxis) (α : AxisN) → ExactAxis L A a α → Exact 4 (8 * L + 4 * A) (stretch_fit a) (stretch_fit_n (shape a) α)
   unfolding stretch_fit
   stretch_exact a α h =
-      let m = add_exact (or_zero_exact a.margin.start α.margin.start h.marginStart) (or_zero_exact a.margin.end α.margin.end h.marginEnd) (omega arith) in
+      let m = add_exact (or_zero_exact a.margin.start α.margin.start h.margin_start) (or_zero_exact a.margin.end α.margin.end h.margin_end) (omega arith) in
       larger_exact (widen (omega arith) (sub_exact (span_exact a α h) m (omega arith))) zero_exact
 
 module _ (L A S : ℕ) (room : 10 * L + 6 * A + S < 16777216) where
@@ -75,9 +75,9 @@ module _ (L A S : ℕ) (room : 10 * L + 6 * A + S < 16777216) where
       (cond (present s && present e) (filled_margins a.margin.start a.margin.end (span l ⊖ size) a) (or_zero a.margin.start to or_zero a.margin.end))
       (margins_in (present s && present e) m (shape a) α u)
   unfolding present
-  margins_at (Some x) (Some y) l m a α hl h hu = filled_exact a.margin.start a.margin.end α.margin a h.marginStart h.marginEnd (sub_exact hl hu (omega arith))
-  margins_at (Some x) None l m a α hl h hu = record { start = or_zero_exact a.margin.start α.margin.start h.marginStart; end = or_zero_exact a.margin.end α.margin.end h.marginEnd }
-  margins_at None e l m a α hl h hu = record { start = or_zero_exact a.margin.start α.margin.start h.marginStart; end = or_zero_exact a.margin.end α.margin.end h.marginEnd }
+  margins_at (Some x) (Some y) l m a α hl h hu = filled_exact a.margin.start a.margin.end α.margin a h.margin_start h.margin_end (sub_exact hl hu (omega arith))
+  margins_at (Some x) None l m a α hl h hu = record { start = or_zero_exact a.margin.start α.margin.start h.margin_start; end = or_zero_exact a.margin.end α.margin.end h.margin_end }
+  margins_at None e l m a α hl h hu = record { start = or_zero_exact a.margin.start α.margin.start h.margin_start; end = or_zero_exact a.margin.end α.margin.end h.margin_end }
 
   pub margins_exact : (a : OofAxis) (α : AxisN) {size : Float} {u : N} → ExactAxis L A a α → Exact 4 S size u
       → LineExact (margin_unit (fills (present a.inset.start) (present a.inset.end) (present a.margin.start) (present a.margin.end)))

@@ -106,7 +106,7 @@ spaces = refl
 
 not_mirrored : (size size' : Float) → Mirrored narrow (image narrow) size size' → ⊥
 unfolding add sub mul div neg lt le eq is_nan of_bits of_int zero_of before larger smaller magnitude present unwrap_or align_in centered_block static_block inset_block start_is_weaker repaired block both_insets stretch_fit halves filled_margins margins is_normal align_edge limit kept_within self_aligned static_aligned position_in position placement image exchanged reflected reflected_place other_align other_edge
-not_mirrored size size' h = false≢true h.stretchFit
+not_mirrored size size' h = false≢true h.stretch_fit
 
 -- ---- the room
 
@@ -131,4 +131,4 @@ cancel =
 
 room_is_needed : (size size' : Float) → Mirrored far (image far) size size' → ⊥
 unfolding eq of_bits
-room_is_needed size size' h = false≢true (one_total (high ∷ neg high ∷ []) quarter 0f (subst (λ (xs : List Float). AddUp xs quarter) ends h.blockStart) cancel)
+room_is_needed size size' h = false≢true (one_total (high ∷ neg high ∷ []) quarter 0f (subst (λ (xs : List Float). AddUp xs quarter) ends h.block_start) cancel)

@@ -43,7 +43,7 @@ evens : {b : ℕ} {l : Line} {m : LineN} → LineExact 4 b l m → Evens m
 evens {m = m} h = (even_of 2 m.start h.start.mult, even_of 2 m.end h.end.mult)
 
 abbrev filling : Shape → Bool
-filling σ = fills σ.insetStart σ.insetEnd σ.marginStart σ.marginEnd
+filling σ = fills σ.inset_start σ.inset_end σ.margin_start σ.margin_end
 
 module _ (L A : ℕ) (room : 10 * L + 6 * A < 16777216) (a a' : OofAxis) (h : Facing L A a a') where
   -- the shape of a' is the image of a's
@@ -71,7 +71,7 @@ module _ (L A : ℕ) (room : 10 * L + 6 * A < 16777216) (a a' : OofAxis) (h : Fa
 
   pub insets_shared : both_insets a ≡ both_insets a'
   unfolding both_insets
-  insets_shared = and_commute (present a.inset.start) (present a.inset.end) ∙ sym (ap (λ (σ : Shape). σ.insetStart && σ.insetEnd) h.shapes)
+  insets_shared = and_commute (present a.inset.start) (present a.inset.end) ∙ sym (ap (λ (σ : Shape). σ.inset_start && σ.inset_end) h.shapes)
 
   pub alignment_shared : a.alignment ≡ a'.alignment
   alignment_shared = sym (ap (λ (σ : Shape). σ.alignment) h.shapes)
@@ -127,7 +127,7 @@ module _ (L A S : ℕ) (room : 10 * L + 6 * A + S < 16777216) (a a' : OofAxis) (
             by_shape L A (omega arith) a a' h (λ σ. Exact 1 (10 * L + 6 * A + S) (placement a' size').position (place_n σ (image_n h.α) s.a))
             (any (place_exact L A S room a' (image_n h.α) h.right s.r));
         fill =
-            position_fill (shape a).insetStart (shape a).insetEnd (shape a) h.α (block_n (shape a) h.α) (block_n (image_shape (shape a)) (image_n h.α)) margins_left margins_right s.a
+            position_fill (shape a).inset_start (shape a).inset_end (shape a) h.α (block_n (shape a) h.α) (block_n (image_shape (shape a)) (image_n h.α)) margins_left margins_right s.a
             (blocks L A (omega arith) a a' h) margins_turn (even_of 2 h.α.size h.left.size.mult) (evens (block_left L A (omega arith) a a' h)) (evens h.left.area)
             (add_mult 2 (add_n s.a margins_left.start) margins_left.end (add_mult 2 s.a margins_left.start (even_of 2 s.a s.l.mult) margins_left_lem.start.mult) margins_left_lem.end.mult)
             (margins_fill (shape a) h.α (block_n (shape a) h.α) s.a free_even);

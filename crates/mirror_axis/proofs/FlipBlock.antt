@@ -29,12 +29,12 @@ image_n α =
 abbrev pub image_shape : Shape → Shape
 image_shape σ =
     record {
-      inset_start = σ.insetEnd;
-      inset_end = σ.insetStart;
-      margin_start = σ.marginEnd;
-      margin_end = σ.marginStart;
+      inset_start = σ.inset_end;
+      inset_end = σ.inset_start;
+      margin_start = σ.margin_end;
+      margin_end = σ.margin_start;
       keyword = other_edge σ.keyword;
-      place_safety = σ.placeSafety;
+      place_safety = σ.place_safety;
       alignment = σ.alignment;
       safety = σ.safety;
       inline = σ.inline;
@@ -138,7 +138,7 @@ weaker_other false false false = (refl, tt)
 
 pub block_flip : (σ : Shape) (α : AxisN) → NotZero α.size → Multiple 2 (add_n α.area.start α.area.end) → Flip α.size (block_n σ α) (block_n (image_shape σ) (image_n α))
 block_flip σ α nz ev =
-    let weaker = weaker_other σ.insetStart σ.insetEnd σ.reversed in
+    let weaker = weaker_other σ.inset_start σ.inset_end σ.reversed in
     rw weaker.0
-    (repaired_flip α.size (inset_n σ.insetStart σ.insetEnd σ.keyword α) (inset_n σ.insetEnd σ.insetStart (other_edge σ.keyword) (image_n α))
-    (weaker_of σ.insetStart σ.insetEnd σ.reversed) weaker.1 (inset_flip σ.insetStart σ.insetEnd σ.keyword α nz ev))
+    (repaired_flip α.size (inset_n σ.inset_start σ.inset_end σ.keyword α) (inset_n σ.inset_end σ.inset_start (other_edge σ.keyword) (image_n α))
+    (weaker_of σ.inset_start σ.inset_end σ.reversed) weaker.1 (inset_flip σ.inset_start σ.inset_end σ.keyword α nz ev))

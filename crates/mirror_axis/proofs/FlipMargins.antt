@@ -22,7 +22,7 @@ less_same a b c d h = omega arith
 
 pub stretch_same : (σ : Shape) (α : AxisN) → Flip α.size (block_n σ α) (block_n (image_shape σ) (image_n α)) → EqN (stretch_fit_n σ α) (stretch_fit_n (image_shape σ) (image_n α))
 stretch_same σ α h =
-    less_same (span_n (block_n σ α)) (span_n (block_n (image_shape σ) (image_n α))) (or_zero_n σ.marginStart α.margin.start) (or_zero_n σ.marginEnd α.margin.end)
+    less_same (span_n (block_n σ α)) (span_n (block_n (image_shape σ) (image_n α))) (or_zero_n σ.margin_start α.margin.start) (or_zero_n σ.margin_end α.margin.end)
     (span_same α.size (block_n σ α) (block_n (image_shape σ) (image_n α)) h)
 
 -- ---- auto margins
@@ -43,10 +43,10 @@ filled_swap false true m free free' i r h ev = omega arith
 filled_swap false false m free free' i r h ev = halves_swap free free' i r h ev
 
 pub margins_swap : (σ : Shape) (α : AxisN) (l l' : LineN) (u : N) → Flip α.size l l' → Multiple 2 (sub_n (span_n l) u)
-    → Swap (margins_in (σ.insetStart && σ.insetEnd) l σ α u) (margins_in (σ.insetEnd && σ.insetStart) l' (image_shape σ) (image_n α) u)
+    → Swap (margins_in (σ.inset_start && σ.inset_end) l σ α u) (margins_in (σ.inset_end && σ.inset_start) l' (image_shape σ) (image_n α) u)
 margins_swap σ α l l' u h ev =
-    pick Swap (and_commute σ.insetStart σ.insetEnd)
-    (filled_swap σ.marginStart σ.marginEnd α.margin (sub_n (span_n l) u) (sub_n (span_n l') u) σ.inline σ.reversed (omega arith) ev)
+    pick Swap (and_commute σ.inset_start σ.inset_end)
+    (filled_swap σ.margin_start σ.margin_end α.margin (sub_n (span_n l) u) (sub_n (span_n l') u) σ.inline σ.reversed (omega arith) ev)
     (record { start = refl; end = refl })
 
 -- ---- with both insets and an auto margin, the margins take up the free space
@@ -65,11 +65,11 @@ filled_sum true false m free i r h ev = omega arith
 filled_sum false true m free i r h ev = omega arith
 filled_sum false false m free i r h ev = halves_sum free i r ev
 
-pub margins_fill : (σ : Shape) (α : AxisN) (l : LineN) (u : N) → Multiple 2 (sub_n (span_n l) u) → fills σ.insetStart σ.insetEnd σ.marginStart σ.marginEnd ≡ true
-    → let m = margins_in (σ.insetStart && σ.insetEnd) l σ α u in EqN (add_n m.start m.end) (sub_n (span_n l) u)
-margins_fill σ α l u ev = go σ.insetStart σ.insetEnd
+pub margins_fill : (σ : Shape) (α : AxisN) (l : LineN) (u : N) → Multiple 2 (sub_n (span_n l) u) → fills σ.inset_start σ.inset_end σ.margin_start σ.margin_end ≡ true
+    → let m = margins_in (σ.inset_start && σ.inset_end) l σ α u in EqN (add_n m.start m.end) (sub_n (span_n l) u)
+margins_fill σ α l u ev = go σ.inset_start σ.inset_end
   where
-    go : (s e : Bool) → fills s e σ.marginStart σ.marginEnd ≡ true → let m = margins_in (s && e) l σ α u in EqN (add_n m.start m.end) (sub_n (span_n l) u)
-    go true true h = filled_sum σ.marginStart σ.marginEnd α.margin (sub_n (span_n l) u) σ.inline σ.reversed (not-true (σ.marginStart && σ.marginEnd) h) ev
+    go : (s e : Bool) → fills s e σ.margin_start σ.margin_end ≡ true → let m = margins_in (s && e) l σ α u in EqN (add_n m.start m.end) (sub_n (span_n l) u)
+    go true true h = filled_sum σ.margin_start σ.margin_end α.margin (sub_n (span_n l) u) σ.inline σ.reversed (not-true (σ.margin_start && σ.margin_end) h) ev
     go true false h = absurd (false≢true h)
     go false e h = absurd (false≢true h)

@@ -152,17 +152,17 @@ box_same u m m' s = omega arith
 
 -- l and m: block and margins. With both insets and an auto margin, the margins take up the free space
 pub position_fill : (s e : Bool) (σ : Shape) (α : AxisN) (l l' m m' : LineN) (u : N) → Flip α.size l l' → Swap m m' → Multiple 2 α.size → Evens l → Evens α.area → Multiple 2 (box_n u m)
-    → (fills s e σ.marginStart σ.marginEnd ≡ true → EqN (add_n m.start m.end) (sub_n (span_n l) u))
+    → (fills s e σ.margin_start σ.margin_end ≡ true → EqN (add_n m.start m.end) (sub_n (span_n l) u))
     → Fill α.size u (position_n s e σ α l u m) (position_n e s (image_shape σ) (image_n α) l' u m')
 position_fill false false σ α l l' m m' u f s ew ev ea eb t =
-    shift_fill α.size u m m' (static_place_n σ.placeSafety σ α.area l (box_n u m)) (static_place_n σ.placeSafety (image_shape σ) (flipped α.size α.area) l' (box_n u m')) s
-    (static_fill α.size (box_n u m) (box_n u m') (box_same u m m' s) eb σ.placeSafety σ α.area l l' f ev ea)
+    shift_fill α.size u m m' (static_place_n σ.place_safety σ α.area l (box_n u m)) (static_place_n σ.place_safety (image_shape σ) (flipped α.size α.area) l' (box_n u m')) s
+    (static_fill α.size (box_n u m) (box_n u m') (box_same u m m' s) eb σ.place_safety σ α.area l l' f ev ea)
 position_fill true false σ α l l' m m' u f s ew ev ea eb t = omega arith
 position_fill false true σ α l l' m m' u f s ew ev ea eb t = omega arith
 position_fill true true σ α l l' m m' u f s ew ev ea eb t =
     let k = align_of σ.alignment σ.reversed in
     rw (align_other σ.alignment σ.reversed)
-    (pick_when (Fill α.size u) (σ.marginStart && σ.marginEnd) (and_commute σ.marginStart σ.marginEnd)
+    (pick_when (Fill α.size u) (σ.margin_start && σ.margin_end) (and_commute σ.margin_start σ.margin_end)
     (λ h. shift_fill α.size u m m' (self_n σ.safety σ α.size l (box_n u m) k) (self_n σ.safety (image_shape σ) α.size l' (box_n u m') (other_edge k)) s
     (self_fill α.size (box_n u m) (box_n u m') (box_same u m m' s) eb σ.safety σ l l' k ew f ev))
     (λ h. auto_fill α.size u l l' m m' f s (t (ap not h))))

@@ -25,20 +25,20 @@ abbrev pub numbers : (L A : ℕ) (a : OofAxis) → Bounded L A a → AxisN
 numbers L A a h =
     record {
       size = units h.size;
-      inset = maybe_units L a.inset.start h.insetStart toN maybe_units L a.inset.end h.insetEnd;
-      margin = maybe_units L a.margin.start h.marginStart toN maybe_units L a.margin.end h.marginEnd;
-      area = units h.area_start toN units h.areaEnd;
+      inset = maybe_units L a.inset.start h.inset_start toN maybe_units L a.inset.end h.inset_end;
+      margin = maybe_units L a.margin.start h.margin_start toN maybe_units L a.margin.end h.margin_end;
+      area = units h.area_start toN units h.area_end;
     }
 
 pub axis_exact : (L A : ℕ) (a : OofAxis) (h : Bounded L A a) → ExactAxis (4 * L) (4 * L + 4 * A) a (numbers L A a h)
 axis_exact L A a h =
     record {
       size = quarters_exact h.size;
-      inset_start = maybe_exact L a.inset.start h.insetStart;
-      inset_end = maybe_exact L a.inset.end h.insetEnd;
-      margin_start = maybe_exact L a.margin.start h.marginStart;
-      margin_end = maybe_exact L a.margin.end h.marginEnd;
-      area = record { start = widen (omega arith) (quarters_exact h.area_start); end = widen (omega arith) (quarters_exact h.areaEnd) };
+      inset_start = maybe_exact L a.inset.start h.inset_start;
+      inset_end = maybe_exact L a.inset.end h.inset_end;
+      margin_start = maybe_exact L a.margin.start h.margin_start;
+      margin_end = maybe_exact L a.margin.end h.margin_end;
+      area = record { start = widen (omega arith) (quarters_exact h.area_start); end = widen (omega arith) (quarters_exact h.area_end) };
     }
 
 image_exact : (L A : ℕ) (a : OofAxis) (h : Bounded L A a) → 4 * L + 4 * A < 16777216 → ExactAxis (4 * L) (4 * L + 4 * A) (image a) (image_n (numbers L A a h))
@@ -46,13 +46,13 @@ unfolding image exchanged reflected reflected_place
 image_exact L A a h room =
     record {
       size = quarters_exact h.size;
-      inset_start = maybe_exact L a.inset.end h.insetEnd;
-      inset_end = maybe_exact L a.inset.start h.insetStart;
-      margin_start = maybe_exact L a.margin.end h.marginEnd;
-      margin_end = maybe_exact L a.margin.start h.marginStart;
+      inset_start = maybe_exact L a.inset.end h.inset_end;
+      inset_end = maybe_exact L a.inset.start h.inset_start;
+      margin_start = maybe_exact L a.margin.end h.margin_end;
+      margin_end = maybe_exact L a.margin.start h.margin_start;
       area =
           record {
-            start = sub_exact (quarters_exact h.size) (quarters_exact h.areaEnd) room;
+            start = sub_exact (quarters_exact h.size) (quarters_exact h.area_end) room;
             end = sub_exact (quarters_exact h.size) (quarters_exact h.area_start) room;
           };
     }

@@ -105,7 +105,7 @@ abbrev pub repaired_n : AxisStaticEdge → LineN → LineN
 repaired_n weaker l = cond (lt_n l.end l.start) (closed_n weaker l) l
 
 abbrev pub block_n : Shape → AxisN → LineN
-block_n σ α = repaired_n (weaker_of σ.insetStart σ.insetEnd σ.reversed) (inset_n σ.insetStart σ.insetEnd σ.keyword α)
+block_n σ α = repaired_n (weaker_of σ.inset_start σ.inset_end σ.reversed) (inset_n σ.inset_start σ.inset_end σ.keyword α)
 
 -- ---- sizes and margins
 
@@ -114,7 +114,7 @@ or_zero_n true a = a
 or_zero_n false a = zero_n
 
 abbrev pub stretch_fit_n : Shape → AxisN → N
-stretch_fit_n σ α = max_n (sub_n (span_n (block_n σ α)) (add_n (or_zero_n σ.marginStart α.margin.start) (or_zero_n σ.marginEnd α.margin.end))) zero_n
+stretch_fit_n σ α = max_n (sub_n (span_n (block_n σ α)) (add_n (or_zero_n σ.margin_start α.margin.start) (or_zero_n σ.margin_end α.margin.end))) zero_n
 
 abbrev pub halves_n : N → Bool → Bool → LineN
 halves_n free inline reversed = cond (lt_n free zero_n && inline) (cond reversed (free toN zero_n) (zero_n toN free)) (half_n free toN half_n free)
@@ -131,11 +131,11 @@ fills s e ms me = s && e && not (ms && me)
 
 abbrev pub margins_in : Bool → LineN → Shape → AxisN → N → LineN
 margins_in both l σ α size =
-    cond both (filled_n σ.marginStart σ.marginEnd α.margin (sub_n (span_n l) size) σ.inline σ.reversed)
-    (or_zero_n σ.marginStart α.margin.start toN or_zero_n σ.marginEnd α.margin.end)
+    cond both (filled_n σ.margin_start σ.margin_end α.margin (sub_n (span_n l) size) σ.inline σ.reversed)
+    (or_zero_n σ.margin_start α.margin.start toN or_zero_n σ.margin_end α.margin.end)
 
 abbrev pub margins_n : Shape → AxisN → N → LineN
-margins_n σ α size = margins_in (σ.insetStart && σ.insetEnd) (block_n σ α) σ α size
+margins_n σ α size = margins_in (σ.inset_start && σ.inset_end) (block_n σ α) σ α size
 
 -- ---- position
 
@@ -173,13 +173,13 @@ abbrev pub box_n : N → LineN → N
 box_n size m = add_n (add_n size m.start) m.end
 
 abbrev pub position_n : Bool → Bool → Shape → AxisN → LineN → N → LineN → N
-position_n false false σ α l size m = add_n (static_place_n σ.placeSafety σ α.area l (box_n size m)) m.start
+position_n false false σ α l size m = add_n (static_place_n σ.place_safety σ α.area l (box_n size m)) m.start
 position_n true false σ α l size m = add_n l.start m.start
 position_n false true σ α l size m = sub_n (sub_n l.end size) m.end
 position_n true true σ α l size m =
-    cond (σ.marginStart && σ.marginEnd)
+    cond (σ.margin_start && σ.margin_end)
     (add_n (self_n σ.safety σ α.size l (box_n size m) (align_of σ.alignment σ.reversed)) m.start)
     (add_n l.start m.start)
 
 abbrev pub place_n : Shape → AxisN → N → N
-place_n σ α size = position_n σ.insetStart σ.insetEnd σ α (block_n σ α) size (margins_n σ α size)
+place_n σ α size = position_n σ.inset_start σ.inset_end σ α (block_n σ α) size (margins_n σ α size)

@@ -69,30 +69,30 @@ opposite_faces L A a a' h nz =
       α =
           record {
             size = h.size.a;
-            inset = number h.insetStart toN number h.insetEnd;
-            margin = number h.marginStart toN number h.marginEnd;
-            area = h.area_start.at toN h.areaEnd.at;
+            inset = number h.inset_start toN number h.inset_end;
+            margin = number h.margin_start toN number h.margin_end;
+            area = h.area_start.at toN h.area_end.at;
           };
       left =
           record {
             size = h.size.l;
-            inset_start = number_left h.insetStart;
-            inset_end = number_left h.insetEnd;
-            margin_start = number_left h.marginStart;
-            margin_end = number_left h.marginEnd;
-            area = record { start = h.area_start.l; end = h.areaEnd.l };
+            inset_start = number_left h.inset_start;
+            inset_end = number_left h.inset_end;
+            margin_start = number_left h.margin_start;
+            margin_end = number_left h.margin_end;
+            area = record { start = h.area_start.l; end = h.area_end.l };
           };
       right =
           record {
             size = h.size.r;
-            inset_start = number_right h.insetEnd;
-            inset_end = number_right h.insetStart;
-            margin_start = number_right h.marginEnd;
-            margin_end = number_right h.marginStart;
-            area = record { start = h.areaEnd.r; end = h.area_start.r };
+            inset_start = number_right h.inset_end;
+            inset_end = number_right h.inset_start;
+            margin_start = number_right h.margin_end;
+            margin_end = number_right h.margin_start;
+            area = record { start = h.area_end.r; end = h.area_start.r };
           };
       shapes =
-          rw (h.keyword, h.placeSafety, h.alignment, h.safety, h.inline, h.reversed, h.scrolls, ← present_same h.insetStart, ← present_same h.insetEnd, ← present_same h.marginStart, ← present_same h.marginEnd) refl;
+          rw (h.keyword, h.place_safety, h.alignment, h.safety, h.inline, h.reversed, h.scrolls, ← present_same h.inset_start, ← present_same h.inset_end, ← present_same h.margin_start, ← present_same h.margin_end) refl;
       wide = not_zero h.size.l nz;
     }
 

@@ -54,10 +54,10 @@ keyword_size : (a a' : OofAxis) → Opposite length_bound static_bound a a' → 
 unfolding absolute_stretch
 keyword_size a a' h =
     let s = h.size in
-    let i = or_zero_lem h.insetStart in
-    let i' = or_zero_lem h.insetEnd in
-    let m = or_zero_lem h.marginStart in
-    let m' = or_zero_lem h.marginEnd in
+    let i = or_zero_lem h.inset_start in
+    let i' = or_zero_lem h.inset_end in
+    let m = or_zero_lem h.margin_start in
+    let m' = or_zero_lem h.margin_end in
     larger_same
     (same (sub_exact (sub_exact (sub_exact (sub_exact s.l i.l (lit< tt)) i'.l (lit< tt)) m.l (lit< tt)) m'.l (lit< tt))
     (sub_exact (sub_exact (sub_exact (sub_exact s.r i'.r (lit< tt)) i.r (lit< tt)) m'.r (lit< tt)) m.r (lit< tt)) (omega arith)) zero_same

@@ -149,7 +149,7 @@ module _ (container : ContainingBlock) (style : Style) (candidate candidate' : O
 
   faces : Facing length_bound static_bound (horizontal container style candidate) (horizontal (image_container container) (image_style style) candidate')
   unfolding horizontal
-  faces = opposite_faces length_bound static_bound (horizontal container style candidate) (horizontal (image_container container) (image_style style) candidate') horizontal_opposite hb.notZero
+  faces = opposite_faces length_bound static_bound (horizontal container style candidate) (horizontal (image_container container) (image_style style) candidate') horizontal_opposite hb.not_zero
 
   fit_shared : SizeShared fit_bound (record { width = stretch_fit (horizontal container style candidate); height = stretch_fit (vertical container style candidate) })
       (record {

@@ -90,12 +90,12 @@ met = (at_end, on_the_way)
 
     at_end : MirroredRuns panel.area 1 (after replies) (image_after replies)
     at_end =
-        subst (λ (n : ℕ). MirroredRuns panel.area n (after replies) (image_after replies)) computed.atOpening
+        subst (λ (n : ℕ). MirroredRuns panel.area n (after replies) (image_after replies)) computed.at_opening
         (mirror panel four lent lent' replies [] quarter_panel quarter_table quarter_four refl refl all_fair)
 
     on_the_way : MirroredRuns panel.area 1 (after (wrong_kind ∷ surfaces_fixed ∷ [])) (image_after (wrong_kind ∷ surfaces_fixed ∷ []))
     on_the_way =
-        subst (λ (n : ℕ). MirroredRuns panel.area n (after (wrong_kind ∷ surfaces_fixed ∷ [])) (image_after (wrong_kind ∷ surfaces_fixed ∷ []))) computed.atOpening
+        subst (λ (n : ℕ). MirroredRuns panel.area n (after (wrong_kind ∷ surfaces_fixed ∷ [])) (image_after (wrong_kind ∷ surfaces_fixed ∷ []))) computed.at_opening
         (mirror panel four lent lent' (wrong_kind ∷ surfaces_fixed ∷ []) (measured ∷ laid_out ∷ wrong_lengths ∷ laid_out ∷ []) quarter_panel quarter_table quarter_four refl refl all_fair)
 
 -- ---- what it asks is needed: each screen has all but one thing
@@ -143,7 +143,7 @@ width_needed :
     (AreaInQuarters narrow.area × QuarterTable still × QuarterCandidates centered)
     × Fails narrow still centered []
 unfolding of_bits every record_at candidate_of axis_of
-width_needed = ((record { width = nought; height = nought; x = nought; y = nought }, quarter_still, candidates_decided centered refl), fails computed.widthZero)
+width_needed = ((record { width = nought; height = nought; x = nought; y = nought }, quarter_still, candidates_decided centered refl), fails computed.width_zero)
 
 -- all that is asked of an area but for its offset across
 pub record ButOffset (area : OofPositioningArea) : Type 0 where
@@ -194,7 +194,7 @@ image_styles_needed :
     (QuarterArea wide.area × QuarterTable ahead × QuarterCandidates at_start)
     × ((n : ℕ) → MirroredRuns wide.area n (ran wide ahead at_start (laid_out ∷ [])) (unflipped wide ahead at_start (laid_out ∷ [])) → ⊥)
 unfolding of_bits every items length_at
-image_styles_needed = ((quarter_wide, table_decided ahead refl, quarter_at_start), λ n h. no (same_told h.answer) computed.leftDiffers)
+image_styles_needed = ((quarter_wide, table_decided ahead refl, quarter_at_start), λ n h. no (same_told h.answer) computed.left_differs)
 
 -- the same answers have the same number
 same_number : {a a' : Answer} → SameAnswer a a' → number a ≡ number a'
@@ -204,7 +204,7 @@ same_number refused = refl
 
 -- slices that are as long in both: the run finishes, and its image, which alone is lent others, is refused with 2
 same_lengths_needed : (QuarterArea small.area × QuarterTable still × QuarterCandidates at_start) × Fails small still at_start shorter
-same_lengths_needed = ((quarter_small, quarter_still, quarter_at_start), λ n h. eleven (sym computed.slices ∙ same_number h.answer ∙ computed.imageSlices))
+same_lengths_needed = ((quarter_small, quarter_still, quarter_at_start), λ n h. eleven (sym computed.slices ∙ same_number h.answer ∙ computed.image_slices))
   where
     eleven : ◌≡◌ {A = ℕ} 11 22 → ⊥
     eleven e = omega (arith, e)
@@ -212,7 +212,7 @@ same_lengths_needed = ((quarter_small, quarter_still, quarter_at_start), λ n h.
 -- the run's own words, but for a call that is refused with 2 or 6: the run, which alone is lent others, is refused with 3, and its image
 -- finishes
 own_words_needed : (QuarterArea small.area × QuarterTable still × QuarterCandidates at_start) × Fails small still at_start bad_table
-own_words_needed = ((quarter_small, quarter_still, quarter_at_start), λ n h. eleven (sym computed.table ∙ same_number h.answer ∙ computed.imageTable))
+own_words_needed = ((quarter_small, quarter_still, quarter_at_start), λ n h. eleven (sym computed.table ∙ same_number h.answer ∙ computed.image_table))
   where
     eleven : ◌≡◌ {A = ℕ} 23 11 → ⊥
     eleven e = omega (arith, e)

@@ -102,7 +102,7 @@ pub record Lists (f : Frame) (filled : Filled) (p p' : Own) : Type 0 where
   pub claimed : Each (Ready f.container.area (items f.styles)) (first_candidates filled.working p.working) (first_candidates filled.working p'.working)
   pub good : bad_candidate f.styles p.working filled.working ≡ false
   pub good' : bad_candidate (image_styles f.styles) p'.working filled.working ≡ false
-  pub unclaimed : Unclaimed f.container.area f.atOpening (first_candidates filled.unclaimed p.unclaimed) (first_candidates filled.unclaimed p'.unclaimed)
+  pub unclaimed : Unclaimed f.container.area f.at_opening (first_candidates filled.unclaimed p.unclaimed) (first_candidates filled.unclaimed p'.unclaimed)
 
 -- the boxes laid out
 abbrev pub Laid : Frame → ℕ → Own → Own → Type 0
@@ -133,7 +133,7 @@ same_nodes : {area : OofPositioningArea} {n : ℕ} {cs cs' : List OofCandidate} 
 same_nodes none = refl
 same_nodes (one {cs = cs} {cs' = cs'} r e) = rw (r.image.node, same_nodes e) refl
 
-pub mirrored : {f : Frame} {o o' : Outcome} → Linked f o o' → MirroredRuns f.container.area f.atOpening o o'
+pub mirrored : {f : Frame} {o o' : Outcome} → Linked f o o' → MirroredRuns f.container.area f.at_opening o o'
 mirrored (linked s p p' h a) =
     record {
       answer = a;

@@ -95,7 +95,7 @@ module _ (f : Frame) (q : QuarterFrame f) where
         go true u = unread l l' fair.alike.surfaced fair.alike.slices u
         go false u =
             let same = fair.words u in
-            rw (same.slices, same.imageSlices) (read same.surfaced (subst IfAccepted same.slices (λ e. (fair.quarters e, fair.surfacesNone e))))
+            rw (same.slices, same.image_slices) (read same.surfaced (subst IfAccepted same.slices (λ e. (fair.quarters e, fair.surfaces_none e))))
 
   pub one_reply : {o o' : Outcome} (m : Message) → Linked f o o' → Fair o.step.state (run_next f.styles o m).step.answer m
       → Linked f (run_next f.styles o m) (image_next (image_styles f.styles) o' m)

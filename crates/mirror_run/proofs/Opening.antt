@@ -53,7 +53,7 @@ use Rattle.mirror_run.proofs.Next.{opened_of, leaving, proceeds_linked}
 -- ---- what demand 3 asks, as the law of one box asks it
 
 pub quarter_block : (o : Opening) → QuarterArea o.area → QuarterContainer (container_of o)
-quarter_block o h = record { width = h.quarters.width; not_zero = h.notZero; offset = h.quarters.x }
+quarter_block o h = record { width = h.quarters.width; not_zero = h.not_zero; offset = h.quarters.x }
 
 pub quarter_style : (styles : List ℕ) → bad_style styles ≡ false → (i : ℕ) → i < items styles → QuarterItem (item styles i) → QuarterStyle (style_at styles i)
 unfolding style_at style_of rect_at size_at

@@ -77,8 +77,8 @@ module _ (area : OofPositioningArea) (l l' : Layout) (m : MirroredLayout area l 
         border = ap again_rect m.border;
         margin_left = equal (again_same (lit< tt) h.left);
         margin_right = equal (again_same (lit< tt) h.right);
-        margin_top = ap again m.marginTop;
-        margin_bottom = ap again m.marginBottom;
+        margin_top = ap again m.margin_top;
+        margin_bottom = ap again m.margin_bottom;
       }
 
 -- ---- a box laid out

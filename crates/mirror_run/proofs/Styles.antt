@@ -113,7 +113,7 @@ module _ (ws : List ℕ) where
   same_check = go (checked (image_styles ws)) (checked ws) (table_is (image_styles ws)) (table_is ws)
     where
       clash : {A : Type 0} {s : List ℕ} {i k : ℕ} → NoneBreaks s → First s i k → A
-      clash n f = no f.breaks-it (n _ f.item-there _ f.word-there)
+      clash n f = no f.breaks_it (n _ f.item_there _ f.word_there)
 
       go : (c d : TableCheck) → TableIs (image_styles ws) c → TableIs ws d → is_bad c ≡ is_bad d
       go _ _ (good a) (good b) = refl

@@ -180,13 +180,13 @@ pub aligned_margins : (a : OofAxis) (size : Float) → Aligned a → margins a s
 unfolding margins both_insets
 aligned_margins a size h =
     rw (h.insets.start, h.insets.end)
-    (given_margins a.margin.start a.margin.end (is_some a.margin.start h.marginStart) (is_some a.margin.end h.marginEnd) (span (block a) ⊖ size) a)
+    (given_margins a.margin.start a.margin.end (is_some a.margin.start h.margin_start) (is_some a.margin.end h.margin_end) (span (block a) ⊖ size) a)
 
 pub aligned_position : (a : OofAxis) (size : Float) → Aligned a
     → (placement a size).position ≡ self_aligned a.safety a (block a) (margin_box a size) (align_edge a.alignment a) ⊕ or_zero a.margin.start
 unfolding placement position
 aligned_position a size h =
-    rw (between a.inset.start a.inset.end (is_some a.inset.start h.insets.start) (is_some a.inset.end h.insets.end) a (block a) size (margins a size), h.marginStart, h.marginEnd, aligned_margins a size h) refl
+    rw (between a.inset.start a.inset.end (is_some a.inset.start h.insets.start) (is_some a.inset.end h.insets.end) a (block a) size (margins a size), h.margin_start, h.margin_end, aligned_margins a size h) refl
 
 -- the box at an edge of the block
 abbrev InBlock : AxisStaticEdge → OofAxis → Float → Type 0

@@ -62,26 +62,26 @@ pub record Stands (a : OofAxis) (size : Float) : Type 0 where
   pub position : Exact 1 f (placement a size).position (add_n at ms)
 
 begins_at : {a : OofAxis} {size x : Float} {g b : ℕ} {ξ : N} (s : Stands a size) → Exact g b x ξ → EqN s.at ξ → BeginsAt a size x
-begins_at s h e = equal_sums (s.position and nil) (h and s.marginStart and nil) (omega arith)
+begins_at s h e = equal_sums (s.position and nil) (h and s.margin_start and nil) (omega arith)
 
 begins_from : {a : OofAxis} {size x : Float} {g b : ℕ} {ξ : N} (s : Stands a size) → Exact g b x ξ → LeN ξ s.at → BeginsFrom a size x
-begins_from s h e = at_most_sums (h and s.marginStart and nil) (s.position and nil) (omega arith)
+begins_from s h e = at_most_sums (h and s.margin_start and nil) (s.position and nil) (omega arith)
 
 begins_by : {a : OofAxis} {size x : Float} {g b : ℕ} {ξ : N} (s : Stands a size) → Exact g b x ξ → LeN s.at ξ → BeginsBy a size x
-begins_by s h e = at_most_sums (s.position and nil) (h and s.marginStart and nil) (omega arith)
+begins_by s h e = at_most_sums (s.position and nil) (h and s.margin_start and nil) (omega arith)
 
 -- the margin box's size
 abbrev box_of : {a : OofAxis} {size : Float} → Stands a size → N
 box_of s = add_n (add_n s.u s.ms) s.me
 
 ends_at : {a : OofAxis} {size x : Float} {g b : ℕ} {ξ : N} (s : Stands a size) → Exact g b x ξ → EqN (add_n s.at (box_of s)) ξ → EndsAt a size x
-ends_at s h e = equal_sums (s.position and s.border and s.marginEnd and nil) (h and nil) (omega arith)
+ends_at s h e = equal_sums (s.position and s.border and s.margin_end and nil) (h and nil) (omega arith)
 
 ends_by : {a : OofAxis} {size x : Float} {g b : ℕ} {ξ : N} (s : Stands a size) → Exact g b x ξ → LeN (add_n s.at (box_of s)) ξ → EndsBy a size x
-ends_by s h e = at_most_sums (s.position and s.border and s.marginEnd and nil) (h and nil) (omega arith)
+ends_by s h e = at_most_sums (s.position and s.border and s.margin_end and nil) (h and nil) (omega arith)
 
 ends_from : {a : OofAxis} {size x : Float} {g b : ℕ} {ξ : N} (s : Stands a size) → Exact g b x ξ → LeN ξ (add_n s.at (box_of s)) → EndsFrom a size x
-ends_from s h e = at_most_sums (h and nil) (s.position and s.border and s.marginEnd and nil) (omega arith)
+ends_from s h e = at_most_sums (h and nil) (s.position and s.border and s.margin_end and nil) (omega arith)
 
 is_absent : (m : MaybeF32) → m ≡ None → present m ≡ false
 unfolding present
@@ -110,10 +110,10 @@ module _ (L A S : ℕ) (room : 10 * L + 6 * A + S < 16777216) (a : OofAxis) (α 
   line = block_exact L A (omega arith) a α h
 
   given_start : Exact 4 L (or_zero a.margin.start) μ.start
-  given_start = or_zero_exact a.margin.start α.margin.start h.marginStart
+  given_start = or_zero_exact a.margin.start α.margin.start h.margin_start
 
   given_end : Exact 4 L (or_zero a.margin.end) μ.end
-  given_end = or_zero_exact a.margin.end α.margin.end h.marginEnd
+  given_end = or_zero_exact a.margin.end α.margin.end h.margin_end
 
   -- the margin box as a float
   box : Exact 4 (2 * L + S) (margin_box a size) (box_n u μ)
@@ -151,8 +151,8 @@ module _ (L A S : ℕ) (room : 10 * L + 6 * A + S < 16777216) (a : OofAxis) (α 
   abbrev aligned : Aligned a → Stands a size
   aligned g =
       stands μ (self_n a.safety (shape a) α.size ℓ (box_n u μ) told)
-      (rw (g.insets.start, g.insets.end, g.marginStart, g.marginEnd) refl)
-      (rw (g.insets.start, g.insets.end, g.marginStart, g.marginEnd) refl)
+      (rw (g.insets.start, g.insets.end, g.margin_start, g.margin_end) refl)
+      (rw (g.insets.start, g.insets.end, g.margin_start, g.margin_end) refl)
 
   -- ---- tests and evenness
 
@@ -195,7 +195,7 @@ module _ (L A S : ℕ) (room : 10 * L + 6 * A + S < 16777216) (a : OofAxis) (α 
       let s = aligned g in
       let e = fits_told a.safety (shape a) α.size ℓ (box_n u μ) told (fits f) ∙ ap (λ (k : OofAlignment). align_n ℓ (box_n u μ) (align_of k a.reversed)) c in
       let t = half_twice (sub_n (add_n ℓ.start ℓ.end) (box_n u μ)) middle in
-      equal_sums (s.position and s.position and s.border and s.marginEnd and nil) (line.start and line.end and s.marginStart and nil) (rw e (omega (arith, t)))
+      equal_sums (s.position and s.position and s.border and s.margin_end and nil) (line.start and line.end and s.margin_start and nil) (rw e (omega (arith, t)))
 
   end_at : Aligned a → a.alignment ≡ align.End → le (margin_box a size) (span (block a)) ≡ true → AtTheEnd a size
   end_at g c f =
@@ -252,10 +252,10 @@ module _ (L A S : ℕ) (room : 10 * L + 6 * A + S < 16777216) (a : OofAxis) (α 
   unsafe_exact =
       record {
         size = h.size;
-        inset_start = h.insetStart;
-        inset_end = h.insetEnd;
-        margin_start = h.marginStart;
-        margin_end = h.marginEnd;
+        inset_start = h.inset_start;
+        inset_end = h.inset_end;
+        margin_start = h.margin_start;
+        margin_end = h.margin_end;
         area = h.area;
       }
 
@@ -284,7 +284,7 @@ module _ (L A S : ℕ) (room : 10 * L + 6 * A + S < 16777216) (a : OofAxis) (α 
   end_inset_at y p q =
       let absent = is_absent a.inset.start p in
       let given = is_given a.inset.end y q in
-      equal_sums (place_exact L A S room a α h hu and hu and margin_end_lem absent and inset a.inset.end y q h.insetEnd and nil) (h.size and nil)
+      equal_sums (place_exact L A S room a α h hu and hu and margin_end_lem absent and inset a.inset.end y q h.inset_end and nil) (h.size and nil)
       (rw (place absent given, far_end absent given) (omega arith))
     where
       place : present a.inset.start ≡ false → present a.inset.end ≡ true → place_n (shape a) α u ≡ sub_n (sub_n ℓ.end u) μ.end
@@ -335,7 +335,7 @@ module _ (L A S : ℕ) (room : 10 * L + 6 * A + S < 16777216) (a : OofAxis) (α 
   abbrev unsafe : Aligned a → Stands (with_safety Unsafe a) size
   unsafe g =
       aligned L A S room (with_safety Unsafe a) α (unsafe_exact L A S room a α h hu) hu
-      (record { insets = record { start = g.insets.start; end = g.insets.end }; margin_start = g.marginStart; margin_end = g.marginEnd })
+      (record { insets = record { start = g.insets.start; end = g.insets.end }; margin_start = g.margin_start; margin_end = g.margin_end })
 
   module _ (o : Overflows a size) where
     abbrev s : Stands a size
@@ -354,16 +354,16 @@ module _ (L A S : ℕ) (room : 10 * L + 6 * A + S < 16777216) (a : OofAxis) (α 
     highest = high L A S room a α h hu
 
     told_begins_from : BeginsFrom (with_safety Unsafe a) size (bounds a).start → LeN edges.start q.at
-    told_begins_from f = let z = at_most_of (lowest and q.marginStart and nil) (q.position and nil) f in omega (arith, z)
+    told_begins_from f = let z = at_most_of (lowest and q.margin_start and nil) (q.position and nil) f in omega (arith, z)
 
     told_ends_by : EndsBy (with_safety Unsafe a) size (bounds a).end → LeN (add_n q.at (box_of q)) edges.end
-    told_ends_by f = let z = at_most_of (q.position and q.border and q.marginEnd and nil) (highest and nil) f in omega (arith, z)
+    told_ends_by f = let z = at_most_of (q.position and q.border and q.margin_end and nil) (highest and nil) f in omega (arith, z)
 
     told_begins_by : BeginsBy (with_safety Unsafe a) size (bounds a).start → LeN q.at edges.start
-    told_begins_by f = let z = at_most_of (q.position and nil) (lowest and q.marginStart and nil) f in omega (arith, z)
+    told_begins_by f = let z = at_most_of (q.position and nil) (lowest and q.margin_start and nil) f in omega (arith, z)
 
     told_ends_from : EndsFrom (with_safety Unsafe a) size (bounds a).end → LeN edges.end (add_n q.at (box_of q))
-    told_ends_from f = let z = at_most_of (highest and nil) (q.position and q.border and q.marginEnd and nil) f in omega (arith, z)
+    told_ends_from f = let z = at_most_of (highest and nil) (q.position and q.border and q.margin_end and nil) f in omega (arith, z)
 
     no_more_at : (a.scrolls && a.reversed ≡ false → BeginsFrom (with_safety Unsafe a) size (bounds a).start)
         → (a.scrolls && not a.reversed ≡ false → EndsBy (with_safety Unsafe a) size (bounds a).end)

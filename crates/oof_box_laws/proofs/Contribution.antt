@@ -259,26 +259,26 @@ module _ (container : ContainingBlock) (style : Style) (l : Layout) (h : Fine co
   abbrev y_line : Line
   y_line = reach y_shows l.size.height (line_y l.overflow)
 
-  x_reach : Reached x_shows l.size.width (line_x l.overflow) (units h.sizeX) (units h.left) (units h.right)
-  x_reach = reached x_shows (exactly h.sizeX) (exactly h.left) (exactly h.right)
+  x_reach : Reached x_shows l.size.width (line_x l.overflow) (units h.size_x) (units h.left) (units h.right)
+  x_reach = reached x_shows (exactly h.size_x) (exactly h.left) (exactly h.right)
 
-  y_reach : Reached y_shows l.size.height (line_y l.overflow) (units h.sizeY) (units h.top) (units h.bottom)
-  y_reach = reached y_shows (exactly h.sizeY) (exactly h.top) (exactly h.bottom)
+  y_reach : Reached y_shows l.size.height (line_y l.overflow) (units h.size_y) (units h.top) (units h.bottom)
+  y_reach = reached y_shows (exactly h.size_y) (exactly h.top) (exactly h.bottom)
 
   -- lines that the reach holds
   across_held : (x : Line) {α β : N} → Exact 1 bound x.start α → Exact 1 bound x.end β → LeN x_reach.first α → LeN β x_reach.last → HoldsAcross container l (placed_at origin.x x_line) x
   unfolding from_origin
   across_held x a b i j = (
-    λ e. rw e (forwards (exactly h.offset_x) (exactly h.x) (exactly h.width) (exactly h.sizeX) x_reach.start x_reach.end a b i j),
-    λ e. rw e (backwards (exactly h.offset_x) (exactly h.x) (exactly h.width) (exactly h.sizeX) x_reach.start x_reach.end a b i j),
+    λ e. rw e (forwards (exactly h.offset_x) (exactly h.x) (exactly h.width) (exactly h.size_x) x_reach.start x_reach.end a b i j),
+    λ e. rw e (backwards (exactly h.offset_x) (exactly h.x) (exactly h.width) (exactly h.size_x) x_reach.start x_reach.end a b i j),
   )
 
   down_held : (y : Line) {α β : N} → Exact 1 bound y.start α → Exact 1 bound y.end β → LeN y_reach.first α → LeN β y_reach.last → HoldsDown container l (placed_at origin.y y_line) y
   unfolding from_origin
-  down_held y a b i j = forwards (exactly h.offset_y) (exactly h.y) (exactly h.width) (exactly h.sizeY) y_reach.start y_reach.end a b i j
+  down_held y a b i j = forwards (exactly h.offset_y) (exactly h.y) (exactly h.width) (exactly h.size_y) y_reach.start y_reach.end a b i j
 
   box_held : HoldsTheBox container l (rect_of (placed_at origin.x x_line) (placed_at origin.y y_line))
-  box_held = (across_held (0f to l.size.width) zero (exactly h.sizeX) x_reach.low x_reach.high, down_held (0f to l.size.height) zero (exactly h.sizeY) y_reach.low y_reach.high)
+  box_held = (across_held (0f to l.size.width) zero (exactly h.size_x) x_reach.low x_reach.high, down_held (0f to l.size.height) zero (exactly h.size_y) y_reach.low y_reach.high)
 
   abbrev found : Rect
   found = contribution origin l.size l.overflow style.overflow style.contain (any_scroll_container container.overflow)
@@ -338,38 +338,38 @@ unfolding contribution
 not_zeros at size own overflow contain scrolls e f = rw (e, f) refl
 
 module _ (container : ContainingBlock) (style : Style) (l : Layout) (h : Fine container l) where
-  abbrev x : Reached (x_shows container style l h) l.size.width (line_x l.overflow) (units h.sizeX) (units h.left) (units h.right)
+  abbrev x : Reached (x_shows container style l h) l.size.width (line_x l.overflow) (units h.size_x) (units h.left) (units h.right)
   x = x_reach container style l h
 
-  abbrev y : Reached (y_shows container style l h) l.size.height (line_y l.overflow) (units h.sizeY) (units h.top) (units h.bottom)
+  abbrev y : Reached (y_shows container style l h) l.size.height (line_y l.overflow) (units h.size_y) (units h.top) (units h.bottom)
   y = y_reach container style l h
 
   -- an extent above 0
   wide : lt 0f l.size.width ≡ true → le (x_line container style l h).end 0f ≡ false
-  wide e = let p = below zero_n (units h.sizeX) (sym (lt_exact zero (exactly h.sizeX)) ∙ e) in le_exact x.end zero ∙ at_most_false x.last zero_n (λ q. omega (arith, p, q, x.high))
+  wide e = let p = below zero_n (units h.size_x) (sym (lt_exact zero (exactly h.size_x)) ∙ e) in le_exact x.end zero ∙ at_most_false x.last zero_n (λ q. omega (arith, p, q, x.high))
 
   tall : lt 0f l.size.height ≡ true → le (y_line container style l h).end 0f ≡ false
-  tall e = let p = below zero_n (units h.sizeY) (sym (lt_exact zero (exactly h.sizeY)) ∙ e) in le_exact y.end zero ∙ at_most_false y.last zero_n (λ q. omega (arith, p, q, y.high))
+  tall e = let p = below zero_n (units h.size_y) (sym (lt_exact zero (exactly h.size_y)) ∙ e) in le_exact y.end zero ∙ at_most_false y.last zero_n (λ q. omega (arith, p, q, y.high))
 
   -- an end after the start edge
   left_to_right_lem : (l.location.x ∷ l.size.width ∷ [] ≤Σ container.area.offset.x ∷ [] → ⊥) → le (l.location.x ⊖ container.area.offset.x ⊕ (x_line container style l h).end) 0f ≡ false
   left_to_right_lem f =
       le_exact (add_exact (sub_exact (exactly h.x) (exactly h.offset_x) (lit< tt)) x.end (lit< tt)) zero
       ∙ at_most_false (add_n (sub_n (units h.x) (units h.offset_x)) x.last) zero_n
-      (λ q. f (at_most_sums (exactly h.x and exactly h.sizeX and nil) (exactly h.offset_x and nil) (omega (arith, q, x.high))))
+      (λ q. f (at_most_sums (exactly h.x and exactly h.size_x and nil) (exactly h.offset_x and nil) (omega (arith, q, x.high))))
 
   right_to_left_lem : (container.area.offset.x ∷ container.area.size.width ∷ [] ≤Σ l.location.x ∷ [] → ⊥)
       → le (container.area.size.width ⊖ (l.location.x ⊖ container.area.offset.x) ⊖ l.size.width ⊕ (x_line container style l h).end) 0f ≡ false
   right_to_left_lem f =
-      le_exact (add_exact (sub_exact (sub_exact (exactly h.width) (sub_exact (exactly h.x) (exactly h.offset_x) (lit< tt)) (lit< tt)) (exactly h.sizeX) (lit< tt)) x.end (lit< tt)) zero
-      ∙ at_most_false (add_n (sub_n (sub_n (units h.width) (sub_n (units h.x) (units h.offset_x))) (units h.sizeX)) x.last) zero_n
+      le_exact (add_exact (sub_exact (sub_exact (exactly h.width) (sub_exact (exactly h.x) (exactly h.offset_x) (lit< tt)) (lit< tt)) (exactly h.size_x) (lit< tt)) x.end (lit< tt)) zero
+      ∙ at_most_false (add_n (sub_n (sub_n (units h.width) (sub_n (units h.x) (units h.offset_x))) (units h.size_x)) x.last) zero_n
       (λ q. f (at_most_sums (exactly h.offset_x and exactly h.width and nil) (exactly h.x and nil) (omega (arith, q, x.high))))
 
   downwards : (l.location.y ∷ l.size.height ∷ [] ≤Σ container.area.offset.y ∷ [] → ⊥) → le (l.location.y ⊖ container.area.offset.y ⊕ (y_line container style l h).end) 0f ≡ false
   downwards f =
       le_exact (add_exact (sub_exact (exactly h.y) (exactly h.offset_y) (lit< tt)) y.end (lit< tt)) zero
       ∙ at_most_false (add_n (sub_n (units h.y) (units h.offset_y)) y.last) zero_n
-      (λ q. f (at_most_sums (exactly h.y and exactly h.sizeY and nil) (exactly h.offset_y and nil) (omega (arith, q, y.high))))
+      (λ q. f (at_most_sums (exactly h.y and exactly h.size_y and nil) (exactly h.offset_y and nil) (omega (arith, q, y.high))))
 
   past : PastTheStart container l → le (placed_at (origin container style l h).x (x_line container style l h)).end 0f || le (placed_at (origin container style l h).y (y_line container style l h)).end 0f ≡ false
   unfolding from_origin placed_at
@@ -404,7 +404,7 @@ as_long hp hu hs he i j = equal_sums (add_exact hp hs (lit< tt) and hu and nil) 
 module _ (container : ContainingBlock) (style : Style) (l : Layout) (h : Fine container l) where
   x_from : (d : Direction) → (o : N) × Exact 1 (4 * bound) (cond (is_rtl d) (container.area.size.width ⊖ (l.location.x ⊖ container.area.offset.x) ⊖ l.size.width) (l.location.x ⊖ container.area.offset.x)) o
   x_from Ltr = (_, widen (lit≤ tt) (sub_exact (exactly h.x) (exactly h.offset_x) (lit< tt)))
-  x_from Rtl = (_, sub_exact (sub_exact (exactly h.width) (sub_exact (exactly h.x) (exactly h.offset_x) (lit< tt)) (lit< tt)) (exactly h.sizeX) (lit< tt))
+  x_from Rtl = (_, sub_exact (sub_exact (exactly h.width) (sub_exact (exactly h.x) (exactly h.offset_x) (lit< tt)) (lit< tt)) (exactly h.size_x) (lit< tt))
 
   x_origin : (o : N) × Exact 1 (4 * bound) (origin container style l h).x o
   unfolding from_origin
@@ -419,10 +419,10 @@ module _ (container : ContainingBlock) (style : Style) (l : Layout) (h : Fine co
       let x = x_reach container style l h in
       let y = y_reach container style l h in
       or_zeros container style l h (λ r. (r.left ∷ l.size.width ∷ [] =Σ r.right ∷ []) × (r.top ∷ l.size.height ∷ [] =Σ r.bottom ∷ [])) (
-        as_long x_origin.1 (exactly h.sizeX) x.start x.end (x.low_within (at_most zero_n (units h.left) (sym (le_exact zero (exactly h.left)) ∙ i.0)))
-            (x.high_within (at_most (units h.right) (units h.sizeX) (sym (le_exact (exactly h.right) (exactly h.sizeX)) ∙ i.1))),
-        as_long y_origin.1 (exactly h.sizeY) y.start y.end (y.low_within (at_most zero_n (units h.top) (sym (le_exact zero (exactly h.top)) ∙ i.2)))
-            (y.high_within (at_most (units h.bottom) (units h.sizeY) (sym (le_exact (exactly h.bottom) (exactly h.sizeY)) ∙ i.3))),
+        as_long x_origin.1 (exactly h.size_x) x.start x.end (x.low_within (at_most zero_n (units h.left) (sym (le_exact zero (exactly h.left)) ∙ i.0)))
+            (x.high_within (at_most (units h.right) (units h.size_x) (sym (le_exact (exactly h.right) (exactly h.size_x)) ∙ i.1))),
+        as_long y_origin.1 (exactly h.size_y) y.start y.end (y.low_within (at_most zero_n (units h.top) (sym (le_exact zero (exactly h.top)) ∙ i.2)))
+            (y.high_within (at_most (units h.bottom) (units h.size_y) (sym (le_exact (exactly h.bottom) (exactly h.size_y)) ∙ i.3))),
       )
 
 pub contribution_holds_no_more : ContributionHoldsNoMore
@@ -501,10 +501,10 @@ counted container style l =
       union = rect_of (placed_at at.x x) (placed_at at.y y);
       union_x =
           λ h. (
-            λ e. rw e (is_forwards (exactly h.offset_x) (exactly h.x) (exactly h.width) (exactly h.sizeX) (x_reach container style l h).start (x_reach container style l h).end),
-            λ e. rw e (is_backwards (exactly h.offset_x) (exactly h.x) (exactly h.width) (exactly h.sizeX) (x_reach container style l h).start (x_reach container style l h).end),
+            λ e. rw e (is_forwards (exactly h.offset_x) (exactly h.x) (exactly h.width) (exactly h.size_x) (x_reach container style l h).start (x_reach container style l h).end),
+            λ e. rw e (is_backwards (exactly h.offset_x) (exactly h.x) (exactly h.width) (exactly h.size_x) (x_reach container style l h).start (x_reach container style l h).end),
           );
-      union_y = λ h. is_forwards (exactly h.offset_y) (exactly h.y) (exactly h.width) (exactly h.sizeY) (y_reach container style l h).start (y_reach container style l h).end;
+      union_y = λ h. is_forwards (exactly h.offset_y) (exactly h.y) (exactly h.width) (exactly h.size_y) (y_reach container style l h).start (y_reach container style l h).end;
       empty = empty_zeros at scrolls x y;
       unreachable = λ s. unreachable_zeros at scrolls x y (is_scroller container.overflow s);
       counts =

@@ -225,8 +225,8 @@ fills a plain offset s positive q =
     let none = quarters_of 0 zero_exact in
     rw (same_fit a two, same_placement a two (stretch_fit a), same_block a two) at
     (fills_with (without_static a) offset (record { start = i.0; end = i.1 }) (rw (same_fit a two) positive)
-    (record { size = q.area; inset_start = q.insetStart; inset_end = q.insetEnd; margin_start = q.marginStart; margin_end = q.marginEnd; area_start = none; area_end = none })
-    q.areaOffset)
+    (record { size = q.area; inset_start = q.inset_start; inset_end = q.inset_end; margin_start = q.margin_start; margin_end = q.margin_end; area_start = none; area_end = none })
+    q.area_offset)
 
 -- ---- the placed box
 
@@ -236,9 +236,9 @@ stretched_box_fills_its_block container style candidate k t =
     let size = stretch_fills container style candidate k t in
     let stands = stands_by_its_axes container style candidate in (
       λ e s q. always_map _ _ (placed container style candidate)
-          (λ p h. rw (h.1.0, h.1.2, h.0, unchanged _ s.room _ _ s.atLeastMin s.atMostMax) (fills box.horizontal _ _ s.stretching s.room q))
+          (λ p h. rw (h.1.0, h.1.2, h.0, unchanged _ s.room _ _ s.at_least_min s.at_most_max) (fills box.horizontal _ _ s.stretching s.room q))
           (always_both _ _ (placed container style candidate) (size.0 e s.stretching) stands),
       λ e s q. always_map _ _ (placed container style candidate)
-          (λ p h. rw (h.1.1, h.1.2, h.0, unchanged _ s.room _ _ s.atLeastMin s.atMostMax) (fills box.vertical _ _ s.stretching s.room q))
+          (λ p h. rw (h.1.1, h.1.2, h.0, unchanged _ s.room _ _ s.at_least_min s.at_most_max) (fills box.vertical _ _ s.stretching s.room q))
           (always_both _ _ (placed container style candidate) (size.1 e s.stretching) stands),
     )

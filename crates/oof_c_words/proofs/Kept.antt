@@ -232,7 +232,7 @@ past s reply surfaced l e =
     }
 
 replies_of_lem : (s : State) → Floats s → FitsReplies s.replies
-replies_of_lem s f = record { width = f.keywordWidth; height = f.keywordHeight; fill = f.fill }
+replies_of_lem s f = record { width = f.keyword_width; height = f.keyword_height; fill = f.fill }
 
 measured_whole : (s : State) (reply : Reply) (replies : Replies) (surfaced : List ℕ) (l : Lent) → Floats s → FitsReply reply → Past s reply surfaced l
     → taken_by s reply ≡ Kept replies

@@ -84,7 +84,7 @@ state_back s f n =
     λ j. record {
       progress = progress_back s.progress j;
       replies =
-          record { keyword = keyword_back s.replies.keyword f.keywordWidth f.keywordHeight j; fill = fill_back s.replies.fill f.fill j };
+          record { keyword = keyword_back s.replies.keyword f.keyword_width f.keyword_height j; fill = fill_back s.replies.fill f.fill j };
       counts =
           record {
             filled =
@@ -115,10 +115,10 @@ state_back s f n =
             claims = claims_back s.opened.claims j;
             extents =
                 record {
-                  styles = count_back s.opened.extents.styles n.stylesLent j;
-                  layouts = count_back s.opened.extents.layouts n.layoutsLent j;
-                  working = count_back s.opened.extents.working n.workingLent j;
-                  unclaimed = count_back s.opened.extents.unclaimed n.unclaimedLent j;
+                  styles = count_back s.opened.extents.styles n.styles_lent j;
+                  layouts = count_back s.opened.extents.layouts n.layouts_lent j;
+                  working = count_back s.opened.extents.working n.working_lent j;
+                  unclaimed = count_back s.opened.extents.unclaimed n.unclaimed_lent j;
                 };
           };
     }

@@ -54,12 +54,12 @@ number absent = (zero_n, tt)
 
 pub axis_exact : (a : OofAxis) → AxisIn a → (α : AxisN) × ExactAxis length_bound static_bound a α
 axis_exact a h =
-    let is = number h.insetStart in
-    let ie = number h.insetEnd in
-    let ms = number h.marginStart in
-    let me = number h.marginEnd in (
-      record { size = h.size.a; inset = is.0 toN ie.0; margin = ms.0 toN me.0; area = h.area_start.a toN h.areaEnd.a },
-      record { size = h.size.l; inset_start = is.1; inset_end = ie.1; margin_start = ms.1; margin_end = me.1; area = record { start = h.area_start.l; end = h.areaEnd.l } },
+    let is = number h.inset_start in
+    let ie = number h.inset_end in
+    let ms = number h.margin_start in
+    let me = number h.margin_end in (
+      record { size = h.size.a; inset = is.0 toN ie.0; margin = ms.0 toN me.0; area = h.area_start.a toN h.area_end.a },
+      record { size = h.size.l; inset_start = is.1; inset_end = ie.1; margin_start = ms.1; margin_end = me.1; area = record { start = h.area_start.l; end = h.area_end.l } },
     )
 
 fit_in : (a : OofAxis) → AxisIn a → In fit_bound (stretch_fit a)
@@ -69,7 +69,7 @@ pub keyword_in : (a : OofAxis) → AxisIn a → In size_bound (absolute_stretch 
 unfolding absolute_stretch
 keyword_in a h =
     larger_same
-    (sub_same (sub_same (sub_same (sub_same h.size (or_zero_lem h.insetStart) (lit< tt)) (or_zero_lem h.insetEnd) (lit< tt)) (or_zero_lem h.marginStart) (lit< tt)) (or_zero_lem h.marginEnd) (lit< tt))
+    (sub_same (sub_same (sub_same (sub_same h.size (or_zero_lem h.inset_start) (lit< tt)) (or_zero_lem h.inset_end) (lit< tt)) (or_zero_lem h.margin_start) (lit< tt)) (or_zero_lem h.margin_end) (lit< tt))
     zero_same
 
 -- ---- the box

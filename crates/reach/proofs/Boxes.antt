@@ -128,19 +128,19 @@ module _ (c : ContainingBlock) (overflow : Rect) (box : Layout) where
 
     least_across : SharesPatch c overflow box x y → ((i j : ℕ) → SharesPatch c overflow box i j → (x ≤ i) × (y ≤ j)) → IsLeast x_axis (At x)
     least_across s f =
-        (s.offsetAcross, s.width, λ i h. is_false (shares x_axis i) (λ e. let k = (f i y (record { offset_across = let l = s.offsetAcross in omega arith; offset_down = s.offsetDown; width = e; height = s.height })).0 in absurd (omega arith)))
+        (s.offset_across, s.width, λ i h. is_false (shares x_axis i) (λ e. let k = (f i y (record { offset_across = let l = s.offset_across in omega arith; offset_down = s.offset_down; width = e; height = s.height })).0 in absurd (omega arith)))
 
     least_down : SharesPatch c overflow box x y → ((i j : ℕ) → SharesPatch c overflow box i j → (x ≤ i) × (y ≤ j)) → IsLeast y_axis (At y)
     least_down s f =
-        (s.offsetDown, s.height, λ j h. is_false (shares y_axis j) (λ e. let k = (f x j (record { offset_across = s.offsetAcross; offset_down = let l = s.offsetDown in omega arith; width = s.width; height = e })).1 in absurd (omega arith)))
+        (s.offset_down, s.height, λ j h. is_false (shares y_axis j) (λ e. let k = (f x j (record { offset_across = s.offset_across; offset_down = let l = s.offset_down in omega arith; width = s.width; height = e })).1 in absurd (omega arith)))
 
     both_least : all ≡ true → IsLeast x_axis (At x) → IsLeast y_axis (At y) → box_reached c overflow box ≡ Seen x y
     both_least e f g = box_told ∙ rw (e, (least_is x_axis (At x)).1 f, (least_is y_axis (At y)).1 g) refl
 
   -- on an axis with no offset that does, no pair does
   no_pair : (least x_axis ≡ Nowhere) ⊎ (least y_axis ≡ Nowhere) → (i j : ℕ) → ¬ SharesPatch c overflow box i j
-  no_pair (inl e) i j s = no s.width ((least_is x_axis Nowhere).0 e i s.offsetAcross)
-  no_pair (inr e) i j s = no s.height ((least_is y_axis Nowhere).0 e j s.offsetDown)
+  no_pair (inl e) i j s = no s.width ((least_is x_axis Nowhere).0 e i s.offset_across)
+  no_pair (inr e) i j s = no s.height ((least_is y_axis Nowhere).0 e j s.offset_down)
 
   none_told : ((i j : ℕ) → ¬ SharesPatch c overflow box i j) → (p q : Offset) → IsLeast x_axis p → IsLeast y_axis q → told true p q ≡ Unseen
   none_told n Nowhere q f g = refl

@@ -159,8 +159,8 @@ patch_is_shown c rectangle box x y = (there, back)
     there : SharesPatch c rectangle box x y → ShowsPatch c rectangle box x y
     there s =
         record {
-          offset_across = (along_offset _ _ _ _ _ _ _ x).0 s.offsetAcross;
-          offset_down = (along_offset _ _ _ _ _ _ _ y).0 s.offsetDown;
+          offset_across = (along_offset _ _ _ _ _ _ _ x).0 s.offset_across;
+          offset_down = (along_offset _ _ _ _ _ _ _ y).0 s.offset_down;
           width = (along_shown _ _ _ _ _ _ _ x).0 s.width;
           height = (along_shown _ _ _ _ _ _ _ y).0 s.height;
         }
@@ -168,8 +168,8 @@ patch_is_shown c rectangle box x y = (there, back)
     back : ShowsPatch c rectangle box x y → SharesPatch c rectangle box x y
     back s =
         record {
-          offset_across = (along_offset _ _ _ _ _ _ _ x).1 s.offsetAcross;
-          offset_down = (along_offset _ _ _ _ _ _ _ y).1 s.offsetDown;
+          offset_across = (along_offset _ _ _ _ _ _ _ x).1 s.offset_across;
+          offset_down = (along_offset _ _ _ _ _ _ _ y).1 s.offset_down;
           width = (along_shown _ _ _ _ _ _ _ x).1 s.width;
           height = (along_shown _ _ _ _ _ _ _ y).1 s.height;
         }

@@ -90,6 +90,6 @@ all_accepted_lem c overflow box h = go (all_accepted (numbers_of c.area overflow
 
 pub mirrored_box : MirroredBox
 mirrored_box c c' overflow overflow' box box' h =
-    reached_alike c c' overflow overflow' box box' (all_accepted_lem c overflow box h.accepted ∙ sym (all_accepted_lem c' overflow' box' h.imageAccepted))
+    reached_alike c c' overflow overflow' box box' (all_accepted_lem c overflow box h.accepted ∙ sym (all_accepted_lem c' overflow' box' h.image_accepted))
     (across_alike c overflow overflow' box box' h.x h.width h.right ∙ ap (λ (c : ContainingBlock). across c overflow' box') (sym h.image))
     (down_alike c overflow overflow' box box' h.y h.height h.bottom ∙ ap (λ (c : ContainingBlock). down c overflow' box') (sym h.image))

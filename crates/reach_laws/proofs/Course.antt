@@ -124,7 +124,7 @@ module _ (o : Opening) where
           → All (QuarterHeard (claims_of o)) (heeded styles (turned styles x m.turn) (turns_of ms))
           → All (QuarterHeard (claims_of o)) (cond b (heeded styles (turned styles x m.turn) (turns_of ms)) (m.turn.heard ∷ heeded styles (turned styles x m.turn) (turns_of ms)))
       go true e rest = rest
-      go false e rest = ((fair.0.quarters e, subst (λ (by : ContainingBlockClaims). claimed by (candidates_in (surfaced_in m.turn)) ≡ []) h.claims (fair.0.surfacesNone e)), rest)
+      go false e rest = ((fair.0.quarters e, subst (λ (by : ContainingBlockClaims). claimed by (candidates_in (surfaced_in m.turn)) ≡ []) h.claims (fair.0.surfaces_none e)), rest)
 
 -- ---- a run whose opening was refused: a finished one, without a box, stays so
 

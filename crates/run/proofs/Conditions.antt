@@ -177,7 +177,7 @@ style_decided styles = record { holds = λ t. there (checked styles) refl t; fai
   where
     there : (c : TableCheck) → checked styles ≡ c → is_bad c ≡ true → StyleIsBad styles
     there Good e t = no {b = false} t refl
-    there (Bad i k) e t = let f = (bad_is_first styles i k).0 e in (i, k, f.item-there, f.word-there, (word_decided styles i k).holds f.breaks-it)
+    there (Bad i k) e t = let f = (bad_is_first styles i k).0 e in (i, k, f.item_there, f.word_there, (word_decided styles i k).holds f.breaks_it)
 
     back : (c : TableCheck) → checked styles ≡ c → is_bad c ≡ false → ¬ StyleIsBad styles
     back Good e f s = (word_decided styles s.0 s.1).fails ((good_is_none styles).0 e s.0 s.2 s.1 s.3) s.4

@@ -24,21 +24,21 @@ named_exactly styles i k = (λ e. there ((bad_is_first styles i k).0 e), λ f. (
     there : First styles i k → FirstNotAllowed styles i k
     there f =
         record {
-          item_there = f.item-there;
-          word_there = f.word-there;
-          not_allowed = (word_decided styles i k).holds f.breaks-it;
-          words_before = λ l p. (word_exactly styles i l).0 (f.words-before l p);
-          items_before = λ j p l q. (word_exactly styles j l).0 (f.items-before j p l q);
+          item_there = f.item_there;
+          word_there = f.word_there;
+          not_allowed = (word_decided styles i k).holds f.breaks_it;
+          words_before = λ l p. (word_exactly styles i l).0 (f.words_before l p);
+          items_before = λ j p l q. (word_exactly styles j l).0 (f.items_before j p l q);
         }
 
     back : FirstNotAllowed styles i k → First styles i k
     back f =
         record {
-          item_there = f.item-there;
-          word_there = f.word-there;
-          breaks_it = broken styles i k f.not-allowed;
-          words_before = λ l p. (word_exactly styles i l).1 (f.words-before l p);
-          items_before = λ j p l q. (word_exactly styles j l).1 (f.items-before j p l q);
+          item_there = f.item_there;
+          word_there = f.word_there;
+          breaks_it = broken styles i k f.not_allowed;
+          words_before = λ l p. (word_exactly styles i l).1 (f.words_before l p);
+          items_before = λ j p l q. (word_exactly styles j l).1 (f.items_before j p l q);
         }
 
 pub nothing_exactly : NothingExactly
@@ -49,6 +49,6 @@ nothing_exactly styles = (
 
 pub named_where_bad : NamedWhereBad
 named_where_bad styles = (
-  λ e. let f = (named_exactly styles e.0 e.1).0 e.2 in (e.0, e.1, f.item-there, f.word-there, f.not-allowed),
+  λ e. let f = (named_exactly styles e.0 e.1).0 e.2 in (e.0, e.1, f.item_there, f.word_there, f.not_allowed),
   λ s. some_is_found styles s.0 s.1 s.2 s.3 (broken styles s.0 s.1 s.4),
 )

@@ -133,8 +133,8 @@ screen_there text e =
       first_line = line_there (fields_of First) text parts.0 (eqb-true _ 10 parts.1);
       item_lines = subst (StartsLines Item n (drop (bytes_of First) text)) items (lines_there Item n (drop (bytes_of First) text) four.1);
       candidate_lines = subst (StartsLines Candidate m (drop (candidates_at n) text)) candidates (lines_there Candidate m (drop (candidates_at n) text) five.1);
-      few_items_lem = told.fewItems;
-      few_candidates_lem = told.fewCandidates;
+      few_items_lem = told.few_items;
+      few_candidates_lem = told.few_candidates;
     }
 
 there_screen : (text : List ℕ) → IsScreen text → is_screen text ≡ true
@@ -142,15 +142,15 @@ unfolding is_screen good_line bytes_of candidates_at screen_bytes
 there_screen text s =
     let n = item_count text in
     let m = candidate_count text in
-    let p = there_line s.first-line in
-    let q = there_lines s.item-lines in
-    let r = there_lines s.candidate-lines in
+    let p = there_line s.first_line in
+    let q = there_lines s.item_lines in
+    let r = there_lines s.candidate_lines in
     let after : drop (candidates_at n) text ≡ s.candidates = sym (drop-drop (n * bytes_of Item) (bytes_of First) text) ∙ ap (drop (n * bytes_of Item)) p.after ∙ q.after in
     let bytes : length text ≡ screen_bytes n m = let a = p.bytes in let b = q.bytes in let c = r.bytes in omega arith in
     true_both
     (true_both
     (true_both
-    (true_both (true_both (true_both p.good (eq-eqb _ 10 p.feed)) (le-leb n 128 s.few-items)) (le-leb m 256 s.few-candidates))
+    (true_both (true_both (true_both p.good (eq-eqb _ 10 p.feed)) (le-leb n 128 s.few_items_lem)) (le-leb m 256 s.few_candidates_lem))
     (eq-eqb (length text) (screen_bytes n m) bytes))
     (subst (λ (t : List ℕ). good_lines Item n t ≡ true) (sym p.after) q.good))
     (subst (λ (t : List ℕ). good_lines Candidate m t ≡ true) (sym after) r.good)

@@ -25,8 +25,8 @@ pub screen_size : ScreenSize
 screen_size text e =
     let t = screen_told text e in
     let b = t.bytes in
-    let i = t.fewItems in
-    let c = t.fewCandidates in
+    let i = t.few_items in
+    let c = t.few_candidates in
     (b, i, c, omega arith)
 
 rows_length : (ks : List Kind) (w : ℕ) (l : Line) (n : ℕ) (text : List ℕ) → length ks ≡ w → length (rows_of ks l n text) ≡ n * w

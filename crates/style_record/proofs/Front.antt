@@ -19,13 +19,13 @@ use Rattle.style_record.proofs.First.{TableIs, good, bad, table_is}
 use Rattle.style_record.proofs.Laws.{order, good_is_none, bad_is_first}
 
 pub first_item_wins : FirstItemWins
-first_item_wins s i k j l e there inside breaking = ⊎_elim inl (λ q. ⊎_elim same (λ p. no breaking (f.items-before j p l inside)) q) (order i j)
+first_item_wins s i k j l e there inside breaking = ⊎_elim inl (λ q. ⊎_elim same (λ p. no breaking (f.items_before j p l inside)) q) (order i j)
   where
     f : First s i k
     f = (bad_is_first s i k).0 e
 
     not_before : i ≡ j → (b : Bool) → ltb l k ≡ b → k ≤ l
-    not_before same true t = no (subst (λ (x : ℕ). breaks s x l ≡ true) (sym same) breaking) (f.words-before l (ltb-true l k t))
+    not_before same true t = no (subst (λ (x : ℕ). breaks s x l ≡ true) (sym same) breaking) (f.words_before l (ltb-true l k t))
     not_before same false t = ltb-false l k t
 
     same : i ≡ j → (i < j) ⊎ ((i ≡ j) × (k ≤ l))
@@ -52,10 +52,10 @@ front_decides s t i k e long agree =
     (bad_is_first t i k).1
     (record {
       item_there = there i (length t) long;
-      word_there = f.word-there;
-      breaks_it = same i k (up_to k (omega arith)) ∙ f.breaks-it;
-      words_before = λ j p. same i j (up_to j (omega arith)) ∙ f.words-before j p;
-      items_before = λ h p l q. same h l (sooner h l p q) ∙ f.items-before h p l q;
+      word_there = f.word_there;
+      breaks_it = same i k (up_to k (omega arith)) ∙ f.breaks_it;
+      words_before = λ j p. same i j (up_to j (omega arith)) ∙ f.words_before j p;
+      items_before = λ h p l q. same h l (sooner h l p q) ∙ f.items_before h p l q;
     })
   where
     f : First s i k
@@ -133,8 +133,8 @@ module _ (s t : List ℕ) (n : ℕ) (whole : length s ≡ style_words * n) where
 
   next : (c d : TableCheck) → TableIs s c → TableIs t d → checked s ≡ c → checked (s ++ t) ≡ or_behind n c d
   next _ d (bad i k f) v e =
-      front_decides s (s ++ t) i k e (subst (λ (x : ℕ). style_words * i + style_words ≤ x) (sym (length-append s t)) (long i (length s) (length t) whole (here i f.item-there)))
-      (λ j p. front j (within i j k p f.word-there (here i f.item-there)))
+      front_decides s (s ++ t) i k e (subst (λ (x : ℕ). style_words * i + style_words ≤ x) (sym (length-append s t)) (long i (length s) (length t) whole (here i f.item_there)))
+      (λ j p. front j (within i j k p f.word_there (here i f.item_there)))
     where
       here : (i : ℕ) → i < items s → i < n
       here i p = subst (λ (x : ℕ). i < x) items_front p
@@ -149,11 +149,11 @@ module _ (s t : List ℕ) (n : ℕ) (whole : length s ≡ style_words * n) where
   next _ _ (good a) (bad i k f) e =
       (bad_is_first (s ++ t) (n + i) k).1
       (record {
-        item_there = subst (λ (x : ℕ). n + i < x) (sym items_both) (on i (items t) f.item-there);
-        word_there = f.word-there;
-        breaks_it = behind_breaks i k ∙ f.breaks-it;
-        words_before = λ j p. behind_breaks i j ∙ f.words-before j p;
-        items_before = λ h p. either h a (λ q. f.items-before (h - n) (left n h i q p));
+        item_there = subst (λ (x : ℕ). n + i < x) (sym items_both) (on i (items t) f.item_there);
+        word_there = f.word_there;
+        breaks_it = behind_breaks i k ∙ f.breaks_it;
+        words_before = λ j p. behind_breaks i j ∙ f.words_before j p;
+        items_before = λ h p. either h a (λ q. f.items_before (h - n) (left n h i q p));
       })
     where
       on : (i m : ℕ) → i < m → n + i < n + m

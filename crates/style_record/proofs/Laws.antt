@@ -65,7 +65,7 @@ good_is_none s = (λ e. there (checked s) (table_is s) e, λ a. back (checked s)
 
     back : (c : TableCheck) → TableIs s c → NoneBreaks s → c ≡ table.Good
     back _ (good a) n = refl
-    back _ (bad i k f) n = no f.breaks-it (n i f.item-there k f.word-there)
+    back _ (bad i k f) n = no f.breaks_it (n i f.item_there k f.word_there)
 
 pub order : (a b : ℕ) → (a < b) ⊎ ((a ≡ b) ⊎ (b < a))
 order a b = go (leb a b) refl
@@ -77,14 +77,14 @@ order a b = go (leb a b) refl
 -- there is one first at most
 one_item : (s : List ℕ) (i j k l : ℕ) → First s i k → First s j l → i ≡ j
 one_item s i j k l f g =
-    ⊎_elim (λ p. no f.breaks-it (g.items-before i p k f.word-there))
-    (λ q. ⊎_elim (λ e. e) (λ p. no g.breaks-it (f.items-before j p l g.word-there)) q)
+    ⊎_elim (λ p. no f.breaks_it (g.items_before i p k f.word_there))
+    (λ q. ⊎_elim (λ e. e) (λ p. no g.breaks_it (f.items_before j p l g.word_there)) q)
     (order i j)
 
 one_word : (s : List ℕ) (i k l : ℕ) → First s i k → First s i l → k ≡ l
 one_word s i k l f g =
-    ⊎_elim (λ p. no f.breaks-it (g.words-before k p))
-    (λ q. ⊎_elim (λ e. e) (λ p. no g.breaks-it (f.words-before l p)) q)
+    ⊎_elim (λ p. no f.breaks_it (g.words_before k p))
+    (λ q. ⊎_elim (λ e. e) (λ p. no g.breaks_it (f.words_before l p)) q)
     (order k l)
 
 pub bad_is_first : BadIsFirst
@@ -96,7 +96,7 @@ bad_is_first s i k = (λ e. there (checked s) (table_is s) e, λ f. back (checke
     there _ (bad j l f) e = subst (First s i) (ap word_of e) (subst (λ (x : ℕ). First s x l) (ap item_of e) f)
 
     back : (c : TableCheck) → TableIs s c → First s i k → c ≡ table.Bad i k
-    back _ (good a) f = no f.breaks-it (a i f.item-there k f.word-there)
+    back _ (good a) f = no f.breaks_it (a i f.item_there k f.word_there)
     back _ (bad j l g) f =
         let p = one_item s j i l k g f in
         let q = one_word s i l k (subst (λ (x : ℕ). First s x l) p g) f in

@@ -1,2 +1,3 @@
 // tree/: candidates and layouts.
+#![tactic(auto)]
 pub mod layout;

@@ -30,7 +30,7 @@ enum-known-answer c = search rules
 list-words-requires : tie.Need-list-words-requires
 list-words-requires c κs =
     let t = read_told c.before.before.before.before.before.before.before.before.before.before.before.before.before.before.args.text.now _ _ (sym c.before.before.before.before.before.before.answer.given.1 ∙ c.before.before.before.before.before.before.before.before.read-screen.ensures.answer) in
-    (t.fewItems, t.fewCandidates)
+    (t.few_items, t.few_candidates)
 
 returns : tie.Need-returns
 returns c =

@@ -27,19 +27,19 @@ read-fields-requires : tie.Need-read-fields-requires
 read-fields-requires c κs = let t = read_told c.before.before.before.before.before.before.args.text.now _ _ (sym c.before.before.answer.given.1 ∙ c.before.before.before.before.check-screen.ensures) in let e = t.bytes in omega (arith, first_width)
 
 read-rows-requires : tie.Need-read-rows-requires
-read-rows-requires c κs = let t = read_told c.before.before.before.before.before.before.before.before.args.text.now _ _ (sym c.before.before.before.before.answer.given.1 ∙ c.before.before.before.before.before.before.check-screen.ensures) in let e = t.bytes in let f = t.fewItems in rw item_bytes (omega (arith, item_width))
+read-rows-requires c κs = let t = read_told c.before.before.before.before.before.before.before.before.args.text.now _ _ (sym c.before.before.before.before.answer.given.1 ∙ c.before.before.before.before.before.before.check-screen.ensures) in let e = t.bytes in let f = t.few_items in rw item_bytes (omega (arith, item_width))
 
 read-rows-requires-2 : tie.Need-read-rows-requires-2
-read-rows-requires-2 c κs = let t = read_told c.before.before.before.before.before.before.before.before.before.before.args.text.now _ _ (sym c.before.before.before.before.before.before.answer.given.1 ∙ c.before.before.before.before.before.before.before.before.check-screen.ensures) in let e = t.bytes in let f = t.fewItems in rw item_bytes (omega (arith, item_width))
+read-rows-requires-2 c κs = let t = read_told c.before.before.before.before.before.before.before.before.before.before.args.text.now _ _ (sym c.before.before.before.before.before.before.answer.given.1 ∙ c.before.before.before.before.before.before.before.before.check-screen.ensures) in let e = t.bytes in let f = t.few_items in rw item_bytes (omega (arith, item_width))
 
 mul-last : tie.Need-overflow-mul-last
-mul-last c = let t = read_told c.before.before.before.before.before.before.before.before.before.before.before.args.text.now _ _ (sym c.before.before.before.before.before.before.before.answer.given.1 ∙ c.before.before.before.before.before.before.before.before.before.check-screen.ensures) in let f = t.fewItems in omega arith
+mul-last c = let t = read_told c.before.before.before.before.before.before.before.before.before.before.before.args.text.now _ _ (sym c.before.before.before.before.before.before.before.answer.given.1 ∙ c.before.before.before.before.before.before.before.before.before.check-screen.ensures) in let f = t.few_items in omega arith
 
 add-last : tie.Need-overflow-add-last
-add-last c = let t = read_told c.before.before.before.before.before.before.before.before.before.before.before.args.text.now _ _ (sym c.before.before.before.before.before.before.before.answer.given.1 ∙ c.before.before.before.before.before.before.before.before.before.check-screen.ensures) in let f = t.fewItems in omega arith
+add-last c = let t = read_told c.before.before.before.before.before.before.before.before.before.before.before.args.text.now _ _ (sym c.before.before.before.before.before.before.before.answer.given.1 ∙ c.before.before.before.before.before.before.before.before.before.check-screen.ensures) in let f = t.few_items in omega arith
 
 read-rows-requires-3 : tie.Need-read-rows-requires-3
-read-rows-requires-3 c κs = let t = read_told c.before.before.before.before.before.before.before.before.before.before.before.before.args.text.now _ _ (sym c.before.before.before.before.before.before.before.before.answer.given.1 ∙ c.before.before.before.before.before.before.before.before.before.before.check-screen.ensures) in let e = t.bytes in let f = t.fewCandidates in rw candidate_bytes (omega (arith, candidate_width_lem))
+read-rows-requires-3 c κs = let t = read_told c.before.before.before.before.before.before.before.before.before.before.before.before.args.text.now _ _ (sym c.before.before.before.before.before.before.before.before.answer.given.1 ∙ c.before.before.before.before.before.before.before.before.before.before.check-screen.ensures) in let e = t.bytes in let f = t.few_candidates in rw candidate_bytes (omega (arith, candidate_width_lem))
 
 returns : tie.Need-returns
 unfolding written

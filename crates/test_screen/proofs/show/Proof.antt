@@ -25,7 +25,7 @@ enum-known-answer c = search rules
 show-words-requires : tie.Need-show-words-requires
 show-words-requires c κs =
     let t = read_told c.before.before.before.before.before.before.before.before.before.before.before.before.before.args.text.now _ _ (sym c.before.before.before.before.before.answer.given.1 ∙ c.before.before.before.before.before.before.before.read-screen.ensures.answer) in
-    (t.fewItems, t.fewCandidates)
+    (t.few_items, t.few_candidates)
 
 returns : tie.Need-returns
 returns c = search rules

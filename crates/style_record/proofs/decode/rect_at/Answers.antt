@@ -1,0 +1,7 @@
+use Rattle.style_record.specs.Decode.{rect_at}
+use borrow.Author.Rules.{rules}
+use Rattle.style_record.proofs.decode.rect_at.Goals as goal
+
+pub returns : goal.returns
+unfolding rect_at
+returns c = simp (← c.length_at.ensures, ← c.length_at-2.ensures, ← c.length_at-3.ensures, ← c.length_at-4.ensures)

@@ -1,0 +1,7 @@
+use Rattle.tree.specs.Static.{translated}
+use borrow.Author.Rules.{rules}
+use Rattle.tree.proofs.layout.OofCandidate.translate.Goals as goal
+
+pub returns : goal.returns
+unfolding translated
+returns c = simp (← c.translate.ensures, ← c.translate-2.ensures)
