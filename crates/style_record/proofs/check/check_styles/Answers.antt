@@ -9,6 +9,7 @@ use Prim.Native.Nat.{◌*◌, ◌-◌, ◌%◌, ◌≤◌}
 use borrow.Author.Rules.{rules}
 use Rattle.style.specs.declared.resolve.Field.TheVariants as field
 use Rattle.style_record.proofs.check.check_styles.Goals as goal
+use Rattle.style_record.proofs.check.check_styles.Goals.{else-items-test, then-items-test+then-loop-k-test+then-not-takes, then-items-test+else-loop-k-test+then-loop-k-2-test+then-not-takes-2, then-items-test+else-loop-k-test+else-loop-k-2-test+then-loop-k-3-test+then-not-takes-3, then-items-test+else-loop-k-test+else-loop-k-2-test+else-loop-k-3-test+then-loop-k-4-test+then-code_breaks}
 
 pub items-init : goal.items-init
 items-init c = (search rules, simp sub-zero)
@@ -44,15 +45,13 @@ items-preserved c = (search rules, c.items.invariant.1 ∙ item_good _ _ _ c.ite
 pub returns-then-i-n : goal.returns-then-i-n
 unfolding checked items
 returns-then-i-n c =
-    ⊎_elim (λ w. absurd (omega (arith, w.0.left, c.if-i-n.true)))
-    (⊎_elim
-    (λ w. rw w.6 (sym (c.items.invariant.1 ∙ item_bad _ _ _ w.0.taken (tag_stop field.InsetOrMargin _ _ insets_and_margins _ _ _ w.1.inv w.2.taken (sym w.4.ensures ∙ was_false _ w.5.taken)))))
-    (⊎_elim
-    (λ w. rw w.8 (sym (c.items.invariant.1 ∙ item_bad _ _ _ w.0.taken (tag_stop field.PaddingOrBorder _ _ padding_and_borders _ _ _ w.3.inv w.4.taken (sym w.6.ensures ∙ was_false _ w.7.taken)))))
-    (⊎_elim
-    (λ w. rw w.10 (sym (c.items.invariant.1 ∙ item_bad _ _ _ w.0.taken (tag_stop field.Size _ _ sizes _ _ _ w.5.inv w.6.taken (sym w.8.ensures ∙ was_false _ w.9.taken)))))
-    (λ w. rw w.11 (sym (c.items.invariant.1 ∙ item_bad _ _ _ w.0.taken (word_stop _ _ _ w.7.inv.2 w.8.taken (sym w.9.ensures ∙ w.10.taken))))))))
-    c.items-test.branch
+    elim c.items-test.branch
+    [ else-items-test w ↦ absurd (omega arith)
+    | then-items-test+then-loop-k-test+then-not-takes w ↦ rw w.k-is (sym (c.items.invariant.1 ∙ item_bad _ _ _ w.items-test.true (tag_stop field.InsetOrMargin _ _ insets_and_margins _ _ _ w.loop-k.invariant w.loop-k-test.true (sym w.takes.ensures ∙ was_false _ w.if-not-takes.true-raw))))
+    | then-items-test+else-loop-k-test+then-loop-k-2-test+then-not-takes-2 w ↦ rw w.k-is (sym (c.items.invariant.1 ∙ item_bad _ _ _ w.items-test.true (tag_stop field.PaddingOrBorder _ _ padding_and_borders _ _ _ w.loop-k-2.invariant w.loop-k-2-test.true (sym w.takes-in-loop-k-2.ensures ∙ was_false _ w.if-not-takes-2.true-raw))))
+    | then-items-test+else-loop-k-test+else-loop-k-2-test+then-loop-k-3-test+then-not-takes-3 w ↦ rw w.k-is (sym (c.items.invariant.1 ∙ item_bad _ _ _ w.items-test.true (tag_stop field.Size _ _ sizes _ _ _ w.loop-k-3.invariant w.loop-k-3-test.true (sym w.takes-in-loop-k-3.ensures ∙ was_false _ w.if-not-takes-3.true-raw))))
+    | then-items-test+else-loop-k-test+else-loop-k-2-test+else-loop-k-3-test+then-loop-k-4-test+then-code_breaks w ↦ rw w.k-is (sym (c.items.invariant.1 ∙ item_bad _ _ _ w.items-test.true (word_stop _ _ _ w.loop-k-4.invariant.2 w.loop-k-4-test.true (sym w.code_breaks.ensures ∙ w.if-code_breaks.true))))
+    ]
 
 pub returns : goal.returns
 unfolding checked items
