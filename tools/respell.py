@@ -66,7 +66,7 @@ def main():
     std = set()
     for p, pairs in BEFORE.items():
         for a, b in pairs:
-            if p in texts:
+            if p in texts and not re.search(r"(?<![\w'.-])" + b + r"(?![\w'-])", texts[p]):
                 texts[p] = re.sub(r"(?<![\w'.-])" + a + r"(?![\w'-])", b, texts[p])
     for p, t in texts.items():
         foreign, own = imports(t, crates)

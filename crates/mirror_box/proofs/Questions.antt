@@ -12,7 +12,7 @@ use Rattle.oof_common.specs.declared.sizing_keyword.SizingKeywordResolution.{Siz
 use Rattle.oof_common.specs.declared.sizing_keyword.SizingKeywordResolution.TheVariants.{NoKeyword, Exact, Measure}
 use Rattle.oof_common.specs.declared.sizing_keyword.SizingKeywords.{SizingKeywords}
 use Rattle.oof_resolve.specs.declared.ResolvedBox.{ResolvedBox}
-use Rattle.oof_box.specs.Cut.{both_asked, width_asked, height_asked, keyword_asked, fill_given, is_first, or_later_lem, size_asked, asked_of}
+use Rattle.oof_box.specs.Cut.{both_asked, width_asked, height_asked, keyword_asked, fill_given, is_first, or_later, size_asked, asked_of}
 use Rattle.oof_box.specs.declared.dialogue.KeywordQuestion.{KeywordQuestion}
 use Rattle.oof_box.specs.declared.dialogue.KeywordQuestion.TheVariants as asks
 use Rattle.oof_box.specs.declared.question.Asked.{Asked}
@@ -83,7 +83,7 @@ module _ {node node' : ℕ} (n : node ≡ node') where
     keyword_asked_by : {wide wide' tall tall' : SizingKeywordResolution} → KeywordSame wide wide' → tall ≡ tall' → QuestionSame (keyword_asked node wide tall known stretch) (keyword_asked node' wide' tall' known' stretch')
     keyword_asked_by {wide} {wide'} {tall} h e = subst (λ (t : SizingKeywordResolution). QuestionSame (keyword_asked node wide tall known stretch) (keyword_asked node' wide' t known' stretch')) e (keyword_asked_lem h tall)
 
-or_later_lem : {q q' : KeywordQuestion} {a a' : Asked} → QuestionSame q q' → SameAsked a a' → SameAsked (or_later_lem q a) (or_later_lem q' a')
+or_later_lem : {q q' : KeywordQuestion} {a a' : Asked} → QuestionSame q q' → SameAsked a a' → SameAsked (or_later q a) (or_later q' a')
 or_later_lem not_asked h = h
 or_later_lem (asked k) h = k
 

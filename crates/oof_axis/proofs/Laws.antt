@@ -19,7 +19,7 @@ use Rattle.tree.specs.declared.layout.AxisStaticEdge.TheVariants.{Start, Center,
 use Rattle.oof_axis.specs.declared.OofAlignment.{OofAlignment}
 use Rattle.oof_axis.specs.declared.OofAlignment.TheVariants as align
 use Rattle.oof_axis.specs.declared.OofAxis.{OofAxis}
-use Rattle.oof_axis.specs.Axis.{align_in, static_block, inset_block, start_is_weaker, repaired, block, both_insets, halves, filled_margins, margins, is_normal_lem, align_edge, limit, kept_within, self_aligned, static_aligned, position_in, position, placement, stretching, stretches, stretch_fit}
+use Rattle.oof_axis.specs.Axis.{align_in, static_block, inset_block, start_is_weaker, repaired, block, both_insets, halves, filled_margins, margins, is_normal, align_edge, limit, kept_within, self_aligned, static_aligned, position_in, position, placement, stretching, stretches, stretch_fit}
 use Rattle.oof_axis.specs.Laws.{NoInset, TwoInsets, Aligned, margin_box, StartInsetHeld, EndInsetHeld, StartInsetBlock, EndInsetBlock, BlockBetweenInsets, BlockFromStaticStart, BlockToStaticEnd, BlockInOrder, GivenMarginStays, AutoMarginsAreZero, AutoMarginsAreEqual, NegativeSpaceGoesToTheEnd, LoneAutoMarginTakesTheRest, AutoMarginBeginsWithBlock, OverflowIsReachable, AtStart, AtEnd, AsTold, FitsAsTold, UnsafeAsTold, NormalAtStart, SafeOverflowAtStart, StaticAsTold, StaticEdgeHeld, StaticSafeAtStart, stretches_as, StretchesBetweenInsets, StretchFitIsASize, with_fallback, FallbackUnread}
 
 -- ---- insets
@@ -233,8 +233,8 @@ pub unsafe_as_told : UnsafeAsTold
 unsafe_as_told a size h u =
     as_told a.alignment a size (rw (aligned_position a size h, unsafe_aligned a.safety a (block a) (margin_box a size) (align_edge a.alignment a) u) refl)
 
-is_normal_lem : (k : OofAlignment) → k ≡ align.Normal → is_normal_lem k ≡ true
-unfolding is_normal_lem
+is_normal_lem : (k : OofAlignment) → k ≡ align.Normal → is_normal k ≡ true
+unfolding is_normal
 is_normal_lem k n = rw n refl
 
 normal_aligned : (s : AlignmentSafety) (a : OofAxis) (l : Line) (outer : Float) → a.alignment ≡ align.Normal → self_aligned s a l outer (start_edge a.reversed) ≡ align_in l outer (start_edge a.reversed)
@@ -247,7 +247,7 @@ normal_aligned Safe a l outer n = go (lt (span l) outer)
     go false = refl
 normal_aligned Default a l outer n = go (le outer (span l))
   where
-    go : (b : Bool) → cond (b || is_normal_lem a.alignment) (align_in l outer (start_edge a.reversed)) (kept_within (limit a l) a l outer (start_edge a.reversed)) ≡ align_in l outer (start_edge a.reversed)
+    go : (b : Bool) → cond (b || is_normal a.alignment) (align_in l outer (start_edge a.reversed)) (kept_within (limit a l) a l outer (start_edge a.reversed)) ≡ align_in l outer (start_edge a.reversed)
     go true = refl
     go false = rw (is_normal_lem a.alignment n) refl
 
@@ -307,15 +307,15 @@ kept_in_reach : (a : OofAxis) (l : Line) (outer : Float) (edge : AxisStaticEdge)
 kept_in_reach a l outer edge r =
     subst (λ (x : Float). le x (kept_within (limit a l) a l outer edge) ≡ true) (limit_start a l r) (kept_after a l (limit a l) outer edge r (rw (limit_start a l r) (smaller_number l.start)))
 
-pub not_normal : (k : OofAlignment) → (k ≡ align.Normal → ⊥) → is_normal_lem k ≡ false
-unfolding is_normal_lem
+pub not_normal : (k : OofAlignment) → (k ≡ align.Normal → ⊥) → is_normal k ≡ false
+unfolding is_normal
 not_normal align.Normal n = absurd (n refl)
 not_normal align.Stretch n = refl
 not_normal align.Start n = refl
 not_normal align.Center n = refl
 not_normal align.End n = refl
 
-default_aligned : (s : AlignmentSafety) (a : OofAxis) (l : Line) (outer : Float) (k : AxisStaticEdge) → s ≡ Default → le outer (span l) ≡ false → is_normal_lem a.alignment ≡ false → self_aligned s a l outer k ≡ kept_within (limit a l) a l outer k
+default_aligned : (s : AlignmentSafety) (a : OofAxis) (l : Line) (outer : Float) (k : AxisStaticEdge) → s ≡ Default → le outer (span l) ≡ false → is_normal a.alignment ≡ false → self_aligned s a l outer k ≡ kept_within (limit a l) a l outer k
 unfolding self_aligned
 default_aligned s a l outer k e o n = rw (e, o, n) refl
 

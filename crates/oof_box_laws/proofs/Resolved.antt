@@ -34,7 +34,7 @@ use Rattle.oof_axis.specs.Axis.{from_resolved}
 use Rattle.oof_axis.specs.declared.OofAlignment.TheVariants as align
 use Rattle.oof_resolve.specs.Resolved.{of_width, of_each_axis, less_offset, horizontal, vertical, padding_or_border, style_size, min_size, resolved_box}
 use Rattle.oof_box.specs.Box.{◌by◌}
-use Rattle.oof_box_laws.specs.Resolved.{IsAuto, IsAutoSize, ScrollsBy, AxesOfTheBlock, AutoSidesAreNone, AlignedBy, AlignmentOfTheStyle, Comes, as_pixels, as_percent, as_sum, SumWithNothing, padding_border_of, left_out_lem, SizesOfItsBox, AutoIsNoSize, RatioCompletes, PercentagesOfTheWidth, InsetsOfTheirAxis}
+use Rattle.oof_box_laws.specs.Resolved.{IsAuto, IsAutoSize, ScrollsBy, AxesOfTheBlock, AutoSidesAreNone, AlignedBy, AlignmentOfTheStyle, Comes, as_pixels, as_percent, as_sum, SumWithNothing, padding_border_of, left_out, SizesOfItsBox, AutoIsNoSize, RatioCompletes, PercentagesOfTheWidth, InsetsOfTheirAxis}
 
 -- ---- lengths, by tag
 
@@ -191,7 +191,7 @@ auto_size size l basis (inr e) = rw e refl
 auto_size bound l basis (inl e) = rw e refl
 auto_size bound l basis (inr e) = rw e refl
 
-left_out_lem : (sizing : BoxSizing) (edges : Size) → cond (is_content_box sizing) edges zero_size ≡ left_out_lem sizing edges
+left_out_lem : (sizing : BoxSizing) (edges : Size) → cond (is_content_box sizing) edges zero_size ≡ left_out sizing edges
 left_out_lem BorderBox edges = refl
 left_out_lem ContentBox edges = refl
 
@@ -268,32 +268,32 @@ module _ (style : Style) (area edges : Size) (f : Field) (lengths : LengthSize) 
   abbrev down : MaybeF32
   down = (style_size f lengths style area edges).height
 
-  given_width : (x : Float) → Comes area.width lengths.width x → across ≡ Some (x ⊕ (left_out_lem style.sizing edges).width)
+  given_width : (x : Float) → Comes area.width lengths.width x → across ≡ Some (x ⊕ (left_out style.sizing edges).width)
   unfolding style_size added_size resolved_size
   given_width x c = added_is _ _ _ x (ratio_width style.ratio _ x (comes_to f lengths.width area.width x c)) (ap (λ (s : Size). s.width) (left_out_lem style.sizing edges))
 
-  given_height : (x : Float) → Comes area.height lengths.height x → down ≡ Some (x ⊕ (left_out_lem style.sizing edges).height)
+  given_height : (x : Float) → Comes area.height lengths.height x → down ≡ Some (x ⊕ (left_out style.sizing edges).height)
   unfolding style_size added_size resolved_size
   given_height x c = added_is _ _ _ x (ratio_height style.ratio _ x (comes_to f lengths.height area.height x c)) (ap (λ (s : Size). s.height) (left_out_lem style.sizing edges))
 
   module _ (sizing : Sizing f) where
-    width_by_ratio : (r x : Float) → style.ratio ≡ Some r → IsAutoSize lengths.width → Comes area.height lengths.height x → across ≡ Some (x ⊗ r ⊕ (left_out_lem style.sizing edges).width)
+    width_by_ratio : (r x : Float) → style.ratio ≡ Some r → IsAutoSize lengths.width → Comes area.height lengths.height x → across ≡ Some (x ⊗ r ⊕ (left_out style.sizing edges).width)
     unfolding style_size added_size resolved_size
     width_by_ratio r x e a c =
         added_is _ _ _ (x ⊗ r) (lone_height style.ratio _ r x e (auto_size sizing lengths.width area.width a) (comes_to f lengths.height area.height x c)) (ap (λ (s : Size). s.width) (left_out_lem style.sizing edges))
 
-    height_by_ratio : (r x : Float) → style.ratio ≡ Some r → IsAutoSize lengths.height → Comes area.width lengths.width x → down ≡ Some (x ⊘ r ⊕ (left_out_lem style.sizing edges).height)
+    height_by_ratio : (r x : Float) → style.ratio ≡ Some r → IsAutoSize lengths.height → Comes area.width lengths.width x → down ≡ Some (x ⊘ r ⊕ (left_out style.sizing edges).height)
     unfolding style_size added_size resolved_size
     height_by_ratio r x e a c =
         added_is _ _ _ (x ⊘ r) (lone_width style.ratio _ r x e (comes_to f lengths.width area.width x c) (auto_size sizing lengths.height area.height a)) (ap (λ (s : Size). s.height) (left_out_lem style.sizing edges))
 
-    auto_width : style.ratio ≡ None → IsAutoSize lengths.width → across ≡ None
+    auto_width_lem : style.ratio ≡ None → IsAutoSize lengths.width → across ≡ None
     unfolding style_size added_size resolved_size with_ratio
-    auto_width e a = rw e (none_added _ _ (auto_size sizing lengths.width area.width a))
+    auto_width_lem e a = rw e (none_added _ _ (auto_size sizing lengths.width area.width a))
 
-    auto_height : style.ratio ≡ None → IsAutoSize lengths.height → down ≡ None
+    auto_height_lem : style.ratio ≡ None → IsAutoSize lengths.height → down ≡ None
     unfolding style_size added_size resolved_size with_ratio
-    auto_height e a = rw e (none_added _ _ (auto_size sizing lengths.height area.height a))
+    auto_height_lem e a = rw e (none_added _ _ (auto_size sizing lengths.height area.height a))
 
     auto_both : IsAutoSize lengths.width → IsAutoSize lengths.height → (across ≡ None) × (down ≡ None)
     unfolding style_size added_size resolved_size
@@ -340,18 +340,18 @@ auto_is_no_size container style candidate =
     let area = container.area.size in
     let edges = padding_border_of (resolved_box container style candidate) in (
       record {
-        width = λ e a. none_clamped _ _ _ (auto_width style area edges field.Size style.size size e a);
-        height = λ e a. none_clamped _ _ _ (auto_height style area edges field.Size style.size size e a);
+        width = λ e a. none_clamped _ _ _ (auto_width_lem style area edges field.Size style.size size e a);
+        height = λ e a. none_clamped _ _ _ (auto_height_lem style area edges field.Size style.size size e a);
         both = λ a b. (let n = auto_both style area edges field.Size style.size size a b in two_sides _ _ _ _ (none_clamped _ _ _ n.0) (none_clamped _ _ _ n.1));
       },
       record {
-        width = auto_width style area edges field.MinOrMax style.max bound;
-        height = auto_height style area edges field.MinOrMax style.max bound;
+        width = auto_width_lem style area edges field.MinOrMax style.max bound;
+        height = auto_height_lem style area edges field.MinOrMax style.max bound;
         both = λ a b. (let n = auto_both style area edges field.MinOrMax style.max bound a b in two_sides _ _ _ _ n.0 n.1);
       },
       record {
-        width = λ e a. none_raised _ _ (auto_width style area edges field.MinOrMax style.min bound e a);
-        height = λ e a. none_raised _ _ (auto_height style area edges field.MinOrMax style.min bound e a);
+        width = λ e a. none_raised _ _ (auto_width_lem style area edges field.MinOrMax style.min bound e a);
+        height = λ e a. none_raised _ _ (auto_height_lem style area edges field.MinOrMax style.min bound e a);
         both = λ a b. (let n = auto_both style area edges field.MinOrMax style.min bound a b in two_sides _ _ _ _ (none_raised _ _ n.0) (none_raised _ _ n.1));
       },
     )

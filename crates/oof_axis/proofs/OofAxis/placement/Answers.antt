@@ -1,0 +1,7 @@
+use Rattle.oof_axis.specs.Axis.{placement}
+use borrow.Author.Rules.{rules}
+use Rattle.oof_axis.proofs.OofAxis.placement.Goals as goal
+
+pub returns : goal.returns
+unfolding placement
+returns c = simp (← c.resolve_margins-margin.ensures, ← c.position.ensures)

@@ -1,0 +1,7 @@
+use Rattle.oof_axis.specs.StaticOffset.{static_offset}
+use borrow.Author.Rules.{rules}
+use Rattle.oof_axis.proofs.resolve_static_offset.Goals as goal
+
+pub returns : goal.returns
+unfolding static_offset
+returns c = simp (← c.resolve_static_offset_axis.ensures, ← c.resolve_static_offset_axis-2.ensures)
