@@ -2,7 +2,7 @@
 use mathlib.Core.Path.{refl, sym}
 use Prim.Native.Nat.{ℕ, ◌+◌, ◌*◌, ◌<◌}
 use native.Mathlib.Omega.{arith}
-use lib.Dec.{ltb, ltb→lt}
+use lib.Dec.{ltb→lt}
 use lib.Ieee.{Float}
 use Rattle.util.specs.Number.{0f}
 use Rattle.oof_axis.specs.declared.OofAxis.{OofAxis}
