@@ -1,7 +1,7 @@
 -- Layers are kept by a sweep and by a move. Assumes nothing.
-use Prim.Native.Nat.{ℕ, ◌+◌, ◌*◌, ◌/◌, ◌≤◌}
+use Prim.Native.Nat.{ℕ, ◌+◌, ◌/◌, ◌≤◌}
 use native.Mathlib.Omega.{arith}
-use native.Mathlib.Nat.{mul-div-le, mul-le-mul_left}
+use native.Mathlib.Nat.{mul-div-le}
 use mathlib.Core.Bool.{Bool, true, false, cond}
 use mathlib.Core.List.{List, [], ◌∷◌, ◌++◌, map, map-append}
 use mathlib.Core.Path.{◌≡◌, refl, sym, ap, ◌∙◌}
@@ -19,7 +19,7 @@ use Rattle.sweep.specs.declared.Filled.{Filled}
 use Rattle.sweep.specs.declared.Swept.TheVariants.{Into}
 use Rattle.sweep.specs.Sweep.{first_candidates, candidates_in, layers_of, moved, side, keep, appended, Outcome, swept}
 use Rattle.sweep.specs.Laws.{AllFit, HasLayers, LayersKept}
-use Rattle.sweep.proofs.Steps.{moved_position, kept_moved, full, into, no_room_in, no_room_out, room_both}
+use Rattle.sweep.proofs.Steps.{moved_position, kept_moved, into, no_room_in, no_room_out, room_both}
 use Rattle.sweep.proofs.Laws.{never, swept_fits, keep_fits, appended_back}
 
 moved_layer : (s : Shift) (c : OofCandidate) → (moved s c).layer ≡ c.layer

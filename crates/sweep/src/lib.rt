@@ -1,4 +1,6 @@
 // Candidates swept into two lists: the claimed ones are appended to the working list, the others to the unclaimed list.
+#![tactic(auto)]
+
 ghost use Rattle.std.specs.Prelude.{◌≡◌, ◌∷◌, [], map, ◌+◌, ◌*◌, ◌≤◌, length};
 ghost use Rattle.records.specs.Records.{record_at};
 ghost use Rattle.tree_record.specs.Candidate.{candidate_width, candidate_of};
