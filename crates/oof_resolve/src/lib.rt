@@ -1,5 +1,7 @@
 // compute/oof.rs, the first part of `layout_oof_box`: what is known of a box before the host is asked (document 01, "One box",
 // steps 1 to 3).
+#![tactic(auto)]
+
 ghost use Rattle.std.specs.Prelude.{◌≡◌};
 ghost use Rattle.oof_resolve.specs.Resolved.{of_width, of_each_axis, less_offset, horizontal, vertical, padding_or_border, style_size, min_size, less_margins, space_for, resolved_box};
 
