@@ -1,4 +1,6 @@
 // Numbers right-justified in columns, as the printed list and the screen file have them.
+#![tactic(auto)]
+
 ghost use Rattle.std.specs.Prelude.{◌≡◌, ◌+◌, ◌≤◌, length};
 ghost use Rattle.std.proofs.lemmas.List.Edits.{sets};
 ghost use Rattle.boxlist_lines.specs.Column.{COLUMN, cell_of, left_of, cells, count_ink, code_ink, eighths_text, code_text};
