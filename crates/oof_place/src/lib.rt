@@ -1,5 +1,7 @@
 // compute/oof.rs, the last part of `layout_oof_box`: the layout of a box whose size is final, and what it adds to the container's
 // scrollable overflow (document 01, "One box", step 7).
+#![tactic(auto)]
+
 ghost use Rattle.std.specs.Prelude.{◌≡◌};
 ghost use Rattle.oof_place.specs.Placing.{scrollbar_of, layout_of, from_origin, box_layout};
 
