@@ -9,7 +9,7 @@ pub const FOUND: usize = 2;
 
 // 1, and item and word are written, if a word breaks a rule; else 0, and nothing is.
 pub fn tell(check: TableCheck, found: &mut [u32; FOUND]) -> u32
-    ensures* { λ r. ⌜ record { result = r; found = found.new } ≡ check_told check found.old ⌝ }
+    ensures { record { result = result; found = found.new } ≡ check_told check found.old }
 {
     match check {
         TableCheck::Good => 0,

@@ -14,7 +14,7 @@ fn edges_in(p: PixelRect) -> [i32; EDGES]
 
 // The result of a call. Unless it was refused, the edges are written.
 pub fn tell(p: Pixels, edges: &mut [i32; EDGES]) -> u32
-    ensures* { λ r. ⌜ record { result = r; edges = edges.new } ≡ edges_told p edges.old ⌝ }
+    ensures { record { result = result; edges = edges.new } ≡ edges_told p edges.old }
 {
     match p {
         Pixels::Refused(refusal) => refusal.number(),

@@ -8,7 +8,7 @@ pub const VERDICT: usize = 3;
 
 // The result of a call. Unless it was refused, the verdict is written.
 pub fn tell(reached: Reached, verdict: &mut [u32; VERDICT]) -> u32
-    ensures* { λ r. ⌜ record { result = r; verdict = verdict.new } ≡ verdict_told reached verdict.old ⌝ }
+    ensures { record { result = result; verdict = verdict.new } ≡ verdict_told reached verdict.old }
 {
     match reached {
         Reached::Refused(refusal) => refusal.number(),
