@@ -1,7 +1,6 @@
 -- Steps 5 and 6: stretched sizes, and the final size. Assumes nothing.
 use mathlib.Core.Path.{◌≡◌, refl, ap, ap₂}
 use mathlib.Core.Bool.{Bool, true, false, not, cond, ◌&&◌}
-use Prim.Native.Nat.{◌≤◌}
 use lib.Dec.{lit<, lit≤}
 use lib.Ieee.{Float}
 use Rattle.util.specs.Maybe.{present}
