@@ -41,7 +41,7 @@ unfolding measured_on laid_out asking candidates_in first_candidates records kee
 reply_filled s given lent = go (reply_way s given [] lent)
   where
     go : ReplyWay s given [] lent → (replied s given [] lent).step.state.counts.filled.working ≡ s.counts.filled.working
-    go (ReplyWay.turnedDown r e) = rw e refl
+    go (ReplyWay.turned_down r e) = rw e refl
     go (measures replies v t e) = rw e refl
     go (lays_out overflow v t e) = rw e (proceed_filled _ _ _ _ _ ∙ add-zero s.counts.filled.working)
 
@@ -60,7 +60,7 @@ unfolding filled closed begun
 open_filled o candidates lent = go (opening_way o candidates lent)
   where
     go : OpeningWay o candidates lent → filled (opened o candidates lent) ≤ length lent.working / candidate_width
-    go (OpeningWay.turnedDown r e) = rw e (omega arith)
+    go (OpeningWay.turned_down r e) = rw e (omega arith)
     go (begins v e) = rw (e, proceed_filled, zero-add) (opening_room o candidates lent v).0
 
 pub room_kept : (o : Opening) (replies candidates : List ℕ) (lent : Lent)

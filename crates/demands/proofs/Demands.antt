@@ -174,8 +174,8 @@ three_questions_each i n m has calls =
 
 takes : (styles : List ℕ) (before : Outcome) (h : Heard) (loan : Loan) (has : Outcome) → Takes styles before h loan has → has ≡ next_with styles before h loan
 unfolding next
-takes styles before h own has (Takes.lentOwn c) = c
-takes styles before h (other slices) has (Takes.lentOther {left = left} c) = ap (λ (x : Outcome). outcome x.step before.layouts before.working before.unclaimed) c
+takes styles before h own has (Takes.lent_own c) = c
+takes styles before h (other slices) has (Takes.lent_other {left = left} c) = ap (λ (x : Outcome). outcome x.step before.layouts before.working before.unclaimed) c
 
 -- what holds of each turn, in a list that ends with one more
 all_lend_after : (styles : List ℕ) (o : Outcome) (ts : List Turn) (t : Turn) → AllLend styles o ts
@@ -258,7 +258,7 @@ size_law : (s : State) (reply : Reply) (surfaced : List ℕ) (lent : Lent) → S
 size_law s reply surfaced lent overflow k a = go (reply_way s reply surfaced lent)
   where
     go : ReplyWay s reply surfaced lent → SizedLayout s lent (replied s reply surfaced lent).layouts
-    go (ReplyWay.turnedDown r f) = no (ap (λ (x : Outcome). is_refused x.step.answer) f) a
+    go (ReplyWay.turned_down r f) = no (ap (λ (x : Outcome). is_refused x.step.answer) f) a
     go (measures replies v t f) = never_kept s overflow (ap (taken_by s) (sym k) ∙ t)
     go (lays_out laid v t f) = subst (λ (x : Outcome). SizedLayout s lent x.layouts) (sym f) (sized s laid surfaced lent)
 

@@ -340,7 +340,7 @@ opening_words_for i o candidates styles before f = go (opening_way o candidates 
     told left = in_words left (state_words left.step.state) before.answer
 
     go : OpeningWay o candidates l → ForBoxIn i (asked_for i (told (opened o candidates l))) (state_of (told (opened o candidates l)).words.state)
-    go (OpeningWay.turnedDown r e) =
+    go (OpeningWay.turned_down r e) =
         subst (λ (x : Outcome). ForBoxIn i (asked_for i (told x)) (state_of (told x).words.state)) (sym e) (rw (not_zero r) (closed_for i l))
     go (begins v e) =
         let zero = ap (λ (x : Outcome). result_of x.step.answer) e ∙ accepted_is_zero (begun o candidates l).step.answer (begun_accepts o candidates l) in
@@ -396,7 +396,7 @@ went : (styles : List ℕ) {last has : Returned} {x : Outcome} (h : Heard) (loan
     → Takes styles last.words h loan has
     → Went styles last has (next_with styles x h loan)
 unfolding replied_in_words next
-went styles {last = last} {x = x} h own f k (Takes.lentOwn c) =
+went styles {last = last} {x = x} h own f k (Takes.lent_own c) =
     let e : replied (state_of last.words.state) h.reply h.surfaced (lent_in styles last.words) ≡ next styles x h = λ j. replied (k.state j) h.reply h.surfaced (record { styles = styles; layouts = k.layouts j; working = k.working j; unclaimed = k.unclaimed j }) in
     record {
       now =
@@ -409,7 +409,7 @@ went styles {last = last} {x = x} h own f k (Takes.lentOwn c) =
           };
       answer = ap (λ (y : Returned). y.words.answer) c ∙ ap (λ (y : Outcome). answer_left y.step.answer last.words.answer) e;
     }
-went styles {last = last} {x = x} h (other slices) f k (Takes.lentOther c) =
+went styles {last = last} {x = x} h (other slices) f k (Takes.lent_other c) =
     let e : replied (state_of last.words.state) h.reply h.surfaced slices ≡ replied x.step.state h.reply h.surfaced slices = ap (λ (s : State). replied s h.reply h.surfaced slices) k.state in
     record {
       now =

@@ -113,7 +113,7 @@ module _ (styles w : List ℕ) where
     replied_good h = go (reply_way s h.reply h.surfaced lent)
       where
         go : ReplyWay s h.reply h.surfaced lent → Good (replied s h.reply h.surfaced lent)
-        go (ReplyWay.turnedDown r e) = subst Good (sym e) (kept_good _ refl refl)
+        go (ReplyWay.turned_down r e) = subst Good (sym e) (kept_good _ refl refl)
         go (measures replies v t e) = subst Good (sym e) (kept_good _ refl refl)
         go (lays_out overflow v t e) =
             let all = taken_all s h.reply h.surfaced t in
@@ -154,7 +154,7 @@ module _ (o : Opening) (candidates : List ℕ) (lent : Lent) where
   opened_good accepts = go (opening_way o candidates lent)
     where
       go : OpeningWay o candidates lent → Good lent.styles lent.working (opened o candidates lent)
-      go (OpeningWay.turnedDown r e) = no (ap refused_in e) accepts
+      go (OpeningWay.turned_down r e) = no (ap refused_in e) accepts
       go (begins v e) = subst (Good lent.styles lent.working) (sym e) (begun_good v)
 
 pub finished_is_drawn : FinishedIsDrawn

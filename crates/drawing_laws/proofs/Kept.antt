@@ -195,7 +195,7 @@ module _ (by : ContainingBlockClaims) (styles : List ℕ) (x : Outcome) (came : 
   accepted_has h n = go (reply_way s h.reply h.surfaced lent)
     where
       go : ReplyWay s h.reply h.surfaced lent → Has by (replied s h.reply h.surfaced lent) (came ++ candidates_in (lent_by h.reply h.surfaced))
-      go (ReplyWay.turnedDown r e) = no (ap refused_in e) n
+      go (ReplyWay.turned_down r e) = no (ap refused_in e) n
       go (measures replies v t e) =
           rw (e, none_came s h.reply h.surfaced t, append-nil came) (measured_has replies)
       go (lays_out overflow v t e) =
@@ -235,5 +235,5 @@ layers_of_a_run o candidates lent turns n lends =
     (turns_have (claims_of o) lent.styles (opened o candidates lent) (candidates_in candidates) turns lends (go (opening_way o candidates lent))).layers
   where
     go : OpeningWay o candidates lent → Has (claims_of o) (opened o candidates lent) (candidates_in candidates)
-    go (OpeningWay.turnedDown r e) = no (ap refused_in e) n
+    go (OpeningWay.turned_down r e) = no (ap refused_in e) n
     go (begins v e) = subst (λ (x : Outcome). Has (claims_of o) x (candidates_in candidates)) (sym e) (begun_has o candidates lent v)

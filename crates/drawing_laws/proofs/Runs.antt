@@ -97,7 +97,7 @@ unfolding begun closed
 opened_allowed o candidates lent came = go (opening_way o candidates lent)
   where
     go : OpeningWay o candidates lent → FilledAllowed (opened o candidates lent)
-    go (OpeningWay.turnedDown r e) = subst FilledAllowed (sym e) (λ i h. absurd (not-suc-le-zero h))
+    go (OpeningWay.turned_down r e) = subst FilledAllowed (sym e) (λ i h. absurd (not-suc-le-zero h))
     go (begins v e) =
         let after = swept_into (claims_of o) (candidates_in candidates) lent.working lent.unclaimed none_filled in
         subst FilledAllowed (sym e)
@@ -116,7 +116,7 @@ module _ (s : State) (surfaced : List ℕ) (lent : Lent) (held : LayersAllowed s
   replied_allowed reply came = go (reply_way s reply surfaced lent)
     where
       go : ReplyWay s reply surfaced lent → FilledAllowed (replied s reply surfaced lent)
-      go (ReplyWay.turnedDown r e) = subst FilledAllowed (sym e) held
+      go (ReplyWay.turned_down r e) = subst FilledAllowed (sym e) held
       go (measures replies v t e) = subst FilledAllowed (sym e) held
       go (lays_out overflow v t e) =
           let all = taken_all s reply surfaced t in

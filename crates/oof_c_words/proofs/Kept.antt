@@ -301,7 +301,7 @@ opening_is_kept o candidates styles before k = let w = go (opening_way o candida
     l = lent_in styles before
 
     go : OpeningWay o candidates l → Whole (opened o candidates l).step.state
-    go (OpeningWay.turnedDown r e) =
+    go (OpeningWay.turned_down r e) =
         rw e (refused_whole l (k.lengths (λ z. refused_is_not r (sym (ap (λ (left : Outcome). result_of left.step.answer) e) ∙ z))))
     go (begins v e) = rw e (begun_whole o candidates l k.size k.offset v)
 
@@ -325,7 +325,7 @@ reply_is_kept reply surfaced styles before g = go (reply_way s reply surfaced l)
     l = lent_in styles before
 
     go : ReplyWay s reply surfaced l → state_of (replied_in_words reply surfaced styles before).words.state ≡ (replied s reply surfaced l).step.state
-    go (ReplyWay.turnedDown q e) = subst (λ (o : Outcome). state_of (state_left o.step before.state) ≡ o.step.state) (sym e) refl
+    go (ReplyWay.turned_down q e) = subst (λ (o : Outcome). state_of (state_left o.step before.state) ≡ o.step.state) (sym e) refl
     go (measures replies v t e) =
         means before.state e (measured_accepts s replies l)
         (measured_whole s reply replies surfaced l (words_fit before.state) g (past s reply surfaced l v) t)

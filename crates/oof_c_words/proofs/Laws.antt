@@ -158,7 +158,7 @@ refused_opening_closes o candidates styles before h = go (opening_way o candidat
     go : OpeningWay o candidates (lent_in styles before)
         → (opened_in_words o candidates styles before).words
         ≡ words before.layouts before.working before.unclaimed (state_words (closed (lent_in styles before))) before.answer
-    go (OpeningWay.turnedDown r e) = ap (λ (left : Outcome). (in_words left (state_words left.step.state) before.answer).words) e
+    go (OpeningWay.turned_down r e) = ap (λ (left : Outcome). (in_words left (state_words left.step.state) before.answer).words) e
     go (begins v e) = absurd (h (zero_of e (begun_accepts o candidates (lent_in styles before))))
 
 refused_not_zero : (a : Answer) → is_refused a ≡ true → result_of a ≡ 0 → ⊥
@@ -189,6 +189,6 @@ refused_reply_writes_nothing reply surfaced styles before h = go (reply_way s re
     lent = lent_in styles before
 
     go : ReplyWay s reply surfaced lent → (replied_in_words reply surfaced styles before).words ≡ before
-    go (ReplyWay.turnedDown r e) = ap (λ (left : Outcome). (in_words left (state_left left.step before.state) before.answer).words) e
+    go (ReplyWay.turned_down r e) = ap (λ (left : Outcome). (in_words left (state_left left.step before.state) before.answer).words) e
     go (measures replies v t e) = absurd (h (zero_of e (measured_accepts s replies lent)))
     go (lays_out overflow v t e) = absurd (h (zero_of e (laid_accepts s overflow surfaced lent)))

@@ -85,7 +85,7 @@ unfolding closed begun
 first_for i o candidates lent = go (opening_way o candidates lent)
   where
     go : OpeningWay o candidates lent → ForBoxBy i 0 (opened o candidates lent).step
-    go (OpeningWay.turnedDown r e) = rw e (unasked (eqb 0 (i + 1)))
+    go (OpeningWay.turned_down r e) = rw e (unasked (eqb 0 (i + 1)))
       where
         unasked : (b : Bool) → ForBox i (0 + cond b 0 0) (closed lent)
         unasked true = record { three = omega arith; none = λ h. refl; now = tt }
@@ -110,7 +110,7 @@ unfolding taken_by measured_on laid_out
 reply_for i n s given surfaced lent b = go (reply_way s given surfaced lent)
   where
     go : ReplyWay s given surfaced lent → ForBoxBy i n (replied s given surfaced lent).step
-    go (ReplyWay.turnedDown r e) = rw e (unasked (eqb s.counts.begun (i + 1)))
+    go (ReplyWay.turned_down r e) = rw e (unasked (eqb s.counts.begun (i + 1)))
       where
         unasked : (b : Bool) → ForBox i (n + cond b 0 0) s
         unasked true = rw add-zero b

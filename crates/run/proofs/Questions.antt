@@ -168,7 +168,7 @@ unfolding closed begun
 opening_bounded o candidates lent = go (opening_way o candidates lent)
   where
     go : OpeningWay o candidates lent → BoundedBy 0 (opened o candidates lent).step
-    go (OpeningWay.turnedDown r e) = rw e (omega arith)
+    go (OpeningWay.turned_down r e) = rw e (omega arith)
     go (begins v e) = rw e (proceeding_bounded _ _ _ _ _ 0 (omega arith))
 
 pub reply_bounded : (questions : ℕ) (s : State) (given : Reply) (surfaced : List ℕ) (lent : Lent) → Bounded questions s
@@ -177,7 +177,7 @@ unfolding taken_by measured_on laid_out
 reply_bounded questions s given surfaced lent b = go (reply_way s given surfaced lent)
   where
     go : ReplyWay s given surfaced lent → BoundedBy questions (replied s given surfaced lent).step
-    go (ReplyWay.turnedDown r e) = rw (e, add-zero) b
+    go (ReplyWay.turned_down r e) = rw (e, add-zero) b
     go (measures replies v t e) = rw e (asking_bounded _ _ _ _ _ replies questions (one_kept questions s.counts.begun s.replies s.progress given b t))
     go (lays_out overflow v t e) = rw e (proceeding_bounded _ _ _ _ _ questions (three_at_most questions s b))
 
@@ -212,7 +212,7 @@ unfolding closed begun
 opening_hoisted o candidates lent = go (opening_way o candidates lent)
   where
     go : OpeningWay o candidates lent → Hoisted (opened o candidates lent).step.state
-    go (OpeningWay.turnedDown r e) = rw e (omega arith)
+    go (OpeningWay.turned_down r e) = rw e (omega arith)
     go (begins v e) = rw e (proceeding_hoisted _ _ _ _ _ (omega arith))
 
 pub reply_hoisted : (s : State) (given : Reply) (surfaced : List ℕ) (lent : Lent) → Hoisted s → Hoisted (replied s given surfaced lent).step.state
@@ -220,7 +220,7 @@ unfolding measured_on asking laid_out
 reply_hoisted s given surfaced lent h = go (reply_way s given surfaced lent)
   where
     go : ReplyWay s given surfaced lent → Hoisted (replied s given surfaced lent).step.state
-    go (ReplyWay.turnedDown r e) = rw e h
+    go (ReplyWay.turned_down r e) = rw e h
     go (measures replies v t e) = rw e h
     go (lays_out overflow v t e) = rw e (proceeding_hoisted _ _ _ _ _ (omega arith))
 

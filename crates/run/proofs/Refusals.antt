@@ -65,7 +65,7 @@ pub refused_reply_keeps : RefusedReplyKeeps
 refused_reply_keeps s reply surfaced lent r a = go (reply_way s reply surfaced lent)
   where
     go : ReplyWay s reply surfaced lent → replied s reply surfaced lent ≡ unwritten lent (record { state = s; answer = Refused r })
-    go (ReplyWay.turnedDown q e) = same_refusal lent s e a
+    go (ReplyWay.turned_down q e) = same_refusal lent s e a
     go (measures replies v t e) = not_accepted e (measured_accepts s replies lent) a
     go (lays_out overflow v t e) = not_accepted e (laid_accepts s overflow surfaced lent) a
 
@@ -73,7 +73,7 @@ pub refused_opening_keeps : RefusedOpeningKeeps
 refused_opening_keeps o candidates lent r a = go (opening_way o candidates lent)
   where
     go : OpeningWay o candidates lent → opened o candidates lent ≡ unwritten lent (record { state = closed lent; answer = Refused r })
-    go (OpeningWay.turnedDown q e) = same_refusal lent (closed lent) e a
+    go (OpeningWay.turned_down q e) = same_refusal lent (closed lent) e a
     go (begins v e) = not_accepted e (begun_accepts o candidates lent) a
 
 -- ---- a finished run
@@ -86,7 +86,7 @@ finished_refuses s reply surfaced lent f = go (reply_way s reply surfaced lent)
     wrong e = ap is_wrong (sym e) ∙ ap (λ (p : Progress). is_wrong (taken_in p s.replies reply)) f
 
     go : ReplyWay s reply surfaced lent → refused_in (replied s reply surfaced lent) ≡ true
-    go (ReplyWay.turnedDown r e) = ap refused_in e
+    go (ReplyWay.turned_down r e) = ap refused_in e
     go (measures replies v t e) = no (wrong t) refl
     go (lays_out overflow v t e) = no (wrong t) refl
 

@@ -273,7 +273,7 @@ module _ (o : Opening) (lent : Lent) where
 
       go : ReplyWay (asking_at w replies answered).step.state h.reply h.surfaced (lent_at w)
           → Position (answered + 1) (next lent.styles (asking_at w replies answered) h) (hearing (during w t (onward most w c rest)) h)
-      go (ReplyWay.turnedDown r x) = no (ap refused_in x) n
+      go (ReplyWay.turned_down r x) = no (ap refused_in x) n
       go (measures r v k x) =
           waits w c rest most r (after t (heard_by h)) f m (kept_at (container_of o) (style c.node) c (heard_by h) a (takes k))
           (x ∙ measured_at w replies r answered)
@@ -452,7 +452,7 @@ at_last o candidates lent turns e l = go (opening_way o candidates lent)
   where
     go : OpeningWay o candidates lent
         → Through o lent (length (heeded_in o candidates lent turns)) (called o candidates lent turns) (course_of o candidates lent turns)
-    go (OpeningWay.turnedDown r x) = no (ap refused_in x) e
+    go (OpeningWay.turned_down r x) = no (ap refused_in x) e
     go (begins v x) =
         rw zero-add at
         (all_calls o lent 0 (opened o candidates lent) (straight 4096 (container_of o) (claims_of o) (style o lent) (candidates_in candidates)) turns l

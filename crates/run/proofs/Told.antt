@@ -76,12 +76,12 @@ unfolding begun measured_on asking laid_out
 left_open (opening o candidates lent s) n = subst (λ (l : List ℕ). open_in l (opened o candidates lent) ≡ (opened o candidates lent).step.answer) s (go (opening_way o candidates lent))
   where
     go : OpeningWay o candidates lent → open_in lent.styles (opened o candidates lent) ≡ (opened o candidates lent).step.answer
-    go (OpeningWay.turnedDown r e) = no (ap refused_in e) n
+    go (OpeningWay.turned_down r e) = no (ap refused_in e) n
     go (begins v e) = rw e (proceeding_open lent.styles _ _ _ _)
 left_open (reply s given surfaced lent l) n = subst (λ (l : List ℕ). open_in l (replied s given surfaced lent) ≡ (replied s given surfaced lent).step.answer) l (go (reply_way s given surfaced lent))
   where
     go : ReplyWay s given surfaced lent → open_in lent.styles (replied s given surfaced lent) ≡ (replied s given surfaced lent).step.answer
-    go (ReplyWay.turnedDown r e) = no (ap refused_in e) n
+    go (ReplyWay.turned_down r e) = no (ap refused_in e) n
     go (measures replies v t e) = rw e refl
     go (lays_out overflow v t e) = rw e (proceeding_open lent.styles _ _ _ _)
 
@@ -131,7 +131,7 @@ lays_out_lem styles o input overflow surfaced e n = go (reply_way s (LaidOut ove
     box = box_at_hand o.working s.counts
 
     go : ReplyWay s (LaidOut overflow) surfaced lent → WroteSize input o.layouts (replied s (LaidOut overflow) surfaced lent).layouts
-    go (ReplyWay.turnedDown r x) = no (ap refused_in x) n
+    go (ReplyWay.turned_down r x) = no (ap refused_in x) n
     go (measures replies v t x) = never_kept s overflow t
     go (lays_out rect v t x) =
         let layout = (layout_after s.opened.container (style_at styles box.node) box s.replies rect).layout in

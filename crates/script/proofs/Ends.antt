@@ -109,7 +109,7 @@ unfolding measured_on asking laid_out candidates_in first_candidates records kee
 reply_filled s given lent = go (reply_way s given [] lent)
   where
     go : ReplyWay s given [] lent → filled_in (replied s given [] lent).step.state ≡ filled_in s
-    go (ReplyWay.turnedDown r e) = rw e refl
+    go (ReplyWay.turned_down r e) = rw e refl
     go (measures replies v t e) = rw e refl
     go (lays_out overflow v t e) = rw e (proceeding_filled _ _ _ _ _ ∙ rw (add-zero (filled_in s).working, add-zero (filled_in s).unclaimed) refl)
 
@@ -142,7 +142,7 @@ unfolding closed begun
 opening_few o candidates lent = go (opening_way o candidates lent)
   where
     go : OpeningWay o candidates lent → (filled_in (opened o candidates lent).step.state).working ≤ length candidates / candidate_width
-    go (OpeningWay.turnedDown r e) = rw e (omega arith)
+    go (OpeningWay.turned_down r e) = rw e (omega arith)
     go (begins v e) = rw (e, proceeding_filled, zero-add) (claimed_few o candidates)
 
 -- ---- so three questions a candidate are enough

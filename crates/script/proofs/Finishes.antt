@@ -423,7 +423,7 @@ unfolding played_out asking
 opened_passes o replies candidates lent e = go (opening_way o candidates lent)
   where
     go : OpeningWay o candidates lent → Passes lent.styles (played_out o replies candidates lent)
-    go (OpeningWay.turnedDown r d) = no (ap (λ (x : Outcome). is_refused x.step.answer) d) e
+    go (OpeningWay.turned_down r d) = no (ap (λ (x : Outcome). is_refused x.step.answer) d) e
     go (begins v d) = at_end (alive replies o candidates lent c _ (opened o candidates lent) (opened_alive replies o candidates lent c d))
       where
         c : Checked o candidates lent

@@ -1,4 +1,4 @@
-use Rattle.std.proofs.Common.{rules, le-ltb}
+use Rattle.std.proofs.Common.{le-ltb}
 use Rattle.util.proofs.Floats.{word_is_nan, nan_word, zero_by_zero}
 use Rattle.util.proofs.bits.from_word.Goals as goal
 

@@ -1,5 +1,5 @@
 use Rattle.util.proofs.Floats.{is_nan_lem}
-use Rattle.std.proofs.Common.{sym, ◌∙◌, rules}
+use Rattle.std.proofs.Common.{sym, ◌∙◌}
 use lib.Ieee.{to_bits}
 use Rattle.util.proofs.bits.to_word.Goals as goal
 

@@ -1,5 +1,5 @@
 use Rattle.util.specs.Eighths.{float_of_count}
-use Rattle.std.proofs.Common.{rules, le-ltb, lt-ltb}
+use Rattle.std.proofs.Common.{le-ltb, lt-ltb}
 use Rattle.util.proofs.eighths.from_eighths.Goals as goal
 
 pub returns-then-n-gt-LARGEST : goal.returns-then-n-gt-LARGEST

@@ -1,6 +1,6 @@
 use Rattle.util.proofs.Count.{sound, uncounted_uncut, uncounted_large, uncounted_part, cuttable}
 use borrow.Author.Tests.{not-true, not-false}
-use Rattle.std.proofs.Common.{sym, refl, ◌∙◌, rules}
+use Rattle.std.proofs.Common.{sym, refl, ◌∙◌}
 use Rattle.util.proofs.eighths.to_eighths.Goals as goal
 
 pub returns-then-not-can_be_cut : goal.returns-then-not-can_be_cut

@@ -1,5 +1,4 @@
 use Rattle.util.specs.Maybe.{clamped, at_most, at_least}
-use Rattle.std.proofs.Common.{rules}
 use Rattle.util.proofs.math.clamp.Goals as goal
 
 pub returns-in-None-min : goal.returns-in-None-min

@@ -1,5 +1,4 @@
 use Rattle.util.specs.Order.{larger}
-use Rattle.std.proofs.Common.{rules}
 use Rattle.util.proofs.sys.f32_max.Goals as goal
 
 pub returns-then-is_nan : goal.returns-then-is_nan

@@ -1,5 +1,4 @@
 use Rattle.util.specs.Order.{smaller}
-use Rattle.std.proofs.Common.{rules}
 use Rattle.util.proofs.sys.f32_min.Goals as goal
 
 pub returns-then-is_nan : goal.returns-then-is_nan

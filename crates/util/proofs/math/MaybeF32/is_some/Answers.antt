@@ -1,5 +1,4 @@
 use Rattle.util.specs.Maybe.{present}
-use Rattle.std.proofs.Common.{rules}
 use Rattle.util.proofs.math.MaybeF32.is_some.Goals as goal
 
 pub returns-in-None : goal.returns-in-None

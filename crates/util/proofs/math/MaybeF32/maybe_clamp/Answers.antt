@@ -1,5 +1,4 @@
 use Rattle.util.specs.Maybe.{map_clamped, map}
-use Rattle.std.proofs.Common.{rules}
 use Rattle.util.proofs.math.MaybeF32.maybe_clamp.Goals as goal
 
 pub returns-in-None : goal.returns-in-None

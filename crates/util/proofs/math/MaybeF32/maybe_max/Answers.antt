@@ -1,5 +1,4 @@
 use Rattle.util.specs.Maybe.{map_larger, map}
-use Rattle.std.proofs.Common.{rules}
 use Rattle.util.proofs.math.MaybeF32.maybe_max.Goals as goal
 
 pub returns-in-None : goal.returns-in-None

@@ -1,5 +1,4 @@
 use Rattle.util.specs.Maybe.{or_else}
-use Rattle.std.proofs.Common.{rules}
 use Rattle.util.proofs.math.MaybeF32.or.Goals as goal
 
 pub returns-in-None : goal.returns-in-None

@@ -1,5 +1,4 @@
 use Rattle.util.specs.Maybe.{unwrap_or}
-use Rattle.std.proofs.Common.{rules}
 use Rattle.util.proofs.math.MaybeF32.unwrap_or.Goals as goal
 
 pub returns-in-None : goal.returns-in-None

@@ -1,0 +1,13 @@
+use mathlib.Core.Path.{sym}
+use Rattle.screen_fields.proofs.Table.{first_bytes, item_bytes, candidate_bytes}
+use borrow.Author.Rules.{rules}
+use Rattle.screen_fields.proofs.format.bytes_of.Goals as goal
+
+pub returns-in-First : goal.returns-in-First
+returns-in-First c = rw c.in-First.is (sym first_bytes)
+
+pub returns-in-Item : goal.returns-in-Item
+returns-in-Item c = rw c.in-Item.is (sym item_bytes)
+
+pub returns-in-Candidate : goal.returns-in-Candidate
+returns-in-Candidate c = rw c.in-Candidate.is (sym candidate_bytes)
