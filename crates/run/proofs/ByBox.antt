@@ -119,10 +119,10 @@ reply_for i n s given surfaced lent b = go (reply_way s given surfaced lent)
         rw e (asking_for i n _ _ _ _ _ replies b.three b.none (one_kept i n s.counts.begun s.replies s.progress given b.now t))
     go (lays_out overflow v t e) = rw e (proceeding_for i n _ _ _ _ _ b.three b.none)
 
-run_for : (i n : ℕ) (s : State) (calls : List Call) → ForBox i n s → asked_for_in i n s calls ≤ 3
+run_for : (i : ℕ) (calls : List Call) (n : ℕ) (s : State) → ForBox i n s → asked_for_in i n s calls ≤ 3
 unfolding asked_for_in
-run_for i n s [] b = b.three
-run_for i n s (c ∷ calls) b = run_for i _ _ calls (reply_for i n s c.reply c.surfaced c.lent b)
+run_for i [] n s b = b.three
+run_for i (c ∷ calls) n s b = run_for i calls _ _ (reply_for i n s c.reply c.surfaced c.lent b)
 
 pub three_questions_for_each_box : ThreeQuestionsForEachBox
-three_questions_for_each_box i o candidates lent calls = run_for i _ _ calls (opening_for i o candidates lent)
+three_questions_for_each_box i o candidates lent calls = run_for i calls _ _ (opening_for i o candidates lent)
