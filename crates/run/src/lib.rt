@@ -1,6 +1,7 @@
 // What a run takes, keeps and answers. A host opens a run over lent words, then answers one question after another until it
 // finishes (compute/oof.rs, `perform_oof_layout`); specs/Run.antt says what each call does.
 #![tactic(auto)]
+
 use geometry::Rect;
 use oof_box::question::{Question, Replies, Stage};
 use oof_resolve::ContainingBlock;
