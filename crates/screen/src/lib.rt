@@ -1,4 +1,6 @@
 // The screen file that `boxlist` reads.
+#![tactic(auto)]
+
 ghost use Rattle.std.specs.Prelude.{◌≡◌, ◌+◌, ◌*◌, ◌≤◌, length, take, drop};
 ghost use Rattle.std.proofs.lemmas.List.Edits.{sets};
 ghost use Rattle.screen_fields.specs.Format.{fields_of, COLUMNS, bytes_of};
