@@ -1,5 +1,7 @@
 // Whether a call is refused, and for which reason: document 01's table, in its order. Refusal 5 is not among them: the sweep
 // decides it, after all of these.
+#![tactic(auto)]
+
 use refusal::Refusal;
 
 pub mod lent;
