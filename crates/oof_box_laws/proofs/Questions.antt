@@ -151,9 +151,9 @@ space_is container style candidate =
 
 laid_out_alone : {A : Type 0} (space : AvailableSize) (m : Talk A) → Asks (λ q. is_measure q ≡ true) m → Asks (LaidOutIn space) m
 laid_out_alone space _ ends = ends
-laid_out_alone space _ (asks {q = MeasureBoth m} {next = next} p h) = asks tt (λ r. laid_out_alone space (next r) (h r))
-laid_out_alone space _ (asks {q = MeasureWidth m} {next = next} p h) = asks tt (λ r. laid_out_alone space (next r) (h r))
-laid_out_alone space _ (asks {q = MeasureHeight m} {next = next} p h) = asks tt (λ r. laid_out_alone space (next r) (h r))
+laid_out_alone space _ (asks {q = MeasureBoth m} {next = next} p h) = asks {q = MeasureBoth m} {next = next} tt (λ r. laid_out_alone space (next r) (h r))
+laid_out_alone space _ (asks {q = MeasureWidth m} {next = next} p h) = asks {q = MeasureWidth m} {next = next} tt (λ r. laid_out_alone space (next r) (h r))
+laid_out_alone space _ (asks {q = MeasureHeight m} {next = next} p h) = asks {q = MeasureHeight m} {next = next} tt (λ r. laid_out_alone space (next r) (h r))
 laid_out_alone space _ (asks {q = LayOut l} p h) = absurd (false≢true p)
 
 keywords_measure : (node : ℕ) (style : Style) (box : ResolvedBox) (wide tall : SizingKeywordResolution) → Asks (λ q. is_measure q ≡ true) (keyword_sizes node style box (record { width = wide; height = tall }))
