@@ -1,6 +1,7 @@
 // The C entries: a run whose state and answer stand in lent words, the pixel edges of a box, whether scrolling brings a box up, in which order
 // the boxes are drawn, and the first word of a table of styles that breaks a code rule. A slice passes as a pointer, then its length in words;
-// state, answer, a layout, edges, a verdict and a found word's place pass as a pointer each. hosts/c/oof.h declares them for C.
+// state, answer, a layout, edges, a verdict and a found word's place pass as a pointer each. `oof_c_c` exports them, and hosts/c/oof.h
+// declares them for C.
 ghost use Rattle.std.specs.Prelude.{◌≡◌, []};
 ghost use Rattle.oof_c_words.specs.Entry.{came, before, returned, opening_of, opened_in_words, replied_in_words};
 ghost use Rattle.oof_c_words.specs.PixelWords.{pixels_returned, pixels_in_words};
@@ -23,8 +24,7 @@ use tree::layout::OofPositioningArea;
 use tree_record::layout::LAYOUT_WORDS;
 
 // Opens a run.
-#[unsafe(no_mangle)]
-pub extern "C" fn oof_open(
+pub fn oof_open(
     width: f32,
     height: f32,
     x: f32,
@@ -83,8 +83,7 @@ fn respond(
 }
 
 // Both sizes, measured.
-#[unsafe(no_mangle)]
-pub extern "C" fn oof_reply_both(
+pub fn oof_reply_both(
     width: f32,
     height: f32,
     styles: &[u32],
@@ -104,8 +103,7 @@ pub extern "C" fn oof_reply_both(
 }
 
 // A width, measured.
-#[unsafe(no_mangle)]
-pub extern "C" fn oof_reply_width(
+pub fn oof_reply_width(
     width: f32,
     styles: &[u32],
     layouts: &mut [u32],
@@ -130,8 +128,7 @@ pub extern "C" fn oof_reply_width(
 }
 
 // A height, measured.
-#[unsafe(no_mangle)]
-pub extern "C" fn oof_reply_height(
+pub fn oof_reply_height(
     height: f32,
     styles: &[u32],
     layouts: &mut [u32],
@@ -156,8 +153,7 @@ pub extern "C" fn oof_reply_height(
 }
 
 // A box laid out: its scrollable overflow, and the candidates that it surfaced.
-#[unsafe(no_mangle)]
-pub extern "C" fn oof_reply_laid_out(
+pub fn oof_reply_laid_out(
     left: f32,
     right: f32,
     top: f32,
@@ -191,8 +187,7 @@ pub extern "C" fn oof_reply_laid_out(
 }
 
 // The pixel edges of a box, from its layout's words, relative to an area at x, y.
-#[unsafe(no_mangle)]
-pub extern "C" fn oof_pixels(
+pub fn oof_pixels(
     layout: &[u32; LAYOUT_WORDS],
     x: f32,
     y: f32,
@@ -206,8 +201,7 @@ pub extern "C" fn oof_pixels(
 }
 
 // Whether scrolling brings up the box at a place of a finished run.
-#[unsafe(no_mangle)]
-pub extern "C" fn oof_reach(
+pub fn oof_reach(
     place: usize,
     styles: &[u32],
     layouts: &[u32],
@@ -234,8 +228,7 @@ fn number(verdict: Verdict) -> u32
 }
 
 // In which order the boxes of a finished run are drawn, as places in the hoisted order.
-#[unsafe(no_mangle)]
-pub extern "C" fn oof_drawing_order(
+pub fn oof_drawing_order(
     styles: &[u32],
     layouts: &[u32],
     working: &[u32],
@@ -251,8 +244,7 @@ pub extern "C" fn oof_drawing_order(
 }
 
 // The first word of a table of styles that breaks a code rule.
-#[unsafe(no_mangle)]
-pub extern "C" fn oof_first_bad_word(styles: &[u32], found: &mut [u32; FOUND]) -> u32
+pub fn oof_first_bad_word(styles: &[u32], found: &mut [u32; FOUND]) -> u32
     ensures { check_returned result found ≡ check_in_words (came styles) found.old }
 {
     let check = style_record::check::check_styles(styles);

@@ -1,0 +1,19 @@
+use Rattle.oof_c_words.specs.StateWords.{keyword_height}
+use borrow.Author.Rules.{rules}
+use Rattle.oof_c_words.proofs.state.keyword_height.Goals as goal
+
+pub returns-in-None : goal.returns-in-None
+unfolding keyword_height
+returns-in-None c = simp c.in-None.is
+
+pub returns-in-Both : goal.returns-in-Both
+unfolding keyword_height
+returns-in-Both c = simp c.in-Both.is
+
+pub returns-in-Width : goal.returns-in-Width
+unfolding keyword_height
+returns-in-Width c = simp c.in-Width.is
+
+pub returns-in-Height : goal.returns-in-Height
+unfolding keyword_height
+returns-in-Height c = simp c.in-Height.is

@@ -1,0 +1,40 @@
+use mathlib.Core.List.{[], ◌∷◌}
+use mathlib.Core.Path.{ap, ◌∙◌}
+use lib.ListN.{get_or}
+use Rattle.geometry.specs.declared.Size.{Size}
+use Rattle.oof_c_words.specs.StateWords.{state_words, opening_codes, float_word}
+use borrow.Author.Rules.{rules}
+use Rattle.oof_c_words.proofs.state.state_words.Goals as goal
+
+pub returns : goal.returns
+unfolding state_words opening_codes
+returns c =
+    let codes = c.opening_codes-codes.ensures in
+    λ j. c.progress_code.ensures j
+    ∷ c.keyword_kind.ensures j
+    ∷ (c.to_word.ensures ∙ ap float_word c.keyword_width.ensures) j
+    ∷ (c.to_word-2.ensures ∙ ap float_word c.keyword_height.ensures) j
+    ∷ c.fill_kind.ensures j
+    ∷ (c.to_word-3.ensures ∙ ap float_word (ap (λ (size : Size). size.width) c.fill_size-size.ensures)) j
+    ∷ (c.to_word-4.ensures ∙ ap float_word (ap (λ (size : Size). size.height) c.fill_size-size.ensures)) j
+    ∷ c.count_word.ensures j
+    ∷ c.count_word-2.ensures j
+    ∷ c.count_word-3.ensures j
+    ∷ c.count_word-4.ensures j
+    ∷ c.to_word-5.ensures j
+    ∷ c.to_word-6.ensures j
+    ∷ c.to_word-7.ensures j
+    ∷ c.to_word-8.ensures j
+    ∷ c.to_word-9.ensures j
+    ∷ c.to_word-10.ensures j
+    ∷ c.to_word-11.ensures j
+    ∷ c.to_word-12.ensures j
+    ∷ get_or (codes j) 0 0
+    ∷ get_or (codes j) 1 0
+    ∷ get_or (codes j) 2 0
+    ∷ get_or (codes j) 3 0
+    ∷ c.count_word-5.ensures j
+    ∷ c.count_word-6.ensures j
+    ∷ c.count_word-7.ensures j
+    ∷ c.count_word-8.ensures j
+    ∷ []

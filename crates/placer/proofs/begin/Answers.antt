@@ -1,0 +1,25 @@
+use Rattle.placer.proofs.Openings.{no_room, first_at_hand, swept_in}
+use Rattle.run.specs.Call.{lent}
+use Rattle.run.specs.Run.{closed}
+use borrow.Author.Rules.{rules}
+use Rattle.placer.proofs.begin.Goals as goal
+
+pub proceed-requires : goal.proceed-requires
+proceed-requires c =
+    λ more.
+    let a = c.args in
+    first_at_hand a.o a.candidates.now (lent a.styles.now a.layouts.now a.working.now a.unclaimed.now) _ _ _
+    c.requires (rw (c.claims_of-claims.ensures, c.in-Into.is) at c.sweep.ensures) more
+
+pub returns-in-Refused : goal.returns-in-Refused
+returns-in-Refused c =
+    let a = c.args in
+    no_room a.o a.candidates.now (lent a.styles.now a.layouts.now a.working.now a.unclaimed.now) _ _ _ _
+    (rw (c.claims_of-claims.ensures, c.in-Refused.is) at c.sweep.ensures) (rw c.closed-none.ensures at c.refuse.ensures)
+
+pub returns-in-Into : goal.returns-in-Into
+unfolding closed
+returns-in-Into c =
+    let a = c.args in
+    swept_in a.o a.candidates.now (lent a.styles.now a.layouts.now a.working.now a.unclaimed.now) _ _ _ _
+    (rw (c.claims_of-claims.ensures, c.in-Into.is) at c.sweep.ensures) (rw (c.container_of.ensures, c.claims_of-claims.ensures, c.closed-none.ensures) at c.proceed.ensures)
