@@ -1,9 +1,12 @@
 // A table of 1,024 random items is checked as it is, then with words replaced: every word of the record by every code of a
 // list, each time in another item, so that every item has its turn. What the check finds is printed, and held to the file
 // stdout, which a script wrote from a model of its own (tools/samples).
+#![tactic(auto)]
+
 ghost use Rattle.std.specs.Prelude.{◌≡◌, ◌*◌, length};
 ghost use Rattle.style_record.specs.Record.{style_words};
 
+use std::io;
 use style_record::check::TableCheck;
 use style_record::words::STYLE_WORDS;
 use style_record::{check, words};
@@ -93,135 +96,144 @@ fn sample(k: usize, d: u64) -> u32 {
 
 fn fill(table: &mut [u32]) {
     let mut state: u64 = 7;
-    let mut i: usize = 0;
-    while i < table.len() {
+    for i in 0..table.len() {
         state = draw(state);
         table[i] = sample(i % STYLE_WORDS, state);
-        i += 1;
     }
 }
 
 // Prints what the check finds: a dash, or item and word.
-fn report(table: &[u32]) {
+fn report(rt: &impl Print, table: &[u32]) -> io::Result<()> {
     match check::check_styles(table) {
-        TableCheck::Good => {
-            io::write_all(1, b" -");
-        }
-        TableCheck::Bad { item, word } => {
-            io::write_all(1, b" ");
-            io::print_decimal(1, item as u64);
-            io::write_all(1, b":");
-            io::print_decimal(1, word as u64);
-        }
+        TableCheck::Good => print!(rt; " -"),
+        TableCheck::Bad { item, word } => print!(rt; " {item}:{word}"),
     }
 }
 
 // The table with one word replaced.
-fn replaced(table: &mut [u32], place: usize, word: u32) {
+fn replaced(rt: &impl Print, table: &mut [u32], place: usize, word: u32) -> io::Result<()> {
     if place < table.len() {
         let before = table[place];
         table[place] = word;
-        report(table);
+        let told = report(rt, table);
         table[place] = before;
+        return told;
     }
+    Ok(())
 }
 
 // The table with two words replaced.
-fn both_replaced(table: &mut [u32], place: usize, word: u32, other: usize, code: u32) {
+fn both_replaced(
+    rt: &impl Print,
+    table: &mut [u32],
+    place: usize,
+    word: u32,
+    other: usize,
+    code: u32,
+) -> io::Result<()> {
     if other < table.len() {
         let before = table[other];
         table[other] = code;
-        replaced(table, place, word);
+        let told = replaced(rt, table, place, word);
         table[other] = before;
+        return told;
     }
+    Ok(())
 }
 
 // Word k of an item by the code at j, and the item's word `other` by a code of its own. The item goes by k and j.
-fn one(table: &mut [u32], k: usize, j: usize, other: usize, code: u32) {
+fn one(
+    rt: &impl Print,
+    table: &mut [u32],
+    k: usize,
+    j: usize,
+    other: usize,
+    code: u32,
+) -> io::Result<()> {
     if k < STYLE_WORDS {
         if other < STYLE_WORDS {
             if j < CODE_COUNT {
                 let at = STYLE_WORDS * ((CODE_COUNT * k + j) * 37 % ITEMS);
-                both_replaced(table, at + k, CODES[j], at + other, code);
+                both_replaced(rt, table, at + k, CODES[j], at + other, code)?;
             }
         }
     }
+    Ok(())
 }
 
 // Word k by every code.
-fn row(table: &mut [u32], k: usize, other: usize, code: u32) {
-    let mut j: usize = 0;
-    while j < CODE_COUNT {
-        one(table, k, j, other, code);
-        j += 1;
+fn row(rt: &impl Print, table: &mut [u32], k: usize, other: usize, code: u32) -> io::Result<()> {
+    for j in 0..CODE_COUNT {
+        one(rt, table, k, j, other, code)?;
     }
-    io::write_all(1, b"\n");
+    println!(rt)
 }
 
 // Every word by every code. The other word is a float, which no code breaks.
-fn rows(table: &mut [u32]) {
-    let mut k: usize = 0;
-    while k < STYLE_WORDS {
-        row(table, k, INSET_VALUE, 4290772993);
-        k += 1;
+fn rows(rt: &impl Print, table: &mut [u32]) -> io::Result<()> {
+    for k in 0..STYLE_WORDS {
+        row(rt, table, k, INSET_VALUE, 4290772993)?;
     }
+    Ok(())
 }
 
 // The first part of the table only.
-fn part(table: &[u32], n: usize) {
+fn part(rt: &impl Print, table: &[u32], n: usize) -> io::Result<()> {
     if n <= table.len() {
-        report(&table[..n]);
+        report(rt, &table[..n])?;
     }
+    Ok(())
 }
 
 // Safeties under an absent keyword, then under a keyword that is none.
-fn safeties(table: &mut [u32]) {
-    row(table, words::JUSTIFY_SAFETY, words::JUSTIFY, 10);
-    row(table, words::ALIGN_SAFETY, words::ALIGN, 10);
-    row(table, words::JUSTIFY_SAFETY, words::JUSTIFY, 11);
+fn safeties(rt: &impl Print, table: &mut [u32]) -> io::Result<()> {
+    row(rt, table, words::JUSTIFY_SAFETY, words::JUSTIFY, 10)?;
+    row(rt, table, words::ALIGN_SAFETY, words::ALIGN, 10)?;
+    row(rt, table, words::JUSTIFY_SAFETY, words::JUSTIFY, 11)
 }
 
 // Two words of one item, and of two items: the first in record order.
-fn pairs(table: &mut [u32]) {
-    row(table, PADDING_TOP, words::CONTAIN, 256);
-    row(table, words::CONTAIN, PADDING_TOP, 3);
+fn pairs(rt: &impl Print, table: &mut [u32]) -> io::Result<()> {
+    row(rt, table, PADDING_TOP, words::CONTAIN, 256)?;
+    row(rt, table, words::CONTAIN, PADDING_TOP, 3)?;
     let late = 900 * STYLE_WORDS + INSET_RIGHT;
     let early = 30 * STYLE_WORDS + words::CONTAIN;
-    both_replaced(table, late, 0, early, 256);
-    both_replaced(table, early, 256, late, 0);
-    io::write_all(1, b"\n");
+    both_replaced(rt, table, late, 0, early, 256)?;
+    both_replaced(rt, table, early, 256, late, 0)?;
+    println!(rt)
 }
 
-fn main() {
+fn main(rt: HostRuntime) -> io::Result<()> {
     let mut table = zeros();
     fill(&mut table);
-    report(&table);
-    io::write_all(1, b"\n");
-    rows(&mut table);
-    safeties(&mut table);
-    pairs(&mut table);
+    report(&rt, &table)?;
+    println!(rt)?;
+    rows(&rt, &mut table)?;
+    safeties(&rt, &mut table)?;
+    pairs(&rt, &mut table)?;
     // item and word, not a place in the table; a safety behind keyword 9; a NaN for a ratio; the first item before the first word
-    replaced(&mut table, STYLE_WORDS, 2);
-    both_replaced(&mut table, words::JUSTIFY_SAFETY, 3, words::JUSTIFY, 9);
+    replaced(&rt, &mut table, STYLE_WORDS, 2)?;
+    both_replaced(&rt, &mut table, words::JUSTIFY_SAFETY, 3, words::JUSTIFY, 9)?;
     both_replaced(
+        &rt,
         &mut table,
         words::RATIO_PRESENT,
         1,
         words::RATIO,
         2143289344,
-    );
-    both_replaced(&mut table, words::CONTAIN, 256, STYLE_WORDS, 2);
-    io::write_all(1, b"\n");
+    )?;
+    both_replaced(&rt, &mut table, words::CONTAIN, 256, STYLE_WORDS, 2)?;
+    println!(rt)?;
     // a trailing part of a record is not looked at
     let before = table[STYLE_WORDS];
     table[STYLE_WORDS] = 2;
-    part(&table, STYLE_WORDS + 1);
+    part(&rt, &table, STYLE_WORDS + 1)?;
     table[STYLE_WORDS] = before;
     table[LAST] = 2;
-    part(&table, TABLE);
-    part(&table, TABLE - 1);
-    part(&table, LAST + 1);
-    part(&table, STYLE_WORDS - 1);
-    part(&table, 0);
-    io::write_all(1, b"\n");
+    part(&rt, &table, TABLE)?;
+    part(&rt, &table, TABLE - 1)?;
+    part(&rt, &table, LAST + 1)?;
+    part(&rt, &table, STYLE_WORDS - 1)?;
+    part(&rt, &table, 0)?;
+    println!(rt)
 }
