@@ -1,4 +1,3 @@
-use borrow.Author.Rules.{rules}
 use Rattle.reach.proofs.Numbers.{others_decide, first_decide}
 use Rattle.reach.proofs.are_numbers_accepted.Goals as goal
 

@@ -1,5 +1,4 @@
-use borrow.Author.Rules.{rules}
-use mathlib.Core.Path.{refl, ◌∙◌}
+use mathlib.Core.Path.{refl}
 use Rattle.pixels.proofs.Held.{back}
 use Rattle.reach.proofs.Held.{rest_fits, right_fits}
 use Rattle.reach.proofs.from_start.Goals as goal

@@ -1,4 +1,3 @@
-use borrow.Author.Rules.{rules}
 use mathlib.Core.Path.{refl, sym, ◌∙◌}
 use Rattle.pixels.proofs.Held.{back, held_eighths}
 use Rattle.reach.specs.Reach.{last_offset}

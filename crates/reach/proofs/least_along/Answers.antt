@@ -1,5 +1,3 @@
-use borrow.Author.Rules.{rules}
-use mathlib.Core.Path.{refl, sym, ◌∙◌}
 use Rattle.pixels.proofs.Held.{back, held_eighths}
 use Rattle.reach.specs.Reach.{axis_of}
 use Rattle.reach.proofs.Held.{eighths_small, apart_small, apart_fits, along_small, along_fits}

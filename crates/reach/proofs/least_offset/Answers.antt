@@ -1,4 +1,4 @@
-use mathlib.Core.Path.{refl, sym, ap, ◌∙◌}
+use mathlib.Core.Path.{sym, ap, ◌∙◌}
 use Rattle.pixels.proofs.Held.{back}
 use Rattle.reach.specs.declared.Offset.TheVariants.{At}
 use Rattle.reach.proofs.Held.{at_most_zero, above_zero, end_fits, past_fits, first_fits, first_small}

@@ -1,9 +1,8 @@
-use borrow.Author.Rules.{rules}
 use mathlib.Core.Path.{refl, sym, ap, ◌∙◌}
 use Rattle.run.specs.Call.{lent}
 use Rattle.placer_check.specs.Verdict.{verdict_of}
 use Rattle.finished.proofs.There.{record_is_there, layout_is_there}
-use Rattle.reach.specs.Reach.{answered_by, reached}
+use Rattle.reach.specs.Reach.{reached}
 use Rattle.reach.proofs.reach.Goals as goal
 
 pub layout_at-requires : goal.layout_at-requires

@@ -1,5 +1,4 @@
 use Rattle.reach.specs.Reach.{box_reached}
-use borrow.Author.Rules.{rules}
 use mathlib.Core.Path.{refl, sym, ◌∙◌}
 use borrow.Author.Tests.{not-true, not-false}
 use Rattle.reach.proofs.reach_box.Goals as goal

@@ -1,5 +1,4 @@
 use Rattle.reach.specs.Told.{verdict_told}
-use borrow.Author.Rules.{rules}
 use Rattle.reach.proofs.lent.tell.Goals as goal
 
 pub returns-in-Refused : goal.returns-in-Refused
