@@ -1,7 +1,7 @@
 // Reads the stored screens that the arguments name and prints what was read; then rows of numbers at the limits of a column.
 // `tools/samples/screen_samples.py` wrote the screens and what is expected.
 ghost use Rattle.std.specs.Prelude.{◌+◌, ◌≤◌, ◌≡◌, length};
-ghost use Rattle.screen_fields.specs.Format.{MAX-BYTES};
+ghost use Rattle.screen_fields.specs.Format.{MAX_BYTES};
 
 use boxlist_lines::list;
 use boxlist_lines::list::Row;
@@ -17,7 +17,7 @@ use util::bits;
 const ROOM: usize = format::MAX_BYTES + 1;
 
 fn room() -> [u8; ROOM]
-    ensures { MAX-BYTES + 1 ≡ length result }
+    ensures { MAX_BYTES + 1 ≡ length result }
 {
     [0; ROOM]
 }
