@@ -1,0 +1,6 @@
+use borrow.Author.Rules.{rules}
+use mathlib.Core.Path.{refl}
+use Rattle.reach.proofs.pair.Goals as goal
+
+pub returns-in-At-y : goal.returns-in-At-y
+returns-in-At-y c = rw (c.in-At.is, c.in-At-y.is) refl
