@@ -44,7 +44,8 @@ def rattle(verb, name, *more, root=ROOT, left=ROOT):
     at, told = kit(), dependencies(root)
     is_static, listed = told[name]
     place = {d: next((p for p in (library(root, d), library(left, d)) if p.is_dir()), library(left, d)) for d in below(name, told)}
-    words = [at / "bin/rattle", verb, "--crate-name", name, "src/main.rt" if (root / f"crates/{name}/src/main.rt").is_file() else "src/lib.rt"]
+    is_program = (root / f"crates/{name}/src/main.rt").is_file()
+    words = [at / "bin/rattle", verb, "--crate-name", name, "src/main.rt" if is_program else "src/lib.rt"]
     for dep in ["std", *(d for d in listed if d not in told)]:
         words += ["--extern", f"{dep}={at}/rlibs/{dep}.rlib"]
     words += ["-L", f"dependency={at}/rlibs"]
@@ -55,5 +56,5 @@ def rattle(verb, name, *more, root=ROOT, left=ROOT):
     words += ["--antt-project", at / "rattle/logic/antt-project.json", "--logic-built", at / "logic_built", "--links", f"{name}="]
     words += ["--jobs", str(max(1, min(4, len(os.sched_getaffinity(0)))))]
     words += ["--crate-type", "staticlib"] if is_static else []
-    words += ["--toolchain", at / "toolchain", "--backend", "llvm"] if verb == "build" else []
+    words += ["--toolchain", at / "toolchain", "--backend", "llvm"] if verb == "build" and (is_static or is_program) else []
     return subprocess.run([str(w) for w in [*words, *more]], cwd=root / f"crates/{name}", stdin=subprocess.DEVNULL, stdout=subprocess.PIPE, stderr=subprocess.STDOUT, text=True)
