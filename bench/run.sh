@@ -13,7 +13,7 @@ OOF_LIB=$(cd "${OOF_LIB:-$root/target/staticlib}" 2> /dev/null && pwd) || OOF_LI
 export OOF_LIB
 archive=$OOF_LIB/liboof_c.a
 if [ ! -f "$archive" ]; then
-    echo "bench: $archive is not there (rt staticlib oof_c puts it into target/staticlib)"
+    echo "bench: $archive is not there (tools/staticlib puts it into target/staticlib)"
     exit 1
 fi
 log=$(mktemp)

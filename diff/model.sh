@@ -1,8 +1,8 @@
 # Sourced by the scripts that hold an entry to a model, with `here` their folder and `part` their name: builds $part.rs over liboof_c.a, as
-# the program $work/$part. The library is in target/staticlib (`rt staticlib oof_c` puts it there) or in the folder OOF_LIB.
+# the program $work/$part. The library is in target/staticlib (`tools/staticlib` puts it there) or in the folder OOF_LIB.
 library=${OOF_LIB:-$here/../../target/staticlib}
 if [ ! -f "$library/liboof_c.a" ]; then
-    echo "diff/$part: $library/liboof_c.a is not there (rt staticlib oof_c puts it into target/staticlib)"
+    echo "diff/$part: $library/liboof_c.a is not there (tools/staticlib puts it into target/staticlib)"
     exit 1
 fi
 work=$(mktemp -d)

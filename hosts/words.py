@@ -24,7 +24,7 @@ def body(path, name):
     """The equations of a definition, one string a clause: what stands behind `name .. =` up to the next blank line."""
     lines = re.findall(rf"^{name}\b([^=\n]*) =((?:.|\n(?!\n|{name}\b))*)", text(path), re.M)
     assert lines, f"{path} has no {name}"
-    return [(arguments.strip(), " ".join(right.split())) for arguments, right in lines]
+    return [(arguments.strip(), " ".join(re.sub(r"(?m)(^|\s)-- .*", "", right).split())) for arguments, right in lines]
 
 
 def number(path, name):
@@ -51,16 +51,16 @@ STATE, ANSWER = "oof_c_words/specs/StateWords.antt", "oof_c_words/specs/AnswerWo
 PIXELS, REACH, FOUND = "pixels/specs/Told.antt", "reach/specs/Told.antt", "oof_c_words/specs/CheckWords.antt"
 SIDES = ["LEFT", "RIGHT", "TOP", "BOTTOM"]
 AT = r"(\w+|\([^()]*\))"  # a word's number, as it is written
-known = {"layerWord": number(CANDIDATE, "layerWord")}
+known = {"layer_word": number(CANDIDATE, "layer_word")}
 for name in re.findall(r"^abbrev pub (\w+) : ℕ$", text(RECORD), re.M):
     known[name] = eval(body(RECORD, name)[0][1], {}, known)
 
 
 def word_of(written):
-    """The number of a word, as it is written by the names of the style record: `(tagWord 4)`, `ratioWord`."""
-    (length, right), = body(RECORD, "tagWord")
+    """The number of a word, as it is written by the names of the style record: `(tag_word 4)`, `ratio_word`."""
+    (length, right), = body(RECORD, "tag_word")
     tag = lambda m: str(eval(right, {length: int(m[1])}, known))
-    return eval(re.sub(r"\btagWord (\d+)", tag, written), {}, known)
+    return eval(re.sub(r"\btag_word (\d+)", tag, written), {}, known)
 
 
 def place(record, field, of):
@@ -71,33 +71,33 @@ def place(record, field, of):
 
 
 def style():
-    out, record = {}, body(DECODE, "styleOf")[0][1]
+    out, record = {}, body(DECODE, "style_of")[0][1]
     for field in ("inset", "margin", "padding", "border"):
-        first = place(record, field, "rectAt")
-        out |= {f"{field.upper()}_{side}": first + known["lengthWords"] * k for k, side in enumerate(SIDES)}
+        first = place(record, field, "rect_at")
+        out |= {f"{field.upper()}_{side}": first + known["length_words"] * k for k, side in enumerate(SIDES)}
     for field, prefix in (("size", ""), ("min", "MIN_"), ("max", "MAX_")):
-        first = place(record, field, "sizeAt")
-        out |= {prefix + "WIDTH": first, prefix + "HEIGHT": first + known["lengthWords"]}
-    present, ratio = re.findall(rf"\(r {AT}\)", body(DECODE, "ratioAt")[0][1])
+        first = place(record, field, "size_at")
+        out |= {prefix + "WIDTH": first, prefix + "HEIGHT": first + known["length_words"]}
+    present, ratio = re.findall(rf"\(r {AT}\)", body(DECODE, "ratio_at")[0][1])
     out |= {"RATIO_PRESENT": word_of(present), "RATIO": word_of(ratio)}
     word = lambda of: word_of(re.search(rf"{of} \(r {AT}\)", record)[1])
-    out |= {"BOX_SIZING": word("sizingOf"), "FLAGS": word("bit0"), "DIRECTION": word("directionOf"), "CONTAIN": word("containOf")}
+    out |= {"BOX_SIZING": word("sizing_of"), "FLAGS": word("bit0"), "DIRECTION": word("direction_of"), "CONTAIN": word("contain_of")}
     assert word("bit0") == word("bit1")
     for field in ("justify", "align"):
-        first = place(record, field, "alignAt")
+        first = place(record, field, "align_at")
         out |= {field.upper(): first, field.upper() + "_SAFETY": first + 1}
-    for axis, written in re.findall(rf"(x|y) = overflowOf \(r {AT}\)", body(DECODE, "overflowAt")[0][1]):
+    for axis, written in re.findall(rf"(x|y) = overflow_of \(r {AT}\)", body(DECODE, "overflow_at")[0][1]):
         out["OVERFLOW_" + axis.upper()] = word_of(written)
-    out["SCROLLBAR_WIDTH"] = word("scrollbar = ofBits binary32")
+    out["SCROLLBAR_WIDTH"] = word("scrollbar = of_bits binary32")
     return {"STYLE_" + name: at for name, at in out.items()}
 
 
 def length():
     """The words of a length, from its first one."""
-    record = body(DECODE, "lengthAt")[0][1]
-    parts = re.findall(r"\b(\w+) = (?:ofBits binary32 )?\(?r (k|\(k \+ \d\))", record)
+    record = body(DECODE, "length_at")[0][1]
+    parts = re.findall(r"\b(\w+) = (?:of_bits binary32 )?\(?r (k|\(k \+ \d\))", record)
     out = {"LENGTH_" + field.upper(): eval(at, {}, {"k": 0}) for field, at in parts}
-    assert sorted(out.values()) == list(range(known["lengthWords"])), record
+    assert sorted(out.values()) == list(range(known["length_words"])), record
     return out
 
 
@@ -107,92 +107,92 @@ def style_names():
     called = {"LENGTH_TAG": "tag", "LENGTH_VALUE": "value", "LENGTH_SECOND": "second value"}
     for constant, at in words.items():
         name = constant.removeprefix("STYLE_").replace("_", " ").lower()
-        if at < known["afterLengths"]:
+        if at < known["after_lengths"]:
             out |= {at + k: f"{name}, {called[part]}" for k, part in parts.items()}
         else:
             out[at] = name + " keyword" if constant + "_SAFETY" in words else name
-    assert sorted(out) == list(range(known["styleWords"])), out
+    assert sorted(out) == list(range(known["style_words"])), out
     return [out[at] for at in sorted(out)]
 
 
 def candidate():
-    record, axis = body(CANDIDATE, "candidateOf")[0][1], body(CANDIDATE, "axisOf")[0][1]
-    out = {field.upper(): place(record, field, "getD") for field in ("node", "order", "position", "layer")}
-    ends = re.search(r"area = floatAt r (k|\([^()]*\)) to floatAt r (k|\([^()]*\))", axis)
+    record, axis = body(CANDIDATE, "candidate_of")[0][1], body(CANDIDATE, "axis_of")[0][1]
+    out = {field.upper(): place(record, field, "get_or") for field in ("node", "order", "position", "layer")}
+    ends = re.search(r"area = float_at r (k|\([^()]*\)) to float_at r (k|\([^()]*\))", axis)
     inner = {"START": ends[1], "END": ends[2]}
     for field, name in (("keyword", "EDGE"), ("safety", "SAFETY"), ("fallback", "FALLBACK")):
-        inner[name] = re.search(rf"{field} = \w+ \(getD r (\([^()]*\)) 0\)", axis)[1]
+        inner[name] = re.search(rf"{field} = \w+ \(get_or r (\([^()]*\)) 0\)", axis)[1]
     for name in "xy":
-        first = place(record, name, "axisOf")
+        first = place(record, name, "axis_of")
         out |= {f"{name.upper()}_{part}": eval(at, {}, {"k": first}) for part, at in inner.items()}
     return {"CANDIDATE_" + name: at for name, at in out.items()}
 
 
 def layout():
-    record = body(LAYOUT, "layoutOf")[0][1]
-    inner = lambda field, part: int(re.search(rf"\b{field} = record {{[^}}]*\b{part} = floatAt r (\d+)", record)[1])
-    out = {"ORDER": place(record, "order", "getD"), "WIDTH": inner("size", "width"), "HEIGHT": inner("size", "height")}
+    record = body(LAYOUT, "layout_of")[0][1]
+    inner = lambda field, part: int(re.search(rf"\b{field} = record {{[^}}]*\b{part} = float_at r (\d+)", record)[1])
+    out = {"ORDER": place(record, "order", "get_or"), "WIDTH": inner("size", "width"), "HEIGHT": inner("size", "height")}
     out |= {"SCROLLBAR_WIDTH": inner("scrollbar", "width"), "SCROLLBAR_HEIGHT": inner("scrollbar", "height")}
     out |= {"X": inner("location", "x"), "Y": inner("location", "y")}
-    sides = re.findall(r"\b(\w+) = floatAt r (k|\(k \+ \d\))", body(LAYOUT, "rectOf")[0][1])
+    sides = re.findall(r"\b(\w+) = float_at r (k|\(k \+ \d\))", body(LAYOUT, "rect_of")[0][1])
     assert [(side.upper(), eval(at, {}, {"k": 0})) for side, at in sides] == [(side, k) for k, side in enumerate(SIDES)], sides
-    out |= {field.upper(): place(record, field, "rectOf") for field in ("overflow", "padding", "border", "margin")}
+    out |= {field.upper(): place(record, field, "rect_of") for field in ("overflow", "padding", "border", "margin")}
     return {"LAYOUT_" + name: at for name, at in out.items()}
 
 
 def area(record):
     """The first word of an area, whose four stand one after another."""
-    said = re.findall(r"\b(\w+) = floatAt r (k|\(k \+ \d\))", body(LAYOUT, "areaOf")[0][1])
+    said = re.findall(r"\b(\w+) = float_at r (k|\(k \+ \d\))", body(LAYOUT, "area_of")[0][1])
     assert said == [("width", "k"), ("height", "(k + 1)"), ("x", "(k + 2)"), ("y", "(k + 3)")], said
-    return int(re.search(r"\barea = areaOf w (\d+)", record)[1])
+    return int(re.search(r"\barea = area_of w (\d+)", record)[1])
 
 
 def state():
-    replies, block, extents = (body(STATE, name)[0][1] for name in ("repliesIn", "containerIn", "extentsIn"))
+    replies, block, extents = (body(STATE, name)[0][1] for name in ("replies_in", "container_in", "extents_in"))
     first = lambda record, of: int(re.search(rf"\b{of} \(at w (\d+)\)", record)[1])
     def named(record, *fields):
         """The words of these fields, which stand one after another."""
-        found = {name: int(n) for name, n in re.findall(r"\b(\w+) = (?:at|floatAt) w (\d+)", record)}
+        found = {name: int(n) for name, n in re.findall(r"\b(\w+) = (?:at|float_at) w (\d+)", record)}
         numbers = [found[field] for field in fields]
         assert numbers == list(range(numbers[0], numbers[0] + len(fields))), record
         return numbers
 
-    counts = named(body(STATE, "countsIn")[0][1], "working", "unclaimed", "begun", "answered")
-    out = {"PROGRESS": first(body(STATE, "stateOf")[0][1], "progressOf")}
-    out |= {"KEYWORD": first(replies, "keywordReplyOf"), "FILL": first(replies, "fillReplyOf")}
+    counts = named(body(STATE, "counts_in")[0][1], "working", "unclaimed", "begun", "answered")
+    out = {"PROGRESS": first(body(STATE, "state_of")[0][1], "progress_of")}
+    out |= {"KEYWORD": first(replies, "keyword_reply_of"), "FILL": first(replies, "fill_reply_of")}
     out |= dict(zip(("WORKING", "UNCLAIMED", "BEGUN", "ANSWERED"), counts))
-    out["OVERFLOW"] = int(re.fullmatch(r"rectOf w (\d+)", body(STATE, "overflowIn")[0][1])[1])
-    out |= {"AREA": area(block), "DIRECTION": first(block, "directionOf")}
-    out["CLAIMS"] = first(body(STATE, "openedIn")[0][1], "claimsIn")
-    out |= {f"OVERFLOW_{axis.upper()}": int(re.search(rf"\b{axis} = overflowOf \(at w (\d+)\)", block)[1]) for axis in "xy"}
+    out["OVERFLOW"] = int(re.fullmatch(r"rect_of w (\d+)", body(STATE, "overflow_in")[0][1])[1])
+    out |= {"AREA": area(block), "DIRECTION": first(block, "direction_of")}
+    out["CLAIMS"] = first(body(STATE, "opened_in")[0][1], "claims_in")
+    out |= {f"OVERFLOW_{axis.upper()}": int(re.search(rf"\b{axis} = overflow_of \(at w (\d+)\)", block)[1]) for axis in "xy"}
     out["LENGTHS"] = named(extents, "styles", "layouts", "working", "unclaimed")[0]
     return {"STATE_" + name: at for name, at in out.items()}
 
 
 def answer():
-    """Words of an answer by their turn in the lists that `measureWords` and `finishWords` put together."""
-    parts = {name: re.findall(r"(?:^|∷ |\()((?:given|spaceKind)?[^∷()]*(?:\([^∷]*\))?) (?=∷)", body(ANSWER, name)[0][1]) for name in ("knownWords", "spaceWords")}
+    """Words of an answer by their turn in the lists that `measure_words` and `finish_words` put together."""
+    parts = {name: re.findall(r"(?:^|∷ |\()((?:given|space_kind)?[^∷()]*(?:\([^∷]*\))?) (?=∷)", body(ANSWER, name)[0][1]) for name in ("known_words", "space_words")}
     assert [len(p) for p in parts.values()] == [4, 4], parts
-    assert "kind ∷ ask .node ∷ []) ++ knownWords (ask .known) ++ spaceWords (ask .space)" in body(ANSWER, "measureWords")[0][1]
-    assert "4 ∷ ask .node ∷ []) ++ knownWords (definite (ask .size)) ++ spaceWords (ask .space)" in body(ANSWER, "layOutWords")[0][1]
+    assert "kind ∷ ask.node ∷ []) ++ known_words ask.known ++ space_words ask.space" in body(ANSWER, "measure_words")[0][1]
+    assert "4 ∷ ask.node ∷ []) ++ known_words (definite ask.size) ++ space_words ask.space" in body(ANSWER, "lay_out_words")[0][1]
     out = {"ANSWER_KIND": 0, "QUESTION_NODE": 1}
-    for first, name, words in ((2, "KNOWN", parts["knownWords"]), (6, "AVAILABLE", parts["spaceWords"])):
+    for first, name, words in ((2, "KNOWN", parts["known_words"]), (6, "AVAILABLE", parts["space_words"])):
         out |= {f"QUESTION_{name}_{side}": first + k for side in ("WIDTH", "HEIGHT") for k, w in enumerate(words)
-                if re.match(rf"(given|spaceKind) .*\.{side.lower()}\)", w)}
-    finish = body(ANSWER, "finishWords")[0][1]
-    assert "0 ∷ countWord (f .count) ∷ []) ++ rectWords (f .overflow) ++" in finish
-    sides = re.findall(r"r \.(\w+)", body(LAYOUT, "rectWords")[0][1])
+                if re.match(rf"(given|space_kind) .*\.{side.lower()}$", w)}
+    finish = body(ANSWER, "finish_words")[0][1]
+    assert "0 ∷ count_word f.count ∷ []) ++ rect_words f.overflow ++" in finish
+    sides = re.findall(r"r\.(\w+)", body(LAYOUT, "rect_words")[0][1])
     out |= {"FINISH_COUNT": 1} | {f"FINISH_{side.upper()}": 2 + k for k, side in enumerate(sides)}
     kinds = {"MEASURE_" + re.search(r"Measure(\w+)", v)[1].upper() if "Measure" in v else "LAY_OUT":
-             int(r.split()[1]) if "Measure" in v else int(re.search(r"\((\d+) ∷ ask", body(ANSWER, "layOutWords")[0][1])[1])
-             for v, r in body(ANSWER, "questionWords")}
-    return out | kinds | {"FINISH": int(re.search(r"\((\d+) ∷ countWord", finish)[1])}
+             int(r.split()[1]) if "Measure" in v else int(re.search(r"\((\d+) ∷ ask", body(ANSWER, "lay_out_words")[0][1])[1])
+             for v, r in body(ANSWER, "question_words")}
+    return out | kinds | {"FINISH": int(re.search(r"\((\d+) ∷ count_word", finish)[1])}
 
 
 def pixels():
-    """Edges by their turn in the list that `edgesIn` puts together."""
-    sides = re.fullmatch(r"((?:p \.\w+ ∷ )+)\[\]", body(PIXELS, "edgesIn")[0][1])[1].split(" ∷ ")[:-1]
-    return {"PIXEL_" + side.removeprefix("p .").upper(): k for k, side in enumerate(sides)} | {"PIXEL_EDGES": len(sides)}
+    """Edges by their turn in the list that `edges_in` puts together."""
+    sides = re.fullmatch(r"((?:p\.\w+ ∷ )+)\[\]", body(PIXELS, "edges_in")[0][1])[1].split(" ∷ ")[:-1]
+    return {"PIXEL_" + side.removeprefix("p.").upper(): k for k, side in enumerate(sides)} | {"PIXEL_EDGES": len(sides)}
 
 
 def reach():
@@ -206,47 +206,47 @@ def reach():
 
 def bad_word():
     """The two words by their turn in the list of the clause for `(Bad i k)`."""
-    item, word, told = re.search(r"\(Bad (\w+) (\w+)\).*?= .*?found = ((?:countWord \w+ ∷ )+)\[\]", text(FOUND)).groups()
-    told = told.replace("countWord ", "").split(" ∷ ")[:-1]
+    item, word, told = re.search(r"\(Bad (\w+) (\w+)\).*?= .*?found = ((?:count_word \w+ ∷ )+)\[\]", text(FOUND)).groups()
+    told = told.replace("count_word ", "").split(" ∷ ")[:-1]
     return {"FOUND_ITEM": told.index(item), "FOUND_STYLE_WORD": told.index(word), "FOUND_WORDS": len(told)}
 
 
 def tags():
     """By what each comes to in a size."""
-    names = {"Length value": "PX", "autoIn f": "AUTO", "Length (basis ⊗ value)": "PERCENT", "Absent": "CONTENT",
+    names = {"Length value": "PX", "auto_in f": "AUTO", "Length (basis ⊗ value)": "PERCENT", "Absent": "CONTENT",
              "Length ((basis ⊗ value) ⊕ second)": "SUM",
              "Keyword keyword.MinContent": "MIN_CONTENT", "Keyword keyword.MaxContent": "MAX_CONTENT",
              "Keyword keyword.FitContent": "FIT_CONTENT", "Keyword keyword.Stretch": "STRETCH",
              "Keyword (keyword.FitContentLimit value)": "FIT_CONTENT_PX",
              "Keyword (keyword.FitContentLimit (basis ⊗ value))": "FIT_CONTENT_PERCENT"}
-    matches = body(RESOLVE, "byTag")[0][1] + " " + body(RESOLVE, "inSize")[0][1]
-    clauses = re.findall(r"eqb tag (\d+)\) (?:\((.*?)\)|(\w+))(?= \(cond| \(fromSize| NotAllowed)", matches)
+    matches = body(RESOLVE, "by_tag")[0][1] + " " + body(RESOLVE, "in_size")[0][1]
+    clauses = re.findall(r"eqb tag (\d+)\) (?:\((.*?)\)|(\w+))(?= \(cond| \(from_size| NotAllowed)", matches)
     return {"TAG_" + names[to or word]: int(n) for n, to, word in clauses}
 
 
 def wanted():
     out = style() | length() | candidate() | layout() | state() | answer() | pixels() | reach() | bad_word() | tags()
-    out |= {"STYLE_WORDS": known["styleWords"], "LENGTH_WORDS": known["lengthWords"]}
-    out |= {"CANDIDATE_WORDS": number(CANDIDATE, "candidateWidth"), "LAYOUT_WORDS": number(LAYOUT, "layoutWidth")}
-    out |= {"STATE_WORDS": count("stateWords"), "ANSWER_WORDS": count("finishWords")}
-    assert count("measureWords") == count("layOutWords") == count("finishWords")
+    out |= {"STYLE_WORDS": known["style_words"], "LENGTH_WORDS": known["length_words"]}
+    out |= {"CANDIDATE_WORDS": number(CANDIDATE, "candidate_width"), "LAYOUT_WORDS": number(LAYOUT, "layout_width")}
+    out |= {"STATE_WORDS": count("state_words"), "ANSWER_WORDS": count("finish_words")}
+    assert count("measure_words") == count("lay_out_words") == count("finish_words")
     refusals = text("run/specs/Refusals.antt")
     out |= {"MOST_ITEMS": int(re.search(r"ltb (\d+) \(items", refusals)[1]), "MOST_RECORDS": int(re.search(r"ltb (\d+) \(length list", refusals)[1])}
-    assert body(CANDIDATE, "candidateKinds")[0][1].endswith("++ (below layerCount ∷ []))")
-    out["MOST_LAYER"] = number(CANDIDATE, "layerCount") - 1
+    assert body(CANDIDATE, "candidate_kinds")[0][1].endswith("++ (below layer_count ∷ []))")
+    out["MOST_LAYER"] = number(CANDIDATE, "layer_count") - 1
     # those of the entries: 7 and 8 belong to parts that have none
-    out |= {k: v for k, v in codes("refusal/specs/Refusal.antt", "numberOf", "").items() if v not in (7, 8)} | {"ACCEPTED": 0}
+    out |= {k: v for k, v in codes("refusal/specs/Refusal.antt", "number_of", "").items() if v not in (7, 8)} | {"ACCEPTED": 0}
     style_codes, record_codes = "style/specs/Codes.antt", "tree_record/specs/Codes.antt"
-    out |= codes(style_codes, "directionCode", "DIRECTION_") | codes(style_codes, "overflowCode", "OVERFLOW_")
-    out |= codes(style_codes, "safetyCode", "SAFETY_") | codes(style_codes, "keywordCode", "ALIGN_")
-    out |= codes(style_codes, "sizingCode", "BOX_SIZING_", {"BorderBox": "BORDER", "ContentBox": "CONTENT"})
-    out["ALIGN_ABSENT"] = int(re.search(r"cond \(eqb k (\d+)\)", body(style_codes, "alignmentOf")[0][1])[1])
-    out |= codes(record_codes, "positionCode", "POSITION_") | codes(record_codes, "edgeCode", "EDGE_")
-    low, high = map(int, re.findall(r"cond \w+ (\d) 0", body(style_codes, "bitsCode")[0][1]))
+    out |= codes(style_codes, "direction_code", "DIRECTION_") | codes(style_codes, "overflow_code", "OVERFLOW_")
+    out |= codes(style_codes, "safety_code", "SAFETY_") | codes(style_codes, "keyword_code", "ALIGN_")
+    out |= codes(style_codes, "sizing_code", "BOX_SIZING_", {"BorderBox": "BORDER", "ContentBox": "CONTENT"})
+    out["ALIGN_ABSENT"] = int(re.search(r"cond \(eqb k (\d+)\)", body(style_codes, "alignment_of")[0][1])[1])
+    out |= codes(record_codes, "position_code", "POSITION_") | codes(record_codes, "edge_code", "EDGE_")
+    low, high = map(int, re.findall(r"cond \w+ (\d) 0", body(style_codes, "bits_code")[0][1]))
     for prefix, first, second in (("CLAIMS_", "ABSOLUTE", "FIXED"), ("FLAG_", "REPLACED", "TABLE"), ("CONTAIN_", "LAYOUT", "PAINT")):
         out |= {prefix + first: low, prefix + second: high}
     out |= codes(ANSWER, "given", "", {"None": "NOT_KNOWN", "(Some size)": "KNOWN"})
-    out |= codes(ANSWER, "spaceKind", "SPACE_", {"(Definite size)": "DEFINITE"})
+    out |= codes(ANSWER, "space_kind", "SPACE_", {"(Definite size)": "DEFINITE"})
     return {"OOF_" + name: n for name, n in out.items()}
 
 

@@ -706,7 +706,7 @@ def read_screen(path, name, names, source):
 
 def printed(program, text):
     if not program.is_file():
-        raise Fault(f"there is no {program}: `rt check {program.name}` makes it; or take --stored, or --from FOLDER")
+        raise Fault(f"there is no {program}: `tools/programs` makes it; or take --stored, or --from FOLDER")
     p = subprocess.run([program], input=text, stdout=subprocess.PIPE, stderr=subprocess.PIPE)
     if p.returncode or p.stderr:
         raise Fault(p.stderr.decode(errors="replace").strip() or f"{program}: status {p.returncode}")

@@ -10,39 +10,39 @@ here=$(cd "$(dirname "$0")" && pwd)
 work=$(mktemp -d)
 trap 'rm -rf "$work"' EXIT
 
-mkdir -p "$work/crates/leaves/src"
-cp -R "$here/../../crates/util" "$work/crates/util"
-rm -rf "$work/crates/util/must-fail"
-printf 'util:\nleaves: util\n' > "$work/crates.txt"
+mkdir -p "$work/crates/leaves/src" "$work/crates/util"
+for part in src specs proofs; do
+    cp -R "$here/../../crates/util/$part" "$work/crates/util/"
+done
+printf 'util:\nleaves staticlib: util\n' > "$work/crates.txt"
 cat > "$work/crates/leaves/src/lib.rt" <<'RATTLE'
-use util::bits;
-use util::eighths;
-use util::eighths::Count;
-use util::math;
-use util::math::MaybeF32;
-use util::sys;
+#![tactic(auto)]
 
-#[no_mangle]
+use util::eighths::Count;
+use util::math::MaybeF32;
+use util::{bits, eighths, math, sys};
+
+#[unsafe(no_mangle)]
 pub extern "C" fn leaf_max(a: f32, b: f32) -> f32 {
     sys::f32_max(a, b)
 }
 
-#[no_mangle]
+#[unsafe(no_mangle)]
 pub extern "C" fn leaf_min(a: f32, b: f32) -> f32 {
     sys::f32_min(a, b)
 }
 
-#[no_mangle]
+#[unsafe(no_mangle)]
 pub extern "C" fn leaf_abs(x: f32) -> f32 {
     sys::abs(x)
 }
 
-#[no_mangle]
+#[unsafe(no_mangle)]
 pub extern "C" fn leaf_from_word(w: u32) -> f32 {
     bits::from_word(w)
 }
 
-#[no_mangle]
+#[unsafe(no_mangle)]
 pub extern "C" fn leaf_to_word(x: f32) -> u32 {
     bits::to_word(x)
 }
@@ -54,7 +54,7 @@ fn given(present: bool, x: f32) -> MaybeF32 {
     MaybeF32::None
 }
 
-#[no_mangle]
+#[unsafe(no_mangle)]
 pub extern "C" fn leaf_clamp(x: f32, has_min: bool, min: f32, has_max: bool, max: f32) -> f32 {
     let low = given(has_min, min);
     let high = given(has_max, max);
@@ -62,7 +62,7 @@ pub extern "C" fn leaf_clamp(x: f32, has_min: bool, min: f32, has_max: bool, max
 }
 
 // 0: not whole; n + 2 ^ 32: n eighths; n + 2 ^ 33: -n eighths.
-#[no_mangle]
+#[unsafe(no_mangle)]
 pub extern "C" fn leaf_to_eighths(x: f32) -> u64 {
     let count = eighths::to_eighths(x);
     match count {
@@ -77,7 +77,7 @@ pub extern "C" fn leaf_to_eighths(x: f32) -> u64 {
 }
 
 // 2 ^ 32: absent; else the float's word.
-#[no_mangle]
+#[unsafe(no_mangle)]
 pub extern "C" fn leaf_from_eighths(negative: bool, n: u64) -> u64 {
     let float = eighths::from_eighths(negative, n);
     match float {
@@ -91,6 +91,6 @@ fn wide(w: u32) -> u64 {
 }
 RATTLE
 
-(cd "$work" && rt staticlib leaves) > "$work/log" 2>&1 || { cat "$work/log"; exit 1; }
-rustc -O --edition 2021 -o "$work/leaves" "$here/leaves.rs" -L "$work/target/staticlib" -l static=leaves
+(cd "$work/crates/leaves" && rt lib) > "$work/log" 2>&1 || { cat "$work/log"; exit 1; }
+rustc -O --edition 2021 -o "$work/leaves" "$here/leaves.rs" -L "$work/crates/leaves/out" -l static=leaves
 "$work/leaves" "${1:-20}"

@@ -4,13 +4,13 @@
 #
 #     diff/pixels/run.sh [MILLIONS OF RANDOM CASES, 2 unless said] [SEED, the time unless said]
 #
-# Needs rustc; liboof_c.a in target/staticlib (`rt staticlib oof_c` puts it there) or in the folder OOF_LIB. taffy's rounding is compared
+# Needs rustc; liboof_c.a in target/staticlib (`tools/staticlib` puts it there) or in the folder OOF_LIB. taffy's rounding is compared
 # where its published files are to be found (diff/oracle/find-taffy.sh).
 set -eu
 here=$(cd "$(dirname "$0")" && pwd)
 library=${OOF_LIB:-$here/../../target/staticlib}
 if [ ! -f "$library/liboof_c.a" ]; then
-    echo "diff/pixels: $library/liboof_c.a is not there (rt staticlib oof_c puts it into target/staticlib)"
+    echo "diff/pixels: $library/liboof_c.a is not there (tools/staticlib puts it into target/staticlib)"
     exit 1
 fi
 work=$(mktemp -d)

@@ -3,7 +3,7 @@
 #
 #     diff/reach/run.sh [THOUSANDS OF RANDOM CALLS, 400 unless said] [SEED, the time unless said]
 #
-# Needs rustc; liboof_c.a in target/staticlib (`rt staticlib oof_c` puts it there) or in the folder OOF_LIB.
+# Needs rustc; liboof_c.a in target/staticlib (`tools/staticlib` puts it there) or in the folder OOF_LIB.
 set -eu
 here=$(cd "$(dirname "$0")" && pwd)
 part=reach

@@ -4,7 +4,7 @@
 #
 #     diff/runs/run.sh [CASES of each profile, 17,000 unless said] [SEED, the time unless said] [OPTIONS of the program]
 #
-# Needs cargo; liboof_c.a in target/staticlib (`rt staticlib oof_c` puts it there) or in the folder OOF_LIB; and the published
+# Needs cargo; liboof_c.a in target/staticlib (`tools/staticlib` puts it there) or in the folder OOF_LIB; and the published
 # Rust files (diff/oracle/find-taffy.sh). Without the latter it says so and does nothing.
 set -eu
 here=$(cd "$(dirname "$0")" && pwd)
@@ -14,7 +14,7 @@ OOF_LIB=$(cd "${OOF_LIB:-$root/target/staticlib}" 2> /dev/null && pwd) || OOF_LI
 export OOF_LIB
 archive=$OOF_LIB/liboof_c.a
 if [ ! -f "$archive" ]; then
-    echo "diff/runs: $archive is not there (rt staticlib oof_c puts it into target/staticlib)"
+    echo "diff/runs: $archive is not there (tools/staticlib puts it into target/staticlib)"
     exit 1
 fi
 cases=${1:-17000}

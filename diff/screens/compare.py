@@ -9,7 +9,7 @@ of diff/oracle (`run.sh` builds it, and does a little of each).
     diff/screens/compare.py ORACLE sums SEED COUNT       good screens with other second values, wrong tags and an old item line of 63 fields
     diff/screens/compare.py ORACLE bytes SEED SECONDS    any bytes: random ones, and good screens changed, cut and run over
 
-`rt check boxlist boxreach` makes the programs, which are taken from target/bin or from the folder PROGRAMS of the environment. Stops at the
+`tools/programs` makes the programs, which are taken from target/bin or from the folder PROGRAMS of the environment. Stops at the
 first difference, crash, or output that is neither a list nor a refusal."""
 import collections, glob, os, random, re, subprocess, sys, tempfile, time
 

@@ -6,7 +6,7 @@
 #     diff/screens/run.sh [RANDOM SCREENS, 400 unless said] [SEED, the time unless said] [LARGE SCREENS, 100] [SECONDS of any bytes, 5]
 #                         [PANELS, 200] [SCREENS whose layers are changed, 15] [SCREENS whose sums are, 15]
 #
-# Needs Python 3, cargo, both programs (`rt check boxlist boxreach` makes them) and the published Rust files (diff/oracle/find-taffy.sh).
+# Needs Python 3, cargo, both programs (`tools/programs` makes them) and the published Rust files (diff/oracle/find-taffy.sh).
 # Without the latter it says so and does nothing.
 set -eu
 here=$(cd "$(dirname "$0")" && pwd)

@@ -4,8 +4,8 @@
 #
 #     diff/statics/run.sh [COUNT of each, 1,000,000 unless said] [SEED, 1 unless said]
 #
-# A crate that exports them is written and proved beside copies of the crates that it needs, in a temporary folder; what target/ holds
-# of them is taken over. Needs rt, cargo on x86-64 and the published Rust files (diff/oracle/find-taffy.sh). Without the latter it says
+# A crate that exports them is written and proved beside copies of the crates that it needs, in a temporary folder; rt takes over what
+# checks of these kept on this machine. Needs rt, cargo on x86-64 and the published Rust files (diff/oracle/find-taffy.sh). Without the latter it says
 # so and does nothing.
 set -eu
 here=$(cd "$(dirname "$0")" && pwd)
@@ -14,30 +14,29 @@ part=diff/statics
 work=$(mktemp -d)
 trap 'rm -rf "$work"' EXIT
 
-mkdir -p "$work/crates/statics/src" "$work/target"
+mkdir -p "$work/crates/statics/src"
 grep -E '^(util|geometry|style|refusal|tree|records|tree_record|oof_axis):' "$root/crates.txt" > "$work/crates.txt"
 for crate in $(cut -d: -f1 "$work/crates.txt"); do
-    cp -R "$root/crates/$crate" "$work/crates/$crate"
-    rm -rf "$work/crates/$crate/must-fail"
+    mkdir -p "$work/crates/$crate"
+    for part in src specs proofs; do
+        [ ! -d "$root/crates/$crate/$part" ] || cp -R "$root/crates/$crate/$part" "$work/crates/$crate/"
+    done
 done
-echo 'statics: util geometry style refusal tree records tree_record oof_axis' >> "$work/crates.txt"
+echo 'statics staticlib: util geometry style refusal tree records tree_record oof_axis' >> "$work/crates.txt"
 cat > "$work/crates/statics/src/lib.rt" <<'RATTLE'
 // Exports the two functions beside the run, over words. `diff/statics/run.sh` proves it in a folder of its own.
-use geometry::Line;
-use geometry::Rect;
-use geometry::Size;
+#![tactic(auto)]
+
+use geometry::{Line, Rect, Size};
 use oof_axis::resolve_static_offset;
 use style::alignment::AlignItems;
-use tree::layout::Aligned;
-use tree::layout::AxisStaticPosition;
-use tree_record::candidate::CANDIDATE_WORDS;
-use tree_record::candidate::candidate_at;
-use tree_record::codes::edge_code;
-use tree_record::codes::safety_code;
+use tree::layout::{Aligned, AxisStaticPosition};
+use tree_record::candidate::{CANDIDATE_WORDS, candidate_at};
+use tree_record::codes::{edge_code, safety_code};
 use util::bits::to_word;
 
 // Keyword and safety as a style has them; the five words of an axis, and 0 or the number of the refusal.
-#[no_mangle]
+#[unsafe(no_mangle)]
 pub extern "C" fn static_align(
     keyword: u32,
     safety: u32,
@@ -69,7 +68,7 @@ pub extern "C" fn static_align(
 }
 
 // The place of a candidate's record, by its size and margins.
-#[no_mangle]
+#[unsafe(no_mangle)]
 pub extern "C" fn static_offset(
     candidate: &[u32; CANDIDATE_WORDS],
     width: f32,
@@ -97,11 +96,8 @@ pub extern "C" fn static_offset(
     out[1] = to_word(at.y);
 }
 RATTLE
-for kept in rlib stamp log; do
-    [ ! -d "$root/target/$kept" ] || cp -R "$root/target/$kept" "$work/target/$kept"
-done
-(cd "$work" && rt staticlib statics) > "$work/log" 2>&1 || { cat "$work/log"; exit 1; }
+(cd "$work/crates/statics" && rt lib) > "$work/log" 2>&1 || { cat "$work/log"; exit 1; }
 cd "$here"
-RUSTFLAGS="-L native=$work/target/staticlib -l static=statics" CARGO_TARGET_DIR="$CARGO_TARGET_DIR/statics" \
+RUSTFLAGS="-L native=$work/crates/statics/out -l static=statics" CARGO_TARGET_DIR="$CARGO_TARGET_DIR/statics" \
     cargo build --offline --locked --release > "$work/log" 2>&1 || { cat "$work/log"; exit 1; }
 "$CARGO_TARGET_DIR/statics/release/statics" "${1:-1000000}" "${2:-1}"

@@ -4,7 +4,7 @@
 #
 #     diff/words/run.sh [THOUSANDS OF RANDOM TABLES, 200 unless said] [SEED, the time unless said] [DAMAGED SCREENS, 1000 unless said]
 #
-# Needs rustc, Python 3; liboof_c.a in target/staticlib (`rt staticlib oof_c` puts it there) or in the folder OOF_LIB.
+# Needs rustc, Python 3; liboof_c.a in target/staticlib (`tools/staticlib` puts it there) or in the folder OOF_LIB.
 set -eu
 here=$(cd "$(dirname "$0")" && pwd)
 part=words

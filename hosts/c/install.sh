@@ -1,7 +1,7 @@
 #!/bin/sh
 # Installs the header, the proved library and a pkg-config file below a folder.
 #
-#     rt staticlib oof_c && hosts/c/install.sh PREFIX
+#     tools/staticlib && hosts/c/install.sh PREFIX
 #     cc program.c $(PKG_CONFIG_PATH=PREFIX/lib/pkgconfig pkg-config --cflags --libs oof)
 #
 # DESTDIR, if set, stands before PREFIX where files are written, and not in what they say.
@@ -10,7 +10,7 @@ set -eu
 case $1 in /*) prefix=$1 ;; *) prefix=$PWD/$1 ;; esac
 here=$(cd "$(dirname "$0")" && pwd)
 library=${OOF_LIB:-$here/../../target/staticlib}/liboof_c.a
-[ -f "$library" ] || { echo "hosts/c: no library: run 'rt staticlib oof_c' first" >&2; exit 2; }
+[ -f "$library" ] || { echo "hosts/c: no library: run 'tools/staticlib' first" >&2; exit 2; }
 to=${DESTDIR:-}$prefix
 mkdir -p "$to/include" "$to/lib/pkgconfig"
 cp "$here/oof.h" "$to/include/oof.h"

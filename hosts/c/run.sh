@@ -4,7 +4,7 @@
 # example.stdout. Before that, the header's numbers are held to the definitions, and the library to what README.md says that it
 # needs. README.md must have the size of the code as measured, and that of the stack as measured by the compiler that it names.
 #
-#     rt staticlib oof_c && hosts/c/run.sh
+#     tools/staticlib && hosts/c/run.sh
 #
 # Needs a C compiler on x86-64 Linux (CC names another than cc), Python 3, nm and size of binutils; pkg-config if it is there.
 set -eu

@@ -1,4 +1,4 @@
-//! Links `liboof_c.a` from the folder OOF_LIB, or from `target/staticlib` of the repository (`rt staticlib oof_c` puts it there).
+//! Links `liboof_c.a` from the folder OOF_LIB, or from `target/staticlib` of the repository (`tools/staticlib` puts it there).
 //! `cargo check` and `cargo doc` need no library, so that one that isn't there is a warning; a program then doesn't link.
 use std::{env, path::PathBuf};
 
@@ -10,7 +10,7 @@ fn main() {
     println!("cargo:rerun-if-changed={}", archive.display());
     if !archive.is_file() {
         println!(
-            "cargo:warning={} is not there: run `rt staticlib oof_c`, or set OOF_LIB to the folder of liboof_c.a",
+            "cargo:warning={} is not there: run `tools/staticlib`, or set OOF_LIB to the folder of liboof_c.a",
             archive.display()
         );
         return;

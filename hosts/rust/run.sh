@@ -4,7 +4,7 @@
 #
 #     hosts/rust/run.sh
 #
-# Links liboof_c.a from target/staticlib (`rt staticlib oof_c` puts it there) or from the folder OOF_LIB.
+# Links liboof_c.a from target/staticlib (`tools/staticlib` puts it there) or from the folder OOF_LIB.
 set -eu
 here=$(cd "$(dirname "$0")" && pwd)
 root=$(cd "$here/../.." && pwd)
@@ -13,7 +13,7 @@ OOF_LIB=$(cd "${OOF_LIB:-$root/target/staticlib}" 2> /dev/null && pwd) || OOF_LI
 export OOF_LIB
 archive=$OOF_LIB/liboof_c.a
 if [ ! -f "$archive" ]; then
-    echo "hosts/rust: $archive is not there (rt staticlib oof_c puts it into target/staticlib)"
+    echo "hosts/rust: $archive is not there (tools/staticlib puts it into target/staticlib)"
     exit 1
 fi
 work=$(mktemp -d)

@@ -5,22 +5,22 @@ MODEL, BLOCKS, MARGINS, PLACES = [f'mirror_axis/proofs/{n}.antt' for n in ('Mode
 
 # ---- lines of the definition
 
-LONE_START, LONE_END = 'positionIn (Some start) None a l size m = ', 'positionIn None (Some end) a l size m = '
-BOX = '(size ⊕ m .start ⊕ m .end)'
-BETWEEN = f'selfAligned (a .safety) a l {BOX} (alignEdge (a .alignment) a) ⊕ m .start'
-BLOCK = 'block a = repaired (startIsWeaker (a .inset .start) (a .inset .end) a) (insetBlock (a .inset .start) (a .inset .end) a)'
-CLOSED = '(cond startWeaker (l .end to l .end) (l .start to l .start))'
-MIDDLE = '((l .start ⊕ l .end) ⊘ 2f to (l .start ⊕ l .end) ⊘ 2f)'
-IS_END, IS_START = 'endEdge (a .reversed)', 'startEdge (a .reversed)'
-SAFE = f'selfAligned Safe a l outer edge = alignIn l outer (cond (lt (span l) outer) ({IS_START}) edge)'
-DEFAULT = '\n    cond (le outer (span l) || isNormal (a .alignment)) (alignIn l outer edge) (keptWithin (limit a l) a l outer edge)'
-LIMIT = 'cond (a .scrolls) (cond (a .reversed) (inf true to end) (start to inf false)) (start to end)'
-TOO_LARGE = f'(alignIn lim outer ({IS_START}))'
-STATIC, STATIC_START = 'alignIn (a .place .area) outer (a .place .align .keyword)', f'alignIn l outer ({IS_START})'
+LONE_START, LONE_END = 'position_in (Some start) None a l size m = ', 'position_in None (Some end) a l size m = '
+BOX = '(size ⊕ m.start ⊕ m.end)'
+BETWEEN = f'self_aligned a.safety a l {BOX} (align_edge a.alignment a) ⊕ m.start'
+BLOCK = 'block a = repaired (start_is_weaker a.inset.start a.inset.end a) (inset_block a.inset.start a.inset.end a)'
+CLOSED = '(cond startWeaker (l.end to l.end) (l.start to l.start))'
+MIDDLE = '((l.start ⊕ l.end) ⊘ 2f to (l.start ⊕ l.end) ⊘ 2f)'
+IS_END, IS_START = 'end_edge a.reversed', 'start_edge a.reversed'
+SAFE = f'self_aligned Safe a l outer edge = align_in l outer (cond (lt (span l) outer) ({IS_START}) edge)'
+DEFAULT = '\n    cond (le outer (span l) || is_normal a.alignment) (align_in l outer edge) (kept_within (limit a l) a l outer edge)'
+LIMIT = 'cond a.scrolls (cond a.reversed (inf true to end) (start to inf false)) (start to end)'
+TOO_LARGE = f'(align_in lim outer ({IS_START}))'
+STATIC, STATIC_START = 'align_in a.place.area outer a.place.align.keyword', f'align_in l outer ({IS_START})'
 STATIC_SAFE = f'cond (lt (span l) outer) ({STATIC_START}) ({STATIC})'
 HALF = '(free ⊘ 2f to free ⊘ 2f)'
-NEGATIVE = '(cond (a .reversed) (free to 0f) (0f to free))'
-HALVES = f'halves free a = cond (lt free 0f && a .inline) {NEGATIVE} {HALF}'
+NEGATIVE = '(cond a.reversed (free to 0f) (0f to free))'
+HALVES = f'halves free a = cond (lt free 0f && a.inline) {NEGATIVE} {HALF}'
 
 # ---- pieces of the code
 
@@ -51,27 +51,27 @@ STATIC_EDGE = 'let edge = align.keyword;\n        let safety'
 LEFTWARDS, RIGHTWARDS, EVEN = line('free', '0.0', 16), line('0.0', 'free', 12), line('free / 2.0', 'free / 2.0', 8)
 KEPT_WITHIN = 'sys::f32_max(sys::f32_min(start, limit.end - outer), limit.start)'
 LIMIT_LEFT, LIMIT_RIGHT = line('-1.0 / 0.0', 'end', 16), line('start', '1.0 / 0.0', 12)
-USED = 'Axis.{fromResolved, '
+USED = 'Axis.{from_resolved, '
 
 # a static position's box aligned by another rule, safe or not
 def static_as(new): return [
-    (AXIS, f'staticAligned Default a l outer = {STATIC}', f'staticAligned Default a l outer = {new}'),
-    (AXIS, f'staticAligned Unsafe a l outer = {STATIC}', f'staticAligned Unsafe a l outer = {new}'),
+    (AXIS, f'static_aligned Default a l outer = {STATIC}', f'static_aligned Default a l outer = {new}'),
+    (AXIS, f'static_aligned Unsafe a l outer = {STATIC}', f'static_aligned Unsafe a l outer = {new}'),
     (AXIS, STATIC_SAFE, f'cond (lt (span l) outer) ({new}) ({new})')]
 
 # ---- on quarters
 
 OF_FLOATS, NUMBERS = 'oof_axis/proofs/Laws.antt', 'oof_axis_laws/proofs/Numbers.antt'
-AROUND_N, AROUND = '(zeroN toN dblN c) (subN w (dblN (subN w c)) toN w)', '(zeroN toN dblN c) (subN ω (dblN (subN ω c)) toN ω)'
+AROUND_N, AROUND = '(zero_n toN dbl_n c) (sub_n w (dbl_n (sub_n w c)) toN w)', '(zero_n toN dbl_n c) (sub_n ω (dbl_n (sub_n ω c)) toN ω)'
 NEARER = 'cond (le (magnitude center) (magnitude (areaSize ⊖ center)))'
-FROM_START = '(record { start = zero-exact; end = widen (omega arith) (dbl-exact hc (omega arith)) })'
-TO_END = '(record { start = widen (omega arith) (sub-exact hw (dbl-exact rest (omega arith)) (omega arith)); end = widen (omega arith) hw })'
-SPACE = 'span (block a) ⊖ (orZero (a .margin .start) ⊕ orZero (a .margin .end))'
-SPACE_N = 'subN (spanN (blockN σ α)) (addN (orZeroN (σ .marginStart) (α .margin .start)) (orZeroN (σ .marginEnd) (α .margin .end)))'
+FROM_START = '(record { start = zero_exact; end = widen (omega arith) (dbl_exact hc (omega arith)) })'
+TO_END = '(record { start = widen (omega arith) (sub_exact hw (dbl_exact rest (omega arith)) (omega arith)); end = widen (omega arith) hw })'
+SPACE = 'span (block a) ⊖ (or_zero a.margin.start ⊕ or_zero a.margin.end)'
+SPACE_N = 'sub_n (span_n (block_n σ α)) (add_n (or_zero_n σ.margin_start α.margin.start) (or_zero_n σ.margin_end α.margin.end))'
 IS_NORMAL = 'OofAlignment::Normal => true,\n            OofAlignment::Stretch => false,\n            '
-LIMITED_N = ('limitedN false reversed', 'abbrev pub selfN')
+LIMITED_N = ('limited_n false reversed', 'abbrev pub self_n')
 OPEN = 'cond scrolls (cond reversed (inf true to end) (start to inf false)) (start to end)'
-LIMITED_EXACT = ('  limited-exact false r', '  -- ---- the box in the block')
+LIMITED_EXACT = ('  limited_exact false r', '  -- ---- the box in the block')
 
 # Of a misreading that only a law on quarters refuses, the integers of an axis, and the proof that they are its numbers, are a third place to be
 # misread alike. What has no part in those laws is taken away before they are asked: the code, once it was held to the definition, and
@@ -80,54 +80,54 @@ NO_CODE = [(CODE, ('// ---- static offsets', None), '')] + [
     (f'oof_axis/proofs/{n}', None, None) for n in ('OofAlignment', 'OofAxis', 'align_in_line', 'centered_block', 'offset_edge', 'repaired', 'resolve_static_offset', 'resolve_static_offset_axis', 'static_block')]
 NO_MIRROR = [(f'mirror_axis/proofs/{n}.antt', None, None) for n in ('FlipBlock', 'FlipPlace', 'Offset', 'Facing', 'Examples', 'Opposite')] + [
     ('mirror_axis/proofs/Lib.antt', ('pub mod FlipBlock', None), 'pub mod FlipMargins\npub mod Law\n'),
-    ('mirror_axis/proofs/FlipMargins.antt', ('use Rattle·mirror_axis·proofs.proofs.FlipBlock', '-- ---- with both insets'), '\n'),
-    ('mirror_axis/proofs/Law.antt', ('use Rattle·mirror_axis·proofs.proofs.FlipBlock', '-- the numbers of an axis'), '\n'),
-    ('mirror_axis/proofs/Law.antt', ('image-exact :', None), '')]
+    ('mirror_axis/proofs/FlipMargins.antt', ('use Rattle.mirror_axis.proofs.FlipBlock', '-- ---- with both insets'), '\n'),
+    ('mirror_axis/proofs/Law.antt', ('use Rattle.mirror_axis.proofs.FlipBlock', '-- the numbers of an axis'), '\n'),
+    ('mirror_axis/proofs/Law.antt', ('image_exact :', None), '')]
 QUARTERS = ['oof_axis', ('oof_axis_laws', NO_CODE + NO_MIRROR)]
 # Of a block that isn't of whole quarters the integers have no margins and no place: there the law of the block around a static center stands alone
 LAW_PROOFS = 'oof_axis_laws/proofs/Laws.antt'
 AROUND_ALONE = [(f'mirror_axis/proofs/{n}.antt', None, None) for n in ('ExactMargins', 'ExactPlace', 'FlipMargins')] + [
     ('mirror_axis/proofs/Lib.antt', ('pub mod ExactMargins', 'pub mod Law'), ''),
-    (LAW_PROOFS, ('use Rattle·mirror_axis.proofs.ExactMargins', 'use Rattle·mirror_axis.proofs.Law'), ''),
-    (LAW_PROOFS, ('pub record Stands', 'is-absent :'), ''),
+    (LAW_PROOFS, ('use Rattle.mirror_axis.proofs.ExactMargins', 'use Rattle.mirror_axis.proofs.Law'), ''),
+    (LAW_PROOFS, ('pub record Stands', 'is_absent :'), ''),
     (LAW_PROOFS, 'line : LineExact 4', 'line : LineExact 2'),
-    (LAW_PROOFS, ('  given-start :', '  abbrev area :'), ''),
-    (LAW_PROOFS, ('  static-middle :', '  static-even :'), ''),
+    (LAW_PROOFS, ('  given_start :', '  abbrev area :'), ''),
+    (LAW_PROOFS, ('  static_middle :', '  static_even :'), ''),
     (LAW_PROOFS, ('  abbrev unset :', '  -- the block as the static position has it'), ''),
-    (LAW_PROOFS, ('  static-safe-at :', '-- what the sums say'), ''),
+    (LAW_PROOFS, ('  static_safe_at :', '-- what the sums say'), ''),
     (LAW_PROOFS, ('  abbrev unsafe :', '  -- ---- the block around the static center'), ''),
     (LAW_PROOFS, ('  -- ---- the stretch-fit size', '-- ---- the laws'), ''),
-    (LAW_PROOFS, ('pub fits-inside :', 'pub block-around-static-center'), ''),
-    (LAW_PROOFS, ('pub stretch-fits :', None), '')]
+    (LAW_PROOFS, ('pub fits_inside :', 'pub block_around_static_center'), ''),
+    (LAW_PROOFS, ('pub stretch_fits :', None), '')]
 # OverflowIsReachable: these misreadings keep it, but not its proof, which goes by the limit
 NO_REACH = [
-    (OF_FLOATS, ('-- where the limit opens to the right', 'pub not-normal'), ''),
-    (OF_FLOATS, ('default-aligned :', '-- ---- the static position'), '')]
+    (OF_FLOATS, ('-- where the limit opens to the right', 'pub not_normal'), ''),
+    (OF_FLOATS, ('default_aligned :', '-- ---- the static position'), '')]
 
 # a limit with other edges: of the definition, of the code, of the integers, and of the proof that these are those
 def limits(start, end, code_start, code_end, start_n, end_n, low, high, low_exact, high_exact): return [
-    (AXIS, 'let start = smaller (l .start) 0f in', f'let start = smaller ({start}) ({start}) in'),
-    (AXIS, 'let end = larger (l .end) (a .size) in', f'let end = larger ({end}) ({end}) in'),
+    (AXIS, 'let start = smaller l.start 0f in', f'let start = smaller ({start}) ({start}) in'),
+    (AXIS, 'let end = larger l.end a.size in', f'let end = larger ({end}) ({end}) in'),
     (CODE, 'sys::f32_min(imcb.start, 0.0)', f'sys::f32_min({code_start}, {code_start})'),
     (CODE, 'sys::f32_max(imcb.end, self.size)', f'sys::f32_max({code_end}, {code_end})'),
-    (MODEL, 'minN (l .start) zeroN toN maxN (l .end) w', f'minN ({start_n}) ({start_n}) toN maxN ({end_n}) ({end_n})'),
-    (PLACES, '(smaller (l .start) 0f) (limitN', f'(smaller ({low}) ({low})) (limitN'),
-    (PLACES, '(larger (l .end) w) (limitN', f'(larger ({high}) ({high})) (limitN'),
-    (PLACES, 'smaller-exact (h .start) zero-exact', f'smaller-exact ({low_exact}) ({low_exact})'),
-    (PLACES, 'larger-exact (h .end) (widen (omega arith) hw)', f'larger-exact ({high_exact}) ({high_exact})'),
-    (PLACES, 'let start = smaller (l .start) 0f in', f'let start = smaller ({low}) ({low}) in'),
-    (PLACES, 'let end = larger (l .end) w in', f'let end = larger ({high}) ({high}) in')]
+    (MODEL, 'min_n l.start zero_n toN max_n l.end w', f'min_n ({start_n}) ({start_n}) toN max_n ({end_n}) ({end_n})'),
+    (PLACES, '(smaller l.start 0f) (limit_n', f'(smaller ({low}) ({low})) (limit_n'),
+    (PLACES, '(larger l.end w) (limit_n', f'(larger ({high}) ({high})) (limit_n'),
+    (PLACES, 'smaller_exact h.start zero_exact', f'smaller_exact ({low_exact}) ({low_exact})'),
+    (PLACES, 'larger_exact h.end (widen (omega arith) hw)', f'larger_exact ({high_exact}) ({high_exact})'),
+    (PLACES, 'let start = smaller l.start 0f in', f'let start = smaller ({low}) ({low}) in'),
+    (PLACES, 'let end = larger l.end w in', f'let end = larger ({high}) ({high}) in')]
 
-SELF_EXACT_SAFE = '''  self-exact Default {l} {m} {box} {ω} {v} a k h hw b = rw (lt-exact (span-of h) b) (go (ltN (spanN m) v))
+SELF_EXACT_SAFE = '''  self_exact Default {l} {m} {box} {ω} {v} a k h hw b = rw (lt_exact (span_of h) b) (go (lt_n (span_n m) v))
     where
-      go : (t : Bool) → Aligned (alignIn l box (cond t (startEdge (a .reversed)) k)) (alignN m v (cond t (startOf (a .reversed)) k))
-      go true = start-exact a h b
-      go false = align-exact k h b
+      go : (t : Bool) → Aligned (align_in l box (cond t (start_edge a.reversed) k)) (align_n m v (cond t (start_of a.reversed) k))
+      go true = start_exact a h b
+      go false = align_exact k h b
 
 '''
-NORMAL_AS_SAFE = '''normal-aligned Default a l outer n = go (lt (span l) outer)
+NORMAL_AS_SAFE = '''normal_aligned Default a l outer n = go (lt (span l) outer)
   where
-    go : (b : Bool) → alignIn l outer (cond b (startEdge (a .reversed)) (startEdge (a .reversed))) ≡ alignIn l outer (startEdge (a .reversed))
+    go : (b : Bool) → align_in l outer (cond b (start_edge a.reversed) (start_edge a.reversed)) ≡ align_in l outer (start_edge a.reversed)
     go true = refl
     go false = refl
 
@@ -136,66 +136,66 @@ NORMAL_AS_SAFE = '''normal-aligned Default a l outer n = go (lt (span l) outer)
 EDITS = [
     # one inset
     ('lone start inset: the end margin', LAWS, [
-        (AXIS, LONE_START + 'l .start ⊕ m .start', LONE_START + 'l .start ⊕ m .end'),
+        (AXIS, LONE_START + 'l.start ⊕ m.start', LONE_START + 'l.start ⊕ m.end'),
         (CODE, AT_START, 'MaybeF32::None => imcb.start + margin.end,')]),
     ('lone end inset: the start margin', LAWS, [
-        (AXIS, LONE_END + 'l .end ⊖ size ⊖ m .end', LONE_END + 'l .end ⊖ size ⊖ m .start'),
+        (AXIS, LONE_END + 'l.end ⊖ size ⊖ m.end', LONE_END + 'l.end ⊖ size ⊖ m.start'),
         (CODE, AT_END, 'MaybeF32::Some(_) => imcb.end - size - margin.start,')]),
     ('lone start inset: margin ignored', LAWS, [
-        (AXIS, LONE_START + 'l .start ⊕ m .start', LONE_START + 'l .start'),
+        (AXIS, LONE_START + 'l.start ⊕ m.start', LONE_START + 'l.start'),
         (CODE, AT_START, 'MaybeF32::None => imcb.start,')]),
     ('lone end inset: margin ignored', LAWS, [
-        (AXIS, LONE_END + 'l .end ⊖ size ⊖ m .end', LONE_END + 'l .end ⊖ size'),
+        (AXIS, LONE_END + 'l.end ⊖ size ⊖ m.end', LONE_END + 'l.end ⊖ size'),
         (CODE, AT_END, 'MaybeF32::Some(_) => imcb.end - size,')]),
     ('lone start inset: centered in its block', LAWS, [
-        (AXIS, LONE_START + 'l .start ⊕ m .start', LONE_START + f'alignIn l {BOX} Center ⊕ m .start'),
+        (AXIS, LONE_START + 'l.start ⊕ m.start', LONE_START + f'align_in l {BOX} Center ⊕ m.start'),
         (CODE, AT_START, 'MaybeF32::None => align_in_line(imcb, outer, AxisStaticEdge::Center) + margin.start,')]),
     ('lone start inset: aligned in its block', LAWS, [
-        (AXIS, LONE_START + 'l .start ⊕ m .start', LONE_START + BETWEEN),
+        (AXIS, LONE_START + 'l.start ⊕ m.start', LONE_START + BETWEEN),
         (CODE, AT_START, f'MaybeF32::None => {ALIGN_HERE}')]),
     ('lone end inset: aligned in its block', LAWS, [
-        (AXIS, LONE_END + 'l .end ⊖ size ⊖ m .end', LONE_END + BETWEEN),
+        (AXIS, LONE_END + 'l.end ⊖ size ⊖ m.end', LONE_END + BETWEEN),
         (CODE, AT_END, f'MaybeF32::Some(_) => {ALIGN_HERE}')]),
     ('lone start inset, right-to-left: from the far edge', LAWS, [
-        (AXIS, LONE_START + 'l .start ⊕ m .start', LONE_START + 'cond (a .reversed) (l .end ⊖ size ⊖ m .end) (l .start ⊕ m .start)'),
+        (AXIS, LONE_START + 'l.start ⊕ m.start', LONE_START + 'cond a.reversed (l.end ⊖ size ⊖ m.end) (l.start ⊕ m.start)'),
         (CODE, AT_START, 'MaybeF32::None => {\nif self.reversed {\nreturn imcb.end - size - margin.end;\n}\nimcb.start + margin.start\n}')]),
     ('lone end inset: counted from the start edge', LAWS, [
-        (AXIS, 'insetBlock None (Some end) a = 0f to a .size ⊖ end', 'insetBlock None (Some end) a = 0f to end'),
+        (AXIS, 'inset_block None (Some end) a = 0f to a.size ⊖ end', 'inset_block None (Some end) a = 0f to end'),
         (CODE, TO, 'MaybeF32::Some(end) => ' + block_line('0.0', 'end'))]),
     ('lone start inset: block is the area', LAWS, [
-        (AXIS, 'insetBlock (Some start) None a = start to a .size', 'insetBlock (Some start) None a = 0f to a .size'),
+        (AXIS, 'inset_block (Some start) None a = start to a.size', 'inset_block (Some start) None a = 0f to a.size'),
         (CODE, FROM, 'MaybeF32::None => ' + block_line('0.0', 'self.size'))]),
     ('lone end inset: block is the area', LAWS, [
-        (AXIS, 'insetBlock None (Some end) a = 0f to a .size ⊖ end', 'insetBlock None (Some end) a = 0f to a .size'),
+        (AXIS, 'inset_block None (Some end) a = 0f to a.size ⊖ end', 'inset_block None (Some end) a = 0f to a.size'),
         (CODE, TO, 'MaybeF32::Some(end) => ' + block_line('0.0', 'self.size'))]),
     # two insets
     ('two insets: block is the area', LAWS, [
-        (AXIS, 'insetBlock (Some start) (Some end) a = start to a .size ⊖ end', 'insetBlock (Some start) (Some end) a = 0f to a .size'),
+        (AXIS, 'inset_block (Some start) (Some end) a = start to a.size ⊖ end', 'inset_block (Some start) (Some end) a = 0f to a.size'),
         (CODE, TWO, 'MaybeF32::Some(end) => ' + block_line('0.0', 'self.size'))]),
     ('two insets: end inset as a position', LAWS, [
-        (AXIS, 'insetBlock (Some start) (Some end) a = start to a .size ⊖ end', 'insetBlock (Some start) (Some end) a = start to end'),
+        (AXIS, 'inset_block (Some start) (Some end) a = start to a.size ⊖ end', 'inset_block (Some start) (Some end) a = start to end'),
         (CODE, TWO, 'MaybeF32::Some(end) => ' + block_line('start', 'end'))]),
     ('two insets: exchanged', LAWS, [
-        (AXIS, 'insetBlock (Some start) (Some end) a = start to a .size ⊖ end', 'insetBlock (Some start) (Some end) a = end to a .size ⊖ start'),
+        (AXIS, 'inset_block (Some start) (Some end) a = start to a.size ⊖ end', 'inset_block (Some start) (Some end) a = end to a.size ⊖ start'),
         (CODE, TWO, 'MaybeF32::Some(end) => ' + block_line('end', 'self.size - start'))]),
     ('block never repaired', LAWS, [
-        (AXIS, BLOCK, 'block a = insetBlock (a .inset .start) (a .inset .end) a'),
+        (AXIS, BLOCK, 'block a = inset_block a.inset.start a.inset.end a'),
         (CODE, 'repaired(startweaker, raw)', 'raw')]),
     ('weaker edge: always right', LAWS, [
-        (AXIS, 'startIsWeaker (Some start) (Some end) a = a .reversed', 'startIsWeaker (Some start) (Some end) a = false'),
-        (AXIS, 'startIsWeaker None (Some end) a = true', 'startIsWeaker None (Some end) a = false'),
-        (AXIS, 'startIsWeaker None None a = a .reversed', 'startIsWeaker None None a = false'),
+        (AXIS, 'start_is_weaker (Some start) (Some end) a = a.reversed', 'start_is_weaker (Some start) (Some end) a = false'),
+        (AXIS, 'start_is_weaker None (Some end) a = true', 'start_is_weaker None (Some end) a = false'),
+        (AXIS, 'start_is_weaker None None a = a.reversed', 'start_is_weaker None None a = false'),
         (CODE, 'MaybeF32::Some(_) => start_is_end,', 'MaybeF32::Some(_) => false,'),
         (CODE, 'MaybeF32::Some(_) => true,', 'MaybeF32::Some(_) => false,'),
         (CODE, 'MaybeF32::None => start_is_end,', 'MaybeF32::None => false,')]),
     ('weaker edge: start by direction', LAWS, [
-        (AXIS, 'Bool.{Bool, true, false, cond, ', 'Bool.{Bool, true, false, not, cond, '),
-        (AXIS, 'startIsWeaker (Some start) (Some end) a = a .reversed', 'startIsWeaker (Some start) (Some end) a = not (a .reversed)'),
-        (AXIS, 'startIsWeaker None None a = a .reversed', 'startIsWeaker None None a = not (a .reversed)'),
+        (AXIS, '{Bool, true, false, cond, ', '{Bool, true, false, not, cond, '),
+        (AXIS, 'start_is_weaker (Some start) (Some end) a = a.reversed', 'start_is_weaker (Some start) (Some end) a = not a.reversed'),
+        (AXIS, 'start_is_weaker None None a = a.reversed', 'start_is_weaker None None a = not a.reversed'),
         (CODE, 'let start_is_end = self.reversed;', 'let start_is_end = !self.reversed;')]),
     ('weaker edge with one inset: the inset side', LAWS, [
-        (AXIS, 'startIsWeaker (Some start) None a = false', 'startIsWeaker (Some start) None a = true'),
-        (AXIS, 'startIsWeaker None (Some end) a = true', 'startIsWeaker None (Some end) a = false'),
+        (AXIS, 'start_is_weaker (Some start) None a = false', 'start_is_weaker (Some start) None a = true'),
+        (AXIS, 'start_is_weaker None (Some end) a = true', 'start_is_weaker None (Some end) a = false'),
         (CODE, 'MaybeF32::Some(_) => true,', 'MaybeF32::Some(_) => false,'),
         (CODE, 'MaybeF32::None => false,', 'MaybeF32::None => true,')]),
     ('closed block: in the middle', LAWS, [
@@ -204,42 +204,42 @@ EDITS = [
         (CODE, line('raw.start', 'raw.start', 8), line('(raw.start + raw.end) / 2.0', '(raw.start + raw.end) / 2.0', 8))]),
     # alignment
     ('end aligned as start', LAWS, [
-        (AXIS, f'alignEdge align.End a = {IS_END}', f'alignEdge align.End a = {IS_START}'),
+        (AXIS, f'align_edge align.End a = {IS_END}', f'align_edge align.End a = {IS_START}'),
         (CODE, 'OofAlignment::End => axis.end_edge(),', 'OofAlignment::End => axis.start_edge(),')]),
     ('center aligned as start', LAWS, [
-        (AXIS, 'alignEdge align.Center a = Center', f'alignEdge align.Center a = {IS_START}'),
+        (AXIS, 'align_edge align.Center a = Center', f'align_edge align.Center a = {IS_START}'),
         (CODE, 'OofAlignment::Center => AxisStaticEdge::Center,', 'OofAlignment::Center => axis.start_edge(),')]),
     ('start and end physical', LAWS, [
-        (AXIS, IS_START, 'startEdge false', 6),
-        (AXIS, IS_END, 'endEdge false'),
-        (AXIS, 'startIsWeaker (Some start) (Some end) a = a .reversed', 'startIsWeaker (Some start) (Some end) a = false'),
-        (AXIS, 'startIsWeaker None None a = a .reversed', 'startIsWeaker None None a = false'),
-        (CODE, 'mathlib.Core.Bool.{not, ', 'mathlib.Core.Bool.{false, not, '),
-        (CODE, 'r ≡ startEdge (self .reversed)', 'r ≡ startEdge false'),
-        (CODE, 'r ≡ endEdge (self .reversed)', 'r ≡ endEdge false'),
+        (AXIS, IS_START, 'start_edge false', 6),
+        (AXIS, IS_END, 'end_edge false'),
+        (AXIS, 'start_is_weaker (Some start) (Some end) a = a.reversed', 'start_is_weaker (Some start) (Some end) a = false'),
+        (AXIS, 'start_is_weaker None None a = a.reversed', 'start_is_weaker None None a = false'),
+        (CODE, '{◌≡◌, not, ', '{◌≡◌, false, not, '),
+        (CODE, 'result ≡ start_edge self.reversed', 'result ≡ start_edge false'),
+        (CODE, 'result ≡ end_edge self.reversed', 'result ≡ end_edge false'),
         (CODE, 'return AxisStaticEdge::End;', 'return AxisStaticEdge::START;'),
         (CODE, 'return AxisStaticEdge::Start;', 'return AxisStaticEdge::End;'),
         (CODE, 'AxisStaticEdge::START', 'AxisStaticEdge::Start'),
         (CODE, 'let start_is_end = self.reversed;', 'let start_is_end = false;')]),
     ('stretch aligned as center', LAWS, [
-        (AXIS, f'alignEdge align.Stretch a = {IS_START}', 'alignEdge align.Stretch a = Center'),
+        (AXIS, f'align_edge align.Stretch a = {IS_START}', 'align_edge align.Stretch a = Center'),
         (CODE, 'OofAlignment::Stretch => axis.start_edge(),', 'OofAlignment::Stretch => AxisStaticEdge::Center,')]),
     ('normal aligned as end', LAWS, [
-        (AXIS, f'alignEdge align.Normal a = {IS_START}', f'alignEdge align.Normal a = {IS_END}'),
+        (AXIS, f'align_edge align.Normal a = {IS_START}', f'align_edge align.Normal a = {IS_END}'),
         (CODE, 'OofAlignment::Normal => axis.start_edge(),', 'OofAlignment::Normal => axis.end_edge(),')]),
     ('center in the area', LAWS, [
-        (AXIS, '-- one inset: at that inset', '''abbrev pub alignLine : OofAlignment → OofAxis → Line → Line
-alignLine align.Normal a l = l
-alignLine align.Stretch a l = l
-alignLine align.Start a l = l
-alignLine align.Center a l = 0f to a .size
-alignLine align.End a l = l
+        (AXIS, '-- one inset: at that inset', '''abbrev pub align_line : OofAlignment → OofAxis → Line → Line
+align_line align.Normal a l = l
+align_line align.Stretch a l = l
+align_line align.Start a l = l
+align_line align.Center a l = 0f to a.size
+align_line align.End a l = l
 
 -- one inset: at that inset'''),
-        (AXIS, f'({BETWEEN})', f'(selfAligned (a .safety) a (alignLine (a .alignment) a l) {BOX} (alignEdge (a .alignment) a) ⊕ m .start)'),
-        (CODE, USED, f'{USED}alignLine, '),
+        (AXIS, f'({BETWEEN})', f'(self_aligned a.safety a (align_line a.alignment a l) {BOX} (align_edge a.alignment a) ⊕ m.start)'),
+        (CODE, USED, f'{USED}align_line, '),
         (CODE, '    fn no_auto_margin(self)', '''    fn align_line(self, imcb: Line) -> Line
-        ensures { λ r. ⌜ r ≡ alignLine (self .alignment) self imcb ⌝ }
+        ensures { result ≡ align_line self.alignment self imcb }
     {
         let alignment = self.alignment;
         match alignment {
@@ -257,76 +257,76 @@ alignLine align.End a l = l
         (AXIS, BOX, 'size', 2),
         (CODE, '        let outer = size + margin.start + margin.end;\n        let inset', '        let outer = size;\n        let inset')]),
     ('alignment: start margin counted once more', LAWS, [
-        (AXIS, f'({BETWEEN})', f'({BETWEEN} ⊕ m .start)'),
+        (AXIS, f'({BETWEEN})', f'({BETWEEN} ⊕ m.start)'),
         (CODE, 'return self.self_aligned(imcb, outer, edge) + margin.start;', 'return self.self_aligned(imcb, outer, edge) + margin.start + margin.start;')]),
     # safety
     ('safe: always at the start', LAWS, [
-        (AXIS, SAFE, f'selfAligned Safe a l outer edge = alignIn l outer (cond (lt (span l) outer) ({IS_START}) ({IS_START}))'),
+        (AXIS, SAFE, f'self_aligned Safe a l outer edge = align_in l outer (cond (lt (span l) outer) ({IS_START}) ({IS_START}))'),
         (CODE, f'{AT_SAFE}\n                }}\n                align_in_line(imcb, outer, edge)', f'{AT_SAFE}\n                }}\n                align_in_line(imcb, outer, start)')]),
     ('safe: never at the start', LAWS, [
-        (AXIS, SAFE, 'selfAligned Safe a l outer edge = alignIn l outer (cond (lt (span l) outer) edge edge)'),
+        (AXIS, SAFE, 'self_aligned Safe a l outer edge = align_in l outer (cond (lt (span l) outer) edge edge)'),
         (CODE, AT_SAFE, 'return align_in_line(imcb, outer, edge);')]),
     ('safe: at the physical start', LAWS, [
-        (AXIS, SAFE, 'selfAligned Safe a l outer edge = alignIn l outer (cond (lt (span l) outer) Start edge)'),
+        (AXIS, SAFE, 'self_aligned Safe a l outer edge = align_in l outer (cond (lt (span l) outer) Start edge)'),
         (CODE, AT_SAFE, 'return align_in_line(imcb, outer, AxisStaticEdge::Start);')]),
     ('safe: at the start of the limit', LAWS, [
-        (AXIS, SAFE, f'selfAligned Safe a l outer edge = cond (lt (span l) outer) (alignIn (smaller (l .start) 0f to larger (l .end) (a .size)) outer ({IS_START})) (alignIn l outer edge)'),
+        (AXIS, SAFE, f'self_aligned Safe a l outer edge = cond (lt (span l) outer) (align_in (smaller l.start 0f to larger l.end a.size) outer ({IS_START})) (align_in l outer edge)'),
         (CODE, AT_SAFE, 'let bounds = Line {\nstart: sys::f32_min(imcb.start, 0.0),\nend: sys::f32_max(imcb.end, self.size),\n};\nreturn align_in_line(bounds, outer, start);')]),
     ('unsafe as default', LAWS, [
-        (AXIS, 'selfAligned Unsafe a l outer edge = alignIn l outer edge', f'selfAligned Unsafe a l outer edge = {DEFAULT}'),
+        (AXIS, 'self_aligned Unsafe a l outer edge = align_in l outer edge', f'self_aligned Unsafe a l outer edge = {DEFAULT}'),
         (CODE, arm('Unsafe', 'align_in_line(imcb, outer, edge)'), f'AlignmentSafety::Unsafe => {KEPT}')]),
     ('default as unsafe', LAWS, [
-        (AXIS, f'selfAligned Default a l outer edge ={DEFAULT}', 'selfAligned Default a l outer edge = alignIn l outer edge'),
+        (AXIS, f'self_aligned Default a l outer edge ={DEFAULT}', 'self_aligned Default a l outer edge = align_in l outer edge'),
         (CODE, f'AlignmentSafety::Default => {KEPT}', arm('Default', 'align_in_line(imcb, outer, edge)'))]),
     # the limit
     ('limit for normal', LAWS, [
-        (AXIS, 'isNormal align.Normal = true', 'isNormal align.Normal = false'),
+        (AXIS, 'is_normal align.Normal = true', 'is_normal align.Normal = false'),
         (CODE, 'OofAlignment::Normal => true,', 'OofAlignment::Normal => false,')]),
     ('limit: open at both ends', LAWS, [
-        (AXIS, LIMIT, 'cond (a .scrolls) (cond (a .reversed) (inf true to inf false) (inf true to inf false)) (start to end)'),
+        (AXIS, LIMIT, 'cond a.scrolls (cond a.reversed (inf true to inf false) (inf true to inf false)) (start to end)'),
         (CODE, LIMIT_LEFT, line('-1.0 / 0.0', '1.0 / 0.0', 16)),
         (CODE, LIMIT_RIGHT, line('-1.0 / 0.0', '1.0 / 0.0', 12))]),
     ('too large for the limit: as told', LAWS, [
-        (AXIS, TOO_LARGE, '(alignIn l outer edge)'),
+        (AXIS, TOO_LARGE, '(align_in l outer edge)'),
         (CODE, 'align_in_line(limit, outer, self.start_edge())', 'align_in_line(imcb, outer, edge)')]),
     ('overflow: only the end of the limit kept', LAWS, [
-        (AXIS, '(larger (smaller (alignIn l outer edge) (lim .end ⊖ outer)) (lim .start))', '(smaller (alignIn l outer edge) (lim .end ⊖ outer))'),
+        (AXIS, '(larger (smaller (align_in l outer edge) (lim.end ⊖ outer)) lim.start)', '(smaller (align_in l outer edge) (lim.end ⊖ outer))'),
         (CODE, KEPT_WITHIN, 'sys::f32_min(start, limit.end - outer)')]),
     # the static position
     ('static block: the area', LAWS, [
-        (AXIS, 'staticBlock Start static areaSize = static .start to areaSize', 'staticBlock Start static areaSize = 0f to areaSize'),
-        (AXIS, 'staticBlock Center static areaSize = centeredBlock ((static .start ⊕ static .end) ⊘ 2f) areaSize', 'staticBlock Center static areaSize = 0f to areaSize'),
-        (AXIS, 'staticBlock End static areaSize = 0f to static .end', 'staticBlock End static areaSize = 0f to areaSize'),
+        (AXIS, 'static_block Start static areaSize = static.start to areaSize', 'static_block Start static areaSize = 0f to areaSize'),
+        (AXIS, 'static_block Center static areaSize = centered_block ((static.start ⊕ static.end) ⊘ 2f) areaSize', 'static_block Center static areaSize = 0f to areaSize'),
+        (AXIS, 'static_block End static areaSize = 0f to static.end', 'static_block End static areaSize = 0f to areaSize'),
         (CODE, line('area.start', 'size', 8), line('0.0', 'size', 8)),
         (CODE, 'centered_block((area.start + area.end) / 2.0, size)', line('0.0', 'size', 8)),
         (CODE, line('0.0', 'area.end', 8), line('0.0', 'size', 8))]),
     ('static block: the static area', LAWS, [
-        (AXIS, 'staticBlock Start static areaSize = static .start to areaSize', 'staticBlock Start static areaSize = static'),
-        (AXIS, 'staticBlock Center static areaSize = centeredBlock ((static .start ⊕ static .end) ⊘ 2f) areaSize', 'staticBlock Center static areaSize = static'),
-        (AXIS, 'staticBlock End static areaSize = 0f to static .end', 'staticBlock End static areaSize = static'),
+        (AXIS, 'static_block Start static areaSize = static.start to areaSize', 'static_block Start static areaSize = static'),
+        (AXIS, 'static_block Center static areaSize = centered_block ((static.start ⊕ static.end) ⊘ 2f) areaSize', 'static_block Center static areaSize = static'),
+        (AXIS, 'static_block End static areaSize = 0f to static.end', 'static_block End static areaSize = static'),
         (CODE, line('area.start', 'size', 8), 'area'),
         (CODE, 'centered_block((area.start + area.end) / 2.0, size)', 'area'),
         (CODE, line('0.0', 'area.end', 8), 'area')]),
     ('static block: end as start', LAWS, [
-        (AXIS, 'staticBlock End static areaSize = 0f to static .end', 'staticBlock End static areaSize = static .start to areaSize'),
+        (AXIS, 'static_block End static areaSize = 0f to static.end', 'static_block End static areaSize = static.start to areaSize'),
         (CODE, line('0.0', 'area.end', 8), line('area.start', 'size', 8))]),
-    ('static: aligned in the block', LAWS, static_as('alignIn l outer (a .place .align .keyword)') + [
+    ('static: aligned in the block', LAWS, static_as('align_in l outer a.place.align.keyword') + [
         (CODE, arm('Default', CODE_STATIC), arm('Default', 'align_in_line(imcb, outer, edge)')),
         (CODE, arm('Unsafe', CODE_STATIC), arm('Unsafe', 'align_in_line(imcb, outer, edge)')),
         (CODE, f'{AT_STATIC_SAFE}\n                }}\n                {CODE_STATIC}', 'return align_in_line(imcb, outer, edge);\n                }\n                align_in_line(imcb, outer, edge)')]),
-    ('static: aligned by justify-self', LAWS, static_as('alignIn (a .place .area) outer (alignEdge (a .alignment) a)') + [
+    ('static: aligned by justify-self', LAWS, static_as('align_in a.place.area outer (align_edge a.alignment a)') + [
         (CODE, STATIC_EDGE, f'let alignment = self.alignment;\n{ALIGNED}        let safety'),
         (CODE, AT_STATIC_SAFE, f'return {CODE_STATIC};')]),
     ('static: edge by direction', LAWS, [
-        (AXIS, '-- no insets: the margin box aligned', '''abbrev pub byDirection : AxisStaticEdge → OofAxis → AxisStaticEdge
-byDirection Start a = startEdge (a .reversed)
-byDirection Center a = Center
-byDirection End a = endEdge (a .reversed)
+        (AXIS, '-- no insets: the margin box aligned', '''abbrev pub by_direction : AxisStaticEdge → OofAxis → AxisStaticEdge
+by_direction Start a = start_edge a.reversed
+by_direction Center a = Center
+by_direction End a = end_edge a.reversed
 
--- no insets: the margin box aligned''')] + static_as('alignIn (a .place .area) outer (byDirection (a .place .align .keyword) a)') + [
-        (CODE, USED, f'{USED}byDirection, '),
+-- no insets: the margin box aligned''')] + static_as('align_in a.place.area outer (by_direction a.place.align.keyword a)') + [
+        (CODE, USED, f'{USED}by_direction, '),
         (CODE, '    fn no_auto_margin(self)', '''    fn by_direction(self, edge: AxisStaticEdge) -> AxisStaticEdge
-        ensures { λ r. ⌜ r ≡ byDirection edge self ⌝ }
+        ensures { result ≡ by_direction edge self }
     {
         match edge {
             AxisStaticEdge::Start => self.start_edge(),
@@ -339,7 +339,7 @@ byDirection End a = endEdge (a .reversed)
         (CODE, STATIC_EDGE, 'let said = align.keyword;\nlet edge = self.by_direction(said);\n        let safety'),
         (CODE, AT_STATIC_SAFE, f'return {CODE_STATIC};')]),
     ('static: margin ignored', LAWS, [
-        (AXIS, f'staticAligned (a .place .align .safety) a l {BOX} ⊕ m .start', f'staticAligned (a .place .align .safety) a l {BOX}'),
+        (AXIS, f'static_aligned a.place.align.safety a l {BOX} ⊕ m.start', f'static_aligned a.place.align.safety a l {BOX}'),
         (CODE, 'self.static_aligned(imcb, outer) + margin.start', 'self.static_aligned(imcb, outer)')]),
     ('static safe: always at the start', LAWS, [
         (AXIS, STATIC_SAFE, f'cond (lt (span l) outer) ({STATIC_START}) ({STATIC_START})'),
@@ -348,39 +348,39 @@ byDirection End a = endEdge (a .reversed)
         (AXIS, STATIC_SAFE, f'cond (lt (span l) outer) ({STATIC}) ({STATIC})'),
         (CODE, AT_STATIC_SAFE, f'return {CODE_STATIC};')]),
     ('static safe: at the physical start', LAWS, [
-        (AXIS, STATIC_SAFE, f'cond (lt (span l) outer) (alignIn l outer Start) ({STATIC})'),
+        (AXIS, STATIC_SAFE, f'cond (lt (span l) outer) (align_in l outer Start) ({STATIC})'),
         (CODE, AT_STATIC_SAFE, 'return align_in_line(imcb, outer, AxisStaticEdge::Start);')]),
     ('static safe: where it overflows the static area', LAWS, [
-        (AXIS, STATIC_SAFE, f'cond (lt (span (a .place .area)) outer) (alignIn (a .place .area) outer ({IS_START})) ({STATIC})'),
+        (AXIS, STATIC_SAFE, f'cond (lt (span a.place.area) outer) (align_in a.place.area outer ({IS_START})) ({STATIC})'),
         (CODE, IF_OVER + AT_STATIC_SAFE, 'if outer > area.end - area.start {\n                    return align_in_line(area, outer, start_edge);')]),
     ('static default as safe', LAWS, [
-        (AXIS, f'staticAligned Default a l outer = {STATIC}', f'staticAligned Default a l outer = {STATIC_SAFE}'),
+        (AXIS, f'static_aligned Default a l outer = {STATIC}', f'static_aligned Default a l outer = {STATIC_SAFE}'),
         (CODE, arm('Default', CODE_STATIC), f'AlignmentSafety::Default => {CODE_STATIC_SAFE}')]),
     ('static unsafe as safe', LAWS, [
-        (AXIS, f'staticAligned Unsafe a l outer = {STATIC}', f'staticAligned Unsafe a l outer = {STATIC_SAFE}'),
+        (AXIS, f'static_aligned Unsafe a l outer = {STATIC}', f'static_aligned Unsafe a l outer = {STATIC_SAFE}'),
         (CODE, arm('Unsafe', CODE_STATIC), f'AlignmentSafety::Unsafe => {CODE_STATIC_SAFE}')]),
     # margins
     ('negative free space: to the other margin', LAWS, [
-        (AXIS, NEGATIVE, '(cond (a .reversed) (0f to free) (free to 0f))'),
+        (AXIS, NEGATIVE, '(cond a.reversed (0f to free) (free to 0f))'),
         (CODE, LEFTWARDS, line('0.0', 'FREE', 16)),
         (CODE, RIGHTWARDS, line('free', '0.0', 12)),
         (CODE, 'FREE', 'free')]),
     ('negative free space: not by direction', LAWS, [
-        (AXIS, NEGATIVE, '(cond (a .reversed) (0f to free) (0f to free))'),
+        (AXIS, NEGATIVE, '(cond a.reversed (0f to free) (0f to free))'),
         (CODE, LEFTWARDS, line('0.0', 'free', 16))]),
     ('negative free space: halves in the inline axis', LAWS, [
-        (AXIS, NEGATIVE, f'(cond (a .reversed) {HALF} {HALF})'),
+        (AXIS, NEGATIVE, f'(cond a.reversed {HALF} {HALF})'),
         (CODE, LEFTWARDS, line('free / 2.0', 'free / 2.0', 16)),
         (CODE, RIGHTWARDS, line('free / 2.0', 'free / 2.0', 12))]),
     ('negative free space: block axis as inline', LAWS, [
         (AXIS, HALVES, f'halves free a = cond (lt free 0f) {NEGATIVE} {HALF}'),
         (CODE, 'if self.overflows_inline(free) {', 'if free < 0.0 {')]),
     ('negative free space: 0 and 0', LAWS, [
-        (AXIS, NEGATIVE, '(cond (a .reversed) (0f to 0f) (0f to 0f))'),
+        (AXIS, NEGATIVE, '(cond a.reversed (0f to 0f) (0f to 0f))'),
         (CODE, LEFTWARDS, line('0.0', '0.0', 16)),
         (CODE, RIGHTWARDS, line('0.0', '0.0', 12))]),
     ('free space: all to the start margin', LAWS, [
-        (AXIS, HALVES, f'halves free a = cond (lt free 0f) (cond (a .inline) {NEGATIVE} {HALF}) (free to 0f)'),
+        (AXIS, HALVES, f'halves free a = cond (lt free 0f) (cond a.inline {NEGATIVE} {HALF}) (free to 0f)'),
         (CODE, ('        if self.overflows_inline(free) {', '    }\n\n    // The margins where both insets are given.'), f'''        if free < 0.0 {{
             if self.inline {{
                 if end_is_left {{
@@ -393,23 +393,23 @@ byDirection End a = endEdge (a .reversed)
         {line("free", "0.0", 8)}
 ''')]),
     ('lone auto margin: 0', LAWS, [
-        (AXIS, 'filledMargins (Some start) None free a = start to free ⊖ start', 'filledMargins (Some start) None free a = start to 0f'),
-        (AXIS, 'filledMargins None (Some end) free a = free ⊖ end to end', 'filledMargins None (Some end) free a = 0f to end'),
+        (AXIS, 'filled_margins (Some start) None free a = start to free ⊖ start', 'filled_margins (Some start) None free a = start to 0f'),
+        (AXIS, 'filled_margins None (Some end) free a = free ⊖ end to end', 'filled_margins None (Some end) free a = 0f to end'),
         (CODE, 'end: free - start,', 'end: 0.0,'),
         (CODE, 'start: free - end,', 'start: 0.0,')]),
     ('lone auto margin: all free space', LAWS, [
-        (AXIS, 'filledMargins (Some start) None free a = start to free ⊖ start', 'filledMargins (Some start) None free a = start to free'),
-        (AXIS, 'filledMargins None (Some end) free a = free ⊖ end to end', 'filledMargins None (Some end) free a = free to end'),
+        (AXIS, 'filled_margins (Some start) None free a = start to free ⊖ start', 'filled_margins (Some start) None free a = start to free'),
+        (AXIS, 'filled_margins None (Some end) free a = free ⊖ end to end', 'filled_margins None (Some end) free a = free to end'),
         (CODE, 'end: free - start,', 'end: free,'),
         (CODE, 'start: free - end,', 'start: free,')]),
     ('lone auto margin: not below 0', LAWS, [
-        (AXIS, 'filledMargins (Some start) None free a = start to free ⊖ start', 'filledMargins (Some start) None free a = start to larger (free ⊖ start) 0f'),
+        (AXIS, 'filled_margins (Some start) None free a = start to free ⊖ start', 'filled_margins (Some start) None free a = start to larger (free ⊖ start) 0f'),
         (CODE, 'end: free - start,', 'end: sys::f32_max(free - start, 0.0),')]),
     ('auto margins also with one inset', LAWS, [
-        (AXIS, 'bothInsets a = present (a .inset .start) && present (a .inset .end)', 'bothInsets a = present (a .inset .start) || present (a .inset .end)'),
+        (AXIS, 'both_insets a = present a.inset.start && present a.inset.end', 'both_insets a = present a.inset.start || present a.inset.end'),
         (CODE, 'from.is_some() && to.is_some()', 'from.is_some() || to.is_some()')]),
     ('auto margins: aligned in the block all the same', LAWS, [
-        (AXIS, '\n    (l .start ⊕ m .start)', '\n    (selfAligned (a .safety) a l (size ⊕ orZero (a .margin .start) ⊕ orZero (a .margin .end)) (alignEdge (a .alignment) a) ⊕ orZero (a .margin .start))'),
+        (AXIS, '\n    (l.start ⊕ m.start)', '\n    (self_aligned a.safety a l (size ⊕ or_zero a.margin.start ⊕ or_zero a.margin.end) (align_edge a.alignment a) ⊕ or_zero a.margin.start)'),
         (CODE, AUTO_PLACE, f'''let given = self.margin;
 let before = given.start;
 let after = given.end;
@@ -418,18 +418,18 @@ let alignment = self.alignment;
 {ALIGNED}self.self_aligned(imcb, size + left + after.unwrap_or(0.0), edge) + left
 ''')]),
     ('auto margins: box at the inset, margin ignored', LAWS, [
-        (AXIS, '\n    (l .start ⊕ m .start)', '\n    (l .start)'),
+        (AXIS, '\n    (l.start ⊕ m.start)', '\n    l.start'),
         (CODE, AUTO_PLACE, 'imcb.start\n')]),
     # automatic sizes
     ('stretch-fit: below 0', LAWS, [
-        (AXIS, 'larger (span (block a) ⊖ (orZero (a .margin .start) ⊕ orZero (a .margin .end))) 0f', 'span (block a) ⊖ (orZero (a .margin .start) ⊕ orZero (a .margin .end))'),
+        (AXIS, 'larger (span (block a) ⊖ (or_zero a.margin.start ⊕ or_zero a.margin.end)) 0f', 'span (block a) ⊖ (or_zero a.margin.start ⊕ or_zero a.margin.end)'),
         (CODE, 'sys::f32_max(self.inset_modified_containing_block_size() - margins, 0.0)', 'self.inset_modified_containing_block_size() - margins')]),
     ('stretches with one inset', LAWS, [
-        (AXIS, 'stretches a plain = bothInsets a && ', 'stretches a plain = (present (a .inset .start) || present (a .inset .end)) && '),
-        (CODE, 'mathlib.Core.Bool.{not, _&&_}', 'mathlib.Core.Bool.{not, _&&_, _||_}'),
+        (AXIS, 'stretches a plain = both_insets a && ', 'stretches a plain = (present a.inset.start || present a.inset.end) && '),
+        (CODE, '{◌≡◌, not, ◌&&◌}', '{◌≡◌, not, ◌&&◌, ◌||◌}'),
         (CODE, 'self.both_insets() && alignment.stretches', 'self.any_inset() && alignment.stretches'),
         (CODE, '    // Whether an auto size is the stretch-fit size.', '''    fn any_inset(self) -> bool
-        ensures { λ r. ⌜ r ≡ present (self .inset .start) || present (self .inset .end) ⌝ }
+        ensures { result ≡ present self.inset.start || present self.inset.end }
     {
         let inset = self.inset;
         let from = inset.start;
@@ -450,16 +450,16 @@ let alignment = self.alignment;
         (CODE, line('0.0', '2.0 * center', 8), line('size - 2.0 * REST', 'size', 8)),
         (CODE, line('size - 2.0 * rest', 'size', 4), line('0.0', '2.0 * center', 4)),
         (CODE, 'REST', 'rest'),
-        (MODEL, AROUND_N, '(subN w (dblN (subN w c)) toN w) (zeroN toN dblN c)'),
-        (NUMBERS, AROUND, '(subN ω (dblN (subN ω c)) toN ω) (zeroN toN dblN c)', 4),
+        (MODEL, AROUND_N, '(sub_n w (dbl_n (sub_n w c)) toN w) (zero_n toN dbl_n c)'),
+        (NUMBERS, AROUND, '(sub_n ω (dbl_n (sub_n ω c)) toN ω) (zero_n toN dbl_n c)', 4),
         (BLOCKS, f'{FROM_START}\n      {TO_END}', f'{TO_END}\n      {FROM_START}')]),
     ('static center: the block is the area', QUARTERS, [
         (AXIS, f'{NEARER} (0f to 2f ⊗ center) (areaSize ⊖ 2f ⊗ (areaSize ⊖ center) to areaSize)', f'{NEARER} (0f to areaSize) (0f to areaSize)'),
         (CODE, line('0.0', '2.0 * center', 8), line('0.0', 'size', 8)),
         (CODE, line('size - 2.0 * rest', 'size', 4), line('0.0', 'size', 4)),
-        (MODEL, AROUND_N, '(zeroN toN w) (zeroN toN w)'),
-        (NUMBERS, AROUND, '(zeroN toN ω) (zeroN toN ω)', 4),
-        (BLOCKS, f'{FROM_START}\n      {TO_END}', '(record { start = zero-exact; end = widen (omega arith) hw })\n      (record { start = zero-exact; end = widen (omega arith) hw })')]),
+        (MODEL, AROUND_N, '(zero_n toN w) (zero_n toN w)'),
+        (NUMBERS, AROUND, '(zero_n toN ω) (zero_n toN ω)', 4),
+        (BLOCKS, f'{FROM_START}\n      {TO_END}', '(record { start = zero_exact; end = widen (omega arith) hw })\n      (record { start = zero_exact; end = widen (omega arith) hw })')]),
     ('static center: from the center on', ['oof_axis', ('oof_axis_laws', NO_CODE + NO_MIRROR + AROUND_ALONE)], [
         (AXIS, f'{NEARER} (0f to 2f ⊗ center) (areaSize ⊖ 2f ⊗ (areaSize ⊖ center) to areaSize)', f'{NEARER} (center to areaSize) (center to areaSize)'),
         (CODE, line('0.0', '2.0 * center', 8), line('center', 'size', 8)),
@@ -469,82 +469,82 @@ let alignment = self.alignment;
         (BLOCKS, 'LineExact 4 b', 'LineExact 2 b', 5),
         (BLOCKS, 'LineExact 4 (3 * L + 2 * A)', 'LineExact 2 (3 * L + 2 * A)', 5),
         (BLOCKS, f'{FROM_START}\n      {TO_END}', '(record { start = widen (omega arith) hc; end = widen (omega arith) (eighths hw) })\n      (record { start = widen (omega arith) hc; end = widen (omega arith) (eighths hw) })'),
-        (BLOCKS, 'start = widen (omega arith) (ha .start); end = widen (omega arith) hw', 'start = widen (omega arith) (eighths (ha .start)); end = widen (omega arith) (eighths hw)'),
-        (BLOCKS, 'start = zero-exact; end = widen (omega arith) (ha .end)', 'start = zero-exact; end = widen (omega arith) (eighths (ha .end))'),
+        (BLOCKS, 'start = widen (omega arith) ha.start; end = widen (omega arith) hw', 'start = widen (omega arith) (eighths ha.start); end = widen (omega arith) (eighths hw)'),
+        (BLOCKS, 'start = zero_exact; end = widen (omega arith) ha.end', 'start = zero_exact; end = widen (omega arith) (eighths ha.end)'),
         (BLOCKS, 'start = widen (omega arith) hs;', 'start = widen (omega arith) (eighths hs);', 2),
-        (BLOCKS, 'end = widen (omega arith) (sub-exact (h .size) he (omega arith))', 'end = widen (omega arith) (eighths (sub-exact (h .size) he (omega arith)))', 2),
-        (BLOCKS, 'end = widen (omega arith) (h .size)', 'end = widen (omega arith) (eighths (h .size))')]),
+        (BLOCKS, 'end = widen (omega arith) (sub_exact h.size he (omega arith))', 'end = widen (omega arith) (eighths (sub_exact h.size he (omega arith)))', 2),
+        (BLOCKS, 'end = widen (omega arith) h.size', 'end = widen (omega arith) (eighths h.size)')]),
     ('stretch-fit: margins left out', QUARTERS, [
         (AXIS, f'larger ({SPACE}) 0f', 'larger (span (block a)) 0f'),
         (CODE, 'sys::f32_max(self.inset_modified_containing_block_size() - margins, 0.0)', 'sys::f32_max(self.inset_modified_containing_block_size(), 0.0)'),
-        (OF_FLOATS, f'larger-bounds ({SPACE})', 'larger-bounds (span (block a))'),
-        (MODEL, f'maxN ({SPACE_N}) zeroN', 'maxN (spanN (blockN σ α)) zeroN'),
-        (MARGINS, 'larger-exact (widen (omega arith) (sub-exact (span-exact a α h) m (omega arith))) zero-exact', 'larger-exact (widen (omega arith) (span-exact a α h)) zero-exact')]),
+        (OF_FLOATS, f'larger_bounds ({SPACE})', 'larger_bounds (span (block a))'),
+        (MODEL, f'max_n ({SPACE_N}) zero_n', 'max_n (span_n (block_n σ α)) zero_n'),
+        (MARGINS, 'larger_exact (widen (omega arith) (sub_exact (span_exact a α h) m (omega arith))) zero_exact', 'larger_exact (widen (omega arith) (span_exact a α h)) zero_exact')]),
     ('stretch-fit: of the area', QUARTERS, [
-        (AXIS, f'larger ({SPACE}) 0f', f'larger ({SPACE.replace("span (block a)", "a .size")}) 0f'),
+        (AXIS, f'larger ({SPACE}) 0f', f'larger ({SPACE.replace("span (block a)", "a.size")}) 0f'),
         (CODE, 'sys::f32_max(self.inset_modified_containing_block_size() - margins, 0.0)', 'sys::f32_max(self.size - margins, 0.0)'),
-        (OF_FLOATS, f'larger-bounds ({SPACE})', f'larger-bounds ({SPACE.replace("span (block a)", "a .size")})'),
-        (MODEL, f'maxN ({SPACE_N}) zeroN', f'maxN ({SPACE_N.replace("spanN (blockN σ α)", "α .size")}) zeroN'),
-        (MARGINS, 'sub-exact (span-exact a α h) m (omega arith)', 'sub-exact (h .size) m (omega arith)')]),
+        (OF_FLOATS, f'larger_bounds ({SPACE})', f'larger_bounds ({SPACE.replace("span (block a)", "a.size")})'),
+        (MODEL, f'max_n ({SPACE_N}) zero_n', f'max_n ({SPACE_N.replace("span_n (block_n σ α)", "α.size")}) zero_n'),
+        (MARGINS, 'sub_exact (span_exact a α h) m (omega arith)', 'sub_exact h.size m (omega arith)')]),
     # default overflow
     ('no limit for stretch', QUARTERS, NO_REACH + [
-        (AXIS, 'isNormal align.Stretch = false', 'isNormal align.Stretch = true'),
+        (AXIS, 'is_normal align.Stretch = false', 'is_normal align.Stretch = true'),
         (CODE, (IS_NORMAL, 'OofAlignment::Start => false'), IS_NORMAL.replace('false', 'true')),
-        (OF_FLOATS, '(k ≡ align.Normal → ⊥) → isNormal k ≡ false', '(k ≡ align.Normal → ⊥) → (k ≡ align.Stretch → ⊥) → isNormal k ≡ false'),
-        (OF_FLOATS, 'not-normal align.Normal n = absurd (n refl)', 'not-normal align.Normal n s = absurd (n refl)'),
-        (OF_FLOATS, 'not-normal align.Stretch n = refl', 'not-normal align.Stretch n s = absurd (s refl)'),
-        (OF_FLOATS, 'not-normal align.Start n = refl', 'not-normal align.Start n s = refl'),
-        (OF_FLOATS, 'not-normal align.Center n = refl', 'not-normal align.Center n s = refl'),
-        (OF_FLOATS, 'not-normal align.End n = refl', 'not-normal align.End n s = refl')]),
+        (OF_FLOATS, '(k ≡ align.Normal → ⊥) → is_normal k ≡ false', '(k ≡ align.Normal → ⊥) → (k ≡ align.Stretch → ⊥) → is_normal k ≡ false'),
+        (OF_FLOATS, 'not_normal align.Normal n = absurd (n refl)', 'not_normal align.Normal n s = absurd (n refl)'),
+        (OF_FLOATS, 'not_normal align.Stretch n = refl', 'not_normal align.Stretch n s = absurd (s refl)'),
+        (OF_FLOATS, 'not_normal align.Start n = refl', 'not_normal align.Start n s = refl'),
+        (OF_FLOATS, 'not_normal align.Center n = refl', 'not_normal align.Center n s = refl'),
+        (OF_FLOATS, 'not_normal align.End n = refl', 'not_normal align.End n s = refl')]),
     ('default as safe', QUARTERS, NO_REACH + [
-        (AXIS, f'selfAligned Default a l outer edge ={DEFAULT}', SAFE.replace('Safe', 'Default')),
+        (AXIS, f'self_aligned Default a l outer edge ={DEFAULT}', SAFE.replace('Safe', 'Default')),
         (CODE, f'AlignmentSafety::Default => {KEPT}', f'AlignmentSafety::Default => {{\n                {IF_OVER}{AT_SAFE}\n                }}\n                align_in_line(imcb, outer, edge)\n            }}'),
-        (MODEL, 'selfN Default σ w l box k = cond (leN box (spanN l) || isNormal (σ .alignment)) (alignN l box k) (limitedN (σ .scrolls) (σ .reversed) w l box k)', 'selfN Default σ w l box k = alignN l box (cond (ltN (spanN l) box) (startOf (σ .reversed)) k)'),
-        (PLACES, ('  self-exact Default a k h hw b =', '  static-place-exact :'), SELF_EXACT_SAFE),
-        (OF_FLOATS, 'fits-aligned Default a l outer k h = rw h refl', 'fits-aligned Default a l outer k h = rw (fits-not-over outer (span l) h) refl'),
-        (OF_FLOATS, ('normal-aligned Default a l outer n =', 'normal-edge :'), NORMAL_AS_SAFE),
-        (NUMBERS, 'fits-told Default σ ω l v k f = rw f refl', 'fits-told Default σ ω l v k f = rw (le-ltb ((spanN l) .p + v .n) (v .p + (spanN l) .n) (at-most v (spanN l) f)) refl')]),
-    ('limit: the area only', QUARTERS, NO_REACH + limits('0f', 'a .size', '0.0', 'self.size', 'zeroN', 'w', '0f', 'w', 'zero-exact', 'widen (omega arith) hw')),
-    ('limit: the block only', QUARTERS, NO_REACH + limits('l .start', 'l .end', 'imcb.start', 'imcb.end', 'l .start', 'l .end', 'l .start', 'l .end', 'h .start', 'h .end')),
+        (MODEL, 'self_n Default σ w l box k = cond (le_n box (span_n l) || is_normal σ.alignment) (align_n l box k) (limited_n σ.scrolls σ.reversed w l box k)', 'self_n Default σ w l box k = align_n l box (cond (lt_n (span_n l) box) (start_of σ.reversed) k)'),
+        (PLACES, ('  self_exact Default a k h hw b =', '  static_place_exact :'), SELF_EXACT_SAFE),
+        (OF_FLOATS, 'fits_aligned Default a l outer k h = rw h refl', 'fits_aligned Default a l outer k h = rw (fits_not_over outer (span l) h) refl'),
+        (OF_FLOATS, ('normal_aligned Default a l outer n =', 'normal_edge :'), NORMAL_AS_SAFE),
+        (NUMBERS, 'fits_told Default σ ω l v k f = rw f refl', 'fits_told Default σ ω l v k f = rw (le-ltb ((span_n l).p + v.n) (v.p + (span_n l).n) (at_most v (span_n l) f)) refl')]),
+    ('limit: the area only', QUARTERS, NO_REACH + limits('0f', 'a.size', '0.0', 'self.size', 'zero_n', 'w', '0f', 'w', 'zero_exact', 'widen (omega arith) hw')),
+    ('limit: the block only', QUARTERS, NO_REACH + limits('l.start', 'l.end', 'imcb.start', 'imcb.end', 'l.start', 'l.end', 'l.start', 'l.end', 'h.start', 'h.end')),
     ('limit: never open', QUARTERS, NO_REACH + [
         (AXIS, LIMIT, 'start to end'),
         (CODE, LIMIT_LEFT, line('start', 'end', 16)),
         (CODE, LIMIT_RIGHT, line('start', 'end', 12)),
-        (MODEL, LIMITED_N, 'limitedN s reversed w l box k = keptN (limitN w l) reversed l box k\n\n'),
+        (MODEL, LIMITED_N, 'limited_n s reversed w l box k = kept_n (limit_n w l) reversed l box k\n\n'),
         (PLACES, OPEN, 'start to end'),
-        (PLACES, LIMITED_EXACT, '  limited-exact s r a k e h hw b = rw (← e) (within-exact a k (record { start = low-exact h hw; end = high-exact h hw }) h b)\n\n')]),
+        (PLACES, LIMITED_EXACT, '  limited_exact s r a k e h hw b = rw (← e) (within_exact a k (record { start = low_exact h hw; end = high_exact h hw }) h b)\n\n')]),
     ('limit: open to the right in either direction', QUARTERS, NO_REACH + [
-        (AXIS, LIMIT, 'cond (a .scrolls) (cond (a .reversed) (start to inf false) (start to inf false)) (start to end)'),
+        (AXIS, LIMIT, 'cond a.scrolls (cond a.reversed (start to inf false) (start to inf false)) (start to end)'),
         (CODE, LIMIT_LEFT, line('start', '1.0 / 0.0', 16)),
-        (MODEL, 'limitedN true true w l box k = minN (alignN l box k) (subN (limitN w l .end) box)', 'limitedN true true w l box k = maxN (alignN l box k) (limitN w l .start)'),
+        (MODEL, 'limited_n true true w l box k = min_n (align_n l box k) (sub_n (limit_n w l).end box)', 'limited_n true true w l box k = max_n (align_n l box k) (limit_n w l).start'),
         (PLACES, OPEN, 'cond scrolls (cond reversed (start to inf false) (start to inf false)) (start to end)'),
-        (PLACES, 'limited-exact true true a k e h hw b = open-start a k h b (high-exact h hw)', 'limited-exact true true a k e h hw b = open-end a k h b (low-exact h hw)')]),
+        (PLACES, 'limited_exact true true a k e h hw b = open_start a k h b (high_exact h hw)', 'limited_exact true true a k e h hw b = open_end a k h b (low_exact h hw)')]),
     ('too large for the limit: at its left', QUARTERS, NO_REACH + [
-        (AXIS, TOO_LARGE, '(alignIn lim outer Start)'),
+        (AXIS, TOO_LARGE, '(align_in lim outer Start)'),
         (CODE, 'align_in_line(limit, outer, self.start_edge())', 'align_in_line(limit, outer, AxisStaticEdge::Start)'),
-        (MODEL, '(alignN lim box (startOf reversed))', '(alignN lim box Start)'),
-        (PLACES, 'limited-exact false r a k e h hw b = rw (← e) (within-exact', 'limited-exact false r a k e h hw b = (within-exact'),
-        (PLACES, '\n      (start-exact a hl b)', '\n      (align-exact Start hl b)')]),
+        (MODEL, '(align_n lim box (start_of reversed))', '(align_n lim box Start)'),
+        (PLACES, 'limited_exact false r a k e h hw b = rw (← e) (within_exact', 'limited_exact false r a k e h hw b = (within_exact'),
+        (PLACES, '\n      (start_exact a hl b)', '\n      (align_exact Start hl b)')]),
     ('too large for the limit: at the block start', QUARTERS, NO_REACH + [
-        (AXIS, TOO_LARGE, f'(alignIn l outer ({IS_START}))'),
+        (AXIS, TOO_LARGE, f'(align_in l outer ({IS_START}))'),
         (CODE, 'align_in_line(limit, outer, self.start_edge())', 'align_in_line(imcb, outer, self.start_edge())'),
-        (MODEL, '(alignN lim box (startOf reversed))', '(alignN l box (startOf reversed))'),
-        (PLACES, '\n      (start-exact a hl b)', '\n      (start-exact a h b)')]),
+        (MODEL, '(align_n lim box (start_of reversed))', '(align_n l box (start_of reversed))'),
+        (PLACES, '\n      (start_exact a hl b)', '\n      (start_exact a h b)')]),
     ('overflow: only the start of the limit kept', QUARTERS, NO_REACH + [
-        (AXIS, '(larger (smaller (alignIn l outer edge) (lim .end ⊖ outer)) (lim .start))', '(larger (alignIn l outer edge) (lim .start))'),
+        (AXIS, '(larger (smaller (align_in l outer edge) (lim.end ⊖ outer)) lim.start)', '(larger (align_in l outer edge) lim.start)'),
         (CODE, f'return {KEPT_WITHIN};', 'return sys::f32_max(start, limit.start);'),
-        (MODEL, '(maxN (minN (alignN l box k) (subN (lim .end) box)) (lim .start))', '(maxN (alignN l box k) (lim .start))'),
-        (MODEL, 'limitedN true true w l box k = minN (alignN l box k) (subN (limitN w l .end) box)', 'limitedN true true w l box k = alignN l box k'),
-        (PLACES, '(larger-exact (smaller-exact (align-exact k h b) (widen (omega arith) (eighths (sub-exact (hl .end) b (omega arith))))) (widen', '(larger-exact (align-exact k h b) (widen'),
-        (PLACES, 'rw (inf-less ho, le-inf b, inf-less b, smaller-inf (align-exact k h b))', 'rw (inf-less ho, le-inf b)'),
-        (PLACES, '(minN (alignN m v k) (subN η v))', '(alignN m v k)'),
-        (PLACES, ('      let s = smaller-exact', '  -- the limit, as'), '      rw (less-inf hh, le-inf b, larger-inf (align-exact k h b)) (align-exact k h b)\n\n')]),
+        (MODEL, '(max_n (min_n (align_n l box k) (sub_n lim.end box)) lim.start)', '(max_n (align_n l box k) lim.start)'),
+        (MODEL, 'limited_n true true w l box k = min_n (align_n l box k) (sub_n (limit_n w l).end box)', 'limited_n true true w l box k = align_n l box k'),
+        (PLACES, '(larger_exact (smaller_exact (align_exact k h b) (widen (omega arith) (eighths (sub_exact hl.end b (omega arith))))) (widen', '(larger_exact (align_exact k h b) (widen'),
+        (PLACES, 'rw (inf_less ho, le_inf b, inf_less b, smaller_inf (align_exact k h b))', 'rw (inf_less ho, le_inf b)'),
+        (PLACES, '(min_n (align_n m v k) (sub_n η v))', '(align_n m v k)'),
+        (PLACES, ('      let s = smaller_exact', '  -- the limit, as'), '      rw (less_inf hh, le_inf b, larger_inf (align_exact k h b)) (align_exact k h b)\n\n')]),
     ('overflow: always at the limit start', QUARTERS, NO_REACH + [
-        (AXIS, ('    cond (le outer (span lim))', '\n-- both insets: the margin box'), f'    alignIn (smaller (l .start) 0f to larger (l .end) (a .size)) outer ({IS_START})\n'),
+        (AXIS, ('    cond (le outer (span lim))', '\n-- both insets: the margin box'), f'    align_in (smaller l.start 0f to larger l.end a.size) outer ({IS_START})\n'),
         (CODE, ('        if outer <= limit.end - limit.start {', '    }\n\n    // The start of the margin box where both'), f'        let bounds = {line("sys::f32_min(imcb.start, 0.0)", "sys::f32_max(imcb.end, self.size)", 8)};\n        align_in_line(bounds, outer, self.start_edge())\n'),
-        (MODEL, LIMITED_N, 'limitedN s reversed w l box k = alignN (limitN w l) box (startOf reversed)\n\n'),
-        (PLACES, ('  within-exact :', '  -- the limit, as'), ''),
-        (PLACES, '{l : Line} {m : LineN} {w box : Float} {ω v : N} (scrolls reversed : Bool) (a : OofAxis) (k : AxisStaticEdge) → a .reversed ≡ reversed → InBlock l m → Exact 4 L w ω', '{l : Line} {m : LineN} {box : Float} {ω v : N} (scrolls reversed : Bool) (a : OofAxis) (k : AxisStaticEdge) → a .reversed ≡ reversed → InBlock l m → Exact 4 L (a .size) ω'),
-        (PLACES, 'keptWithin (limitOf scrolls reversed w l) a l box k', 'keptWithin (limitOf scrolls reversed (a .size) l) a l box k'),
-        (PLACES, LIMITED_EXACT, '  unfolding keptWithin\n  limited-exact s r a k e h hw b = rw (← e) (start-exact a (record { start = low-exact h hw; end = high-exact h hw }) b)\n\n')]),
+        (MODEL, LIMITED_N, 'limited_n s reversed w l box k = align_n (limit_n w l) box (start_of reversed)\n\n'),
+        (PLACES, ('  within_exact :', '  -- the limit, as'), ''),
+        (PLACES, '{l : Line} {m : LineN} {w box : Float} {ω v : N} (scrolls reversed : Bool) (a : OofAxis) (k : AxisStaticEdge) → a.reversed ≡ reversed → InBlock l m → Exact 4 L w ω', '{l : Line} {m : LineN} {box : Float} {ω v : N} (scrolls reversed : Bool) (a : OofAxis) (k : AxisStaticEdge) → a.reversed ≡ reversed → InBlock l m → Exact 4 L a.size ω'),
+        (PLACES, 'kept_within (limit_of scrolls reversed w l) a l box k', 'kept_within (limit_of scrolls reversed a.size l) a l box k'),
+        (PLACES, LIMITED_EXACT, '  unfolding kept_within\n  limited_exact s r a k e h hw b = rw (← e) (start_exact a (record { start = low_exact h hw; end = high_exact h hw }) b)\n\n')]),
 ]

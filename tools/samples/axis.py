@@ -50,8 +50,8 @@ def chain(ws): return '(' + ' ∷ '.join(map(str, ws)) + ' ∷ [])'
 
 HEAD = '''-- %s
 -- Made by tools/samples/axis.py: edit that, not this. Assumes nothing.
-use mathlib.Core.List.{List, [], _∷_}
-use Rattle·test_oof_axis_samples·specs.specs.Sample.{%s}
+use Rattle.std.specs.Prelude.{List, [], ◌∷◌}
+use Rattle.test_oof_axis_samples.specs.Sample.{%s}
 
 unfoldable pub %s : List %s
 %s =

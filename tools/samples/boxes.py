@@ -78,8 +78,8 @@ with open('crates/test_oof_box/stdin', 'wb') as f:
 
 HEAD = '''-- %d boxes that the Rust laid out (profile %s, seed %d): what was given, asked, replied and found.
 -- Made by tools/samples/boxes.py: edit that, not this. Assumes nothing.
-use mathlib.Core.List.{List, [], _∷_}
-use Rattle·test_oof_box_rows·specs.specs.Sample.{Sample}
+use Rattle.std.specs.Prelude.{List, [], ◌∷◌}
+use Rattle.test_oof_box_rows.specs.Sample.{Sample}
 
 unfoldable pub boxes : List Sample
 boxes =

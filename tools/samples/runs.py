@@ -80,8 +80,8 @@ def taken(profile, wanted):
 rows = [row for profile in ('quarter', 'typical', 'wild') for row in taken(profile, WANTED)]
 open(FOLDER + 'specs/Runs.antt', 'w').write('''-- %d whole runs of the Rust with surfaced boxes (profiles quarter, typical, wild; seed %d).
 -- Made by tools/samples/runs.py: edit that, not this. Assumes nothing.
-use mathlib.Core.List.{List, [], _∷_}
-use Rattle·test_run_rows·specs.specs.Script.{Run, both, width, height, laid}
+use Rattle.std.specs.Prelude.{List, [], ◌∷◌}
+use Rattle.test_run_rows.specs.Script.{Run, both, width, height, laid}
 
 unfoldable pub runs : List Run
 runs =
@@ -106,7 +106,7 @@ oof_resolve Resolved
 oof_place Placing
 oof_box Box Cut
 run Refusals Run Theorems'''
-FLOATS = 'add sub mul div neg lt le eq isNan sum round units odd size span climb ofBits toBits ofFields nanBits ofInt'.split()
+FLOATS = 'add sub mul div neg lt le eq is_nan sum round units odd size span climb of_bits to_bits of_fields nan_bits of_int'.split()
 
 uses, unfolding = ['use lib.Ieee.{%s}' % ', '.join(FLOATS)], list(FLOATS)
 for line in MODULES.split('\n'):
@@ -115,19 +115,18 @@ for line in MODULES.split('\n'):
         items = []
         for name in re.findall(r'^unfoldable pub (\S+) :', open('crates/%s/specs/%s.antt' % (crate, module)).read(), re.M):
             here = name
-            while here in unfolding: here += '′'
+            while here in unfolding: here += "'"
             unfolding.append(here)
             items.append(name if here == name else '%s as %s' % (name, here))
-        own = '·specs' if crate == 'test_run_rows' else ''
-        if items: uses.append('use Rattle·%s%s.specs.%s.{%s}' % (crate, own, module, ', '.join(items)))
+        if items: uses.append('use Rattle.%s.specs.%s.{%s}' % (crate, module, ', '.join(items)))
 
 open(FOLDER + 'proofs/Computed.antt', 'w').write('''-- The definition of a call gives the recorded runs, and the answers that tell the readings apart, by computation.
 -- Made by tools/samples/runs.py: edit that, not this.
-use mathlib.Core.Path.{_≡_, refl}
+use mathlib.Core.Path.{◌≡◌, refl}
 use mathlib.Core.Bool.{true}
 %s
 
-calls-agree : (allAgree runs ≡ true) × (all readings ≡ true)
+calls_agree : (all_agree runs ≡ true) × (all readings ≡ true)
 unfolding %s
-calls-agree = (refl, refl)
+calls_agree = (refl, refl)
 ''' % ('\n'.join(uses), ' '.join(unfolding)))
