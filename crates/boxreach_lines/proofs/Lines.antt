@@ -12,7 +12,7 @@ use Rattle.boxlist_lines.proofs.Stores.{part_then}
 use Rattle.boxlist_lines.proofs.Lines.{code_length, then_column}
 use Rattle.reach.specs.declared.Reached.{Reached}
 use Rattle.reach.specs.declared.Reached.TheVariants.{Seen, Unseen, Refused}
-use Rattle.boxreach_lines.specs.Lines.{VERDICT_ROW, verdict_names, dash, seen_columns, refused_columns, verdict_columns, verdict_row}
+use Rattle.boxreach_lines.specs.Lines.{verdict_names, seen_columns, refused_columns, verdict_columns, verdict_row}
 use Rattle.boxreach_lines.specs.Laws.{NamesBytes, RowBytes}
 use Rattle.boxreach_lines.specs.Rows.{PrintedRows}
 

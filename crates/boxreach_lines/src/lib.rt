@@ -1,5 +1,6 @@
 // The lines of the printed verdicts: place, node, and whether scrolling brings the box up.
 #![tactic(auto)]
+
 ghost use Rattle.std.specs.Prelude.{◌≡◌, ◌+◌, ◌*◌, ◌≤◌, length};
 ghost use Rattle.std.proofs.lemmas.List.Edits.{sets};
 ghost use Rattle.boxlist_lines.specs.Column.{COLUMN};

@@ -1,4 +1,3 @@
-use borrow.Author.Rules.{rules}
 use mathlib.Core.Path.{refl, sym, ◌∙◌}
 use Rattle.boxreach_lines.proofs.Lines.{refused_stores}
 use Rattle.boxreach_lines.proofs.put_refused.Goals as goal

@@ -1,5 +1,4 @@
-use borrow.Author.Rules.{rules}
-use mathlib.Core.Path.{refl, sym, ◌∙◌}
+use mathlib.Core.Path.{sym, ◌∙◌}
 use Rattle.boxreach_lines.proofs.Lines.{seen_stores}
 use Rattle.boxreach_lines.proofs.put_seen.Goals as goal
 

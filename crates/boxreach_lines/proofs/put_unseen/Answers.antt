@@ -1,4 +1,3 @@
-use borrow.Author.Rules.{rules}
 use Rattle.boxlist_lines.specs.Lines.{joined, word_text}
 use Rattle.boxreach_lines.proofs.put_unseen.Goals as goal
 
