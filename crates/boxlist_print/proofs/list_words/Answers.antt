@@ -1,0 +1,12 @@
+use Prim.Native.Nat.{◌*◌}
+use native.Mathlib.Nat.{mul-le-mul_right}
+use Rattle.tree_record.specs.Layout.{layout_width}
+use Rattle.screen_fields.specs.Format.{MAX_ITEMS}
+use Rattle.boxlist_print.proofs.Whole.{zeros}
+use borrow.Author.Rules.{rules}
+use Rattle.boxlist_print.proofs.list_words.Goals as goal
+
+pub returns : goal.returns
+returns c =
+    let a = c.args in
+    rw (zeros (a.n * layout_width) (MAX_ITEMS * layout_width) (mul-le-mul_right layout_width c.requires.0)) at c.list_parts.ensures

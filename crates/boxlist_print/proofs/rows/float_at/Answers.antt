@@ -1,0 +1,5 @@
+use borrow.Author.Rules.{rules}
+use Rattle.boxlist_print.proofs.rows.float_at.Goals as goal
+
+pub returns : goal.returns
+returns c = simp (← c.word_at.ensures, ← c.from_word.ensures)
