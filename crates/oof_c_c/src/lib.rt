@@ -2,6 +2,7 @@
 // A slice passes as a pointer, then its length in words; state, answer, a layout, edges, a verdict and a found word's place pass as a
 // pointer each.
 #![tactic(auto)]
+
 ghost use Rattle.std.specs.Prelude.{◌≡◌, []};
 ghost use Rattle.oof_c_words.specs.Entry.{returned, opening_of, opened_in_words, replied_in_words, words};
 ghost use Rattle.oof_c_words.specs.PixelWords.{pixels_returned, pixels_in_words};
@@ -39,7 +40,10 @@ pub extern "C" fn oof_open(
 ) -> u32
     ensures { returned result layouts.new working.new unclaimed.new state.new answer.new ≡ opened_in_words (opening_of width height x y direction claims overflow_x overflow_y) candidates.now styles.now (words layouts.old working.old unclaimed.old state.old answer.old) }
 {
-    oof_c::oof_open(width, height, x, y, direction, claims, overflow_x, overflow_y, styles, candidates, layouts, working, unclaimed, state, answer)
+    oof_c::oof_open(
+        width, height, x, y, direction, claims, overflow_x, overflow_y, styles, candidates,
+        layouts, working, unclaimed, state, answer,
+    )
 }
 
 // Both sizes, measured.
@@ -56,7 +60,9 @@ pub extern "C" fn oof_reply_both(
 ) -> u32
     ensures { returned result layouts.new working.new unclaimed.new state.new answer.new ≡ replied_in_words (Reply.Both (record { width = width; height = height })) [] styles.now (words layouts.old working.old unclaimed.old state.old answer.old) }
 {
-    oof_c::oof_reply_both(width, height, styles, layouts, working, unclaimed, state, answer)
+    oof_c::oof_reply_both(
+        width, height, styles, layouts, working, unclaimed, state, answer,
+    )
 }
 
 // A width, measured.
@@ -108,7 +114,9 @@ pub extern "C" fn oof_reply_laid_out(
 ) -> u32
     ensures { returned result layouts.new working.new unclaimed.new state.new answer.new ≡ replied_in_words (Reply.LaidOut (record { left = left; right = right; top = top; bottom = bottom })) surfaced.now styles.now (words layouts.old working.old unclaimed.old state.old answer.old) }
 {
-    oof_c::oof_reply_laid_out(left, right, top, bottom, surfaced, styles, layouts, working, unclaimed, state, answer)
+    oof_c::oof_reply_laid_out(
+        left, right, top, bottom, surfaced, styles, layouts, working, unclaimed, state, answer,
+    )
 }
 
 // The pixel edges of a box, from its layout's words, relative to an area at x, y.

@@ -1,0 +1,6 @@
+use Rattle.demands_c.proofs.Demands.{drawing_demands}
+use borrow.Author.Rules.{rules}
+use Rattle.demands_c.proofs.drawing_order.Goals as goal
+
+pub returns : goal.returns
+returns c = drawing_demands _ _ _ c.oof_drawing_order.ensures
