@@ -4,15 +4,22 @@ import re
 import shutil
 
 CRATES = ('oof_common', 'oof_resolve', 'oof_place', 'oof_box')
-ROWS = {'rows 1 to 9': 'axisRows', 'rows 10 and 11': 'boxRows', 'rows 12 and 13': 'overflowRows'}
+ROWS = {'rows 1 to 9': 'axis_rows', 'rows 10 and 11': 'box_rows', 'rows 12 and 13': 'overflow_rows'}
 
 
 def without_functions(text):
-    """The types of a source file: no function, and no `use` that only functions need."""
-    text = re.sub(r'(?ms)^(pub )?(fn|impl)\b.*?^}\n', '', text)
+    """The types of a source file: no function, and no name of a `use` that only functions need."""
+    text = re.sub(r'(?ms)^(?:#\[[^\n]*\]\n)*(pub )?(fn|impl)\b.*?^}\n', '', text)
     text = re.sub(r'(?m)^(ghost use|//).*\n', '', text)
-    body = re.sub(r'(?m)^use .*\n', '', text)
-    return re.sub(r'(?m)^use (?:\w+::)*(\w+);\n', lambda m: m[0] if re.search(rf'(?<![:\w]){m[1]}\b', body) else '', text)
+    body = re.sub(r'(?ms)^use .*?;\n', '', text)
+    needed = lambda name: re.search(rf'(?<![:\w]){name.split(" as ")[-1].split("::")[-1]}\b', body)
+
+    def kept(use):
+        path, brace, names = use[1].partition('{')
+        if not brace: return use[0] if needed(path) else ''
+        names = [n for n in re.split(r',\s*', names.strip('}, \n')) if needed(n)]
+        return f'use {path}{{{", ".join(names)}}};\n' if names else ''
+    return re.sub(r'(?ms)^use (.*?);\n', kept, text)
 
 
 def make_bare(copy):
@@ -27,6 +34,6 @@ def make_bare(copy):
     os.remove(os.path.join(proofs, 'Samples.antt'))
     open(os.path.join(proofs, 'Lib.antt'), 'w').write('mod Rows\n')
     text = open(os.path.join(proofs, 'Rows.antt')).read()
-    head, test = text[:text.index('rows-hold :')], text[text.index('rows-hold :'):]
-    tests = [test.replace('all rows ≡', f'all {rows} ≡').replace('rows-hold', name.replace(' ', '-')) for name, rows in ROWS.items()]
+    head, test = text[:text.index('rows_hold :')], text[text.index('rows_hold :'):]
+    tests = [test.replace('all rows ≡', f'all {rows} ≡').replace('rows_hold', name.replace(' ', '_')) for name, rows in ROWS.items()]
     open(os.path.join(proofs, 'Rows.antt'), 'w').write(head + '\n'.join(tests))

@@ -2,8 +2,9 @@
 """Misreadings written into definition and code alike, and what the checker then refuses. Run at the root of the repository after a check.
 
     tools/misread/edits.py [--rewrite] [axis|box] [WORD]
+    tools/misread/edits.py --applied                          only tries whether the old texts of all entries stand where they should
 
-tries all of both lists, of one of them, or those whose name has WORD, one after another, in a copy of crates/ and target/. An entry of axis_edits.py
+tries all of both lists, of one of them, or those whose name has WORD, one after another, in a copy of crates/. An entry of axis_edits.py
 or box_edits.py is a name, crates, and edits: a file under crates/, the old text, the new one, and how often the old one stands there if not once. A
 pair as old text is all from the first up to the second (None: to the file's end); None as old text takes the file away. A name is that of the same
 misreading of the models axis.py and box.py, which then say which of the refused laws and rows are false: so a law that is broken is told apart from
@@ -15,8 +16,8 @@ a law whose proof merely no longer fits.
   anew, not those above. Half a minute or more.
 
 Prints, for each, what refuses it, first what is false on the model, then the functions whose proof no longer fits: a changed call or operation asks
-for a changed proof script, which refuses nothing. With --rewrite the scripts of an axis are written anew as tools/proof/rewrite-proof does, and the
-check says whether the code then meets the definition again. No stored sample is asked. Fails where nothing refuses an edit that the model says is
+for a changed proof file, which refuses nothing. With --rewrite the proof files of such functions of an axis are taken away, and the check says
+whether what Rattle finds without them shows that the code meets the definition again. No stored sample is asked. Fails where nothing refuses an edit that the model says is
 false."""
 import os
 import pathlib
@@ -36,7 +37,9 @@ import box
 import box_edits
 
 INPUTS = 3000
-ERROR = re.compile(r'crates/(\w+)/proofs/(\S+?)\.antt:(\d+):\d+: error: ')
+ERROR = re.compile(r'^\./proofs/(\S+?)\.antt:(\d+):\d+: error: ')
+# a file of the proof of one function
+OF_FUNCTION = re.compile(r'(.*)/(?:Answers|Invariants|Proof)')
 
 
 def declarations(file):
@@ -48,15 +51,17 @@ def declarations(file):
     return found
 
 
-def laws_and_unfit(copy, output):
+def laws_and_unfit(copy, crate, output):
     """The laws that are refused, at their own lemma or at one below it, and the functions and theorems whose proof no longer fits."""
+    # where a library below isn't proved, it is that which was checked
+    crate = (re.search(r'^rt: the library (\w+) did not build', output, re.M) or [None, crate])[1]
     laws, unfit = [], re.findall(r'^fn \w+::(\S+): (?:not proved(?!; it calls)|no proof)', output, re.M)
     for text in output.splitlines():
         error = ERROR.search(text)
-        if not error: continue
-        crate, proof, at = error[1], error[2], int(error[3])
-        if proof.endswith('/Proof'):
-            if 'was not admitted' not in text: unfit.append(proof[:-len('/Proof')].replace('/', '::'))
+        if not error or 'was not admitted' in text and OF_FUNCTION.fullmatch(error[1]): continue
+        proof, at = error[1], int(error[2])
+        if OF_FUNCTION.fullmatch(proof):
+            unfit.append(OF_FUNCTION.fullmatch(proof)[1].replace('/', '::'))
             continue
         name, law = next(((name, law) for n, name, law in reversed(declarations(f'{copy}/crates/{crate}/proofs/{proof}.antt')) if n <= at), (proof, None))
         of_laws = proof == 'Laws' or crate.endswith('_laws')
@@ -65,30 +70,21 @@ def laws_and_unfit(copy, output):
     return list(dict.fromkeys(laws)), list(dict.fromkeys(unfit))
 
 
-def asked(copy, crate, *words):
-    run = subprocess.run(['rt', 'dev', crate, *words], cwd=copy, capture_output=True, text=True, env={**os.environ, 'RT_CUT': '0'})
-    return run.stdout + run.stderr
+def asked(copy, crate):
+    run = subprocess.run(['rt', 'check'], cwd=os.path.join(copy, 'crates', crate), stdout=subprocess.PIPE, stderr=subprocess.STDOUT, text=True)
+    return run.stdout
 
 
-def rewrite(root, copy, crate, functions):
-    """Has the proof scripts of functions written anew (as tools/proof/rewrite-proof does), with the definitions that the old ones unfold."""
-    old = {f: os.path.join(root, 'crates', crate, 'proofs', f, 'Proof.antt') for f in functions}
-    old = {f: open(path).read() if os.path.exists(path) else '' for f, path in old.items()}
-    for f in functions: shutil.rmtree(os.path.join(copy, 'crates', crate, 'proofs', f), ignore_errors=True)
-    output = asked(copy, crate)
-    for path, lines in re.findall(r'^help: write (\S*Proof\.antt) with these lines.*\n((?:    .*\n|\n)+)', output, re.M):
-        if os.path.exists(os.path.join(copy, path)): continue
-        os.makedirs(os.path.dirname(os.path.join(copy, path)), exist_ok=True)
-        open(os.path.join(copy, path), 'w').write(re.sub('^    ', '', lines, flags=re.M))
-    asked(copy, crate, '--generated', os.path.join(copy, f'target/gen-{crate}'))
-    for f in functions:
-        definitions = ' '.join(dict.fromkeys(' '.join(re.findall(r'^unfolding (.*)', old[f], re.M)).split()))
-        uses = '\n'.join(re.findall(rf'^use Rattle·{crate}·(?:specs\.specs|proofs\.proofs)\.\w+\.\{{.*', old[f], re.M))
-        subprocess.run([os.path.join(root, 'tools/proof/list-facts'), crate, f, '--cached', '--fill', definitions, '--use', uses], cwd=copy, capture_output=True)
-        lemmas, path = re.findall(r'·proofs\.proofs\.\w+\.\{(.*)\}', uses), os.path.join(copy, 'crates', crate, 'proofs', f, 'Proof.antt')
-        if not lemmas or not os.path.exists(path): continue
-        text = open(path).read()
-        open(path, 'w').write(re.sub(r'^(returns\S* c = simp \(.*)\)$', rf'\1, {", ".join(lemmas)})', text, flags=re.M))
+def copied(root, copy, crate):
+    """A crate's sources, without what rt made of them; rt takes over what checks on this machine kept."""
+    for part in ('src', 'specs', 'proofs'):
+        if os.path.isdir(os.path.join(root, 'crates', crate, part)):
+            shutil.copytree(os.path.join(root, 'crates', crate, part), os.path.join(copy, 'crates', crate, part))
+
+
+def restored(root, copy, crate):
+    for part in ('src', 'specs', 'proofs'): shutil.rmtree(os.path.join(copy, 'crates', crate, part), ignore_errors=True)
+    copied(root, copy, crate)
 
 
 def false_on_model(module, changed, laws):
@@ -103,7 +99,7 @@ def write(copy, name, edits):
     for file, old, new, *times in edits:
         path = os.path.join(copy, 'crates', file)
         if old is None:
-            shutil.rmtree(path) if os.path.isdir(path) else os.remove(path)
+            shutil.rmtree(path) if os.path.isdir(path) else os.path.exists(path) and os.remove(path)
             continue
         text = open(path).read()
         if isinstance(old, tuple): old = text[text.index(old[0]):old[1] and text.index(old[1], text.index(old[0]))]
@@ -120,17 +116,16 @@ def tried(root, copy, again, module, name, crates, edits):
             crate, more = crate
             write(copy, name, more)
         output = asked(copy, crate)
-        found, other = laws_and_unfit(copy, output)
+        found, other = laws_and_unfit(copy, crate, output)
         if again and other:
-            rewrite(root, copy, crate, [f.replace('::', '/') for f in other if ': ' not in f])
-            left += laws_and_unfit(copy, asked(copy, crate))[1]
+            for f in other: shutil.rmtree(os.path.join(copy, 'crates', crate, 'proofs', f.replace('::', '/')), ignore_errors=True)
+            left += laws_and_unfit(copy, crate, asked(copy, crate))[1]
         laws += found
         unfit += other
         if laws: break
     if not laws: print(next((l for l in output.splitlines() if 'error' in l or 'not proved' in l or 'no proof' in l), 'all is proved'))
     for crate in {f.split('/')[0] for f, *_ in edits + [e for c in crates if isinstance(c, tuple) for e in c[1]]}:
-        shutil.rmtree(os.path.join(copy, 'crates', crate))
-        shutil.copytree(os.path.join(root, 'crates', crate), os.path.join(copy, 'crates', crate), symlinks=True)
+        restored(root, copy, crate)
     changed = dict(module.MISREADINGS).get(name)
     false = false_on_model(module, changed, laws) if changed else laws
     said = f'refused by {", ".join(false) or "NO LAW THAT IS FALSE"}' + (' (false on the model)' if changed and false else '')
@@ -147,7 +142,7 @@ def laws_of_a_box(root):
     """The statements of oof_box_laws, by the names of their proofs."""
     texts = [open(os.path.join(root, 'crates/oof_box_laws/specs', f)).read() for f in ('Laws.antt', 'Resolved.antt')]
     names = re.findall(r'(?m)^abbrev pub (\w+) : Type 0$', ''.join(texts))
-    return {re.sub(r'(?<!^)(?=[A-Z])', '-', n).lower(): n for n in names}
+    return {re.sub(r'(?<!^)(?=[A-Z])', '_', n).lower() + end: n for n in names for end in ('', '_lem')}
 
 
 def refused_without_code(root, copy):
@@ -155,9 +150,9 @@ def refused_without_code(root, copy):
     names, refused, broken = laws_of_a_box(root), [], []
     for crate in ('oof_box_laws', 'test_oof_box_rows'):
         output = asked(copy, crate)
-        lemmas = [m[1] for m in re.finditer(rf'crates/{crate}/\S+\.antt:\S+ error:.*?`([^`]+)`', output)]
+        lemmas = [m[1] for m in re.finditer(r'^\./\S+\.antt:\S+ error: `([^`]+)`', output, re.M)]
         if crate == 'oof_box_laws': refused += [names[n] for n in dict.fromkeys(lemmas) if n in names]
-        else: refused += [r for r in bare.ROWS if r.replace(' ', '-') in lemmas]
+        else: refused += [r for r in bare.ROWS if r.replace(' ', '_') in lemmas]
         if not lemmas and 'logic=proved' not in output: broken.append(output.splitlines()[-1])
     return refused, broken
 
@@ -171,9 +166,9 @@ def tried_box(root, copy, bare_copy, name, crates, edits):
     unfit = []
     for crate in crates:
         output = asked(copy, crate)
-        unfit += laws_and_unfit(copy, output)[1]
-        if 'error: `size-law`' in output: refused.append('SizeLaw')
-    unfit = [u for u in dict.fromkeys(unfit) if u != 'oof_box: size-law']
+        unfit += laws_and_unfit(copy, crate, output)[1]
+        if 'error: `size_law`' in output: refused.append('SizeLaw')
+    unfit = [u for u in dict.fromkeys(unfit) if u != 'oof_box: size_law']
     for file in files:
         for to in (copy, bare_copy) if '/specs/' in file else (copy,): shutil.copy(os.path.join(root, 'crates', file), os.path.join(to, 'crates', file))
     changed = dict(box.MISREADINGS)[name]
@@ -185,8 +180,29 @@ def tried_box(root, copy, bare_copy, name, crates, edits):
     return bool(false) and not broken, not unfit, not unfit
 
 
+def applied(root):
+    """What of the entries no longer stands."""
+    wrong = []
+    for entries in (axis_edits, box_edits):
+        for name, crates, edits in entries.EDITS:
+            with tempfile.TemporaryDirectory() as copy:
+                for file in {f for f, *_ in edits + [e for c in crates if isinstance(c, tuple) for e in c[1]]}:
+                    if os.path.isfile(os.path.join(root, 'crates', file)):
+                        os.makedirs(os.path.dirname(os.path.join(copy, 'crates', file)), exist_ok=True)
+                        shutil.copy(os.path.join(root, 'crates', file), os.path.join(copy, 'crates', file))
+                try:
+                    for part in [edits, *(c[1] for c in crates if isinstance(c, tuple))]: write(copy, name, part)
+                except (AssertionError, ValueError, OSError) as error:
+                    wrong.append(f'{name}: {error}')
+    return wrong
+
+
 def main():
     root, began, words = os.getcwd(), time.time(), sys.argv[1:]
+    if words == ['--applied']:
+        wrong = applied(root)
+        print(*wrong, f'edits: {len(axis_edits.EDITS) + len(box_edits.EDITS)} misreadings, {len(wrong)} of them with an old text that doesn\'t stand', sep='\n')
+        sys.exit(bool(wrong))
     again, lists = '--rewrite' in words, [(axis, axis_edits), (box, box_edits)]
     words = [w for w in words if w != '--rewrite']
     if words and words[0] in ('axis', 'box'): lists, words = [l for l in lists if l[0].__name__ == words[0]], words[1:]
@@ -195,7 +211,7 @@ def main():
     copies = [tempfile.mkdtemp() for _ in range(2 if any(e[0] is box for e in chosen) else 1)]
     try:
         for copy in copies:
-            for n in ('crates', 'target'): shutil.copytree(os.path.join(root, n), os.path.join(copy, n), symlinks=True)
+            for crate in os.listdir(os.path.join(root, 'crates')): copied(root, copy, crate)
             shutil.copy(os.path.join(root, 'crates.txt'), copy)
         if copies[1:]:
             bare.make_bare(copies[1])
