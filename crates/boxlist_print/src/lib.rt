@@ -5,7 +5,7 @@ ghost use Rattle.screen_fields.specs.Format.{MAX-ITEMS, MAX-CANDIDATES, reply_wi
 ghost use Rattle.style_record.specs.Record.{style_words};
 ghost use Rattle.tree_record.specs.Candidate.{candidate_width};
 ghost use Rattle.tree_record.specs.Layout.{layout_width};
-ghost use Rattle.run.specs.Call.{lent, at_entry};
+ghost use Rattle.run.specs.Call.{lent};
 ghost use Rattle.script.specs.Script.{played_out};
 ghost use Rattle.boxlist_print.specs.Rows.{Prints};
 ghost use Rattle.boxlist_print.specs.Printed.{LIST-BYTES, finished_text, list_of, opening_of, list_words, list_from, printed};
@@ -78,7 +78,7 @@ fn put_finished(
 ) -> usize
     requires working_bound { s.counts.filled.working ≤ MAX-CANDIDATES }
     requires in_bounds { LIST-BYTES ≤ length out.old }
-    ensures { Prints result out.old out.new (finished_text listing s overflow (at_entry styles layouts working unclaimed)) }
+    ensures { Prints result out.old out.new (finished_text listing s overflow (lent styles.now layouts.now working.now unclaimed.now)) }
 {
     let n = s.counts.filled.working;
     match listing {
@@ -101,7 +101,7 @@ fn list_run(
 ) -> usize
     requires working_len { length working.old ≡ list_words }
     requires in_bounds { LIST-BYTES ≤ length out.old }
-    ensures { Prints result out.old out.new (list_of listing styles.now (played_out o replies.now candidates.now (at_entry styles layouts working unclaimed))) }
+    ensures { Prints result out.old out.new (list_of listing styles.now (played_out o replies.now candidates.now (lent styles.now layouts.old working.old unclaimed.old))) }
 {
     let step = script::play_out(o, replies, styles, candidates, layouts, working, unclaimed);
     let state = step.state;

@@ -2,7 +2,7 @@
 ghost use Rattle.std.specs.Prelude.{◌≡◌, ◌+◌, ◌*◌, ◌≤◌, length};
 ghost use Rattle.std.proofs.lemmas.List.Edits.{sets};
 ghost use Rattle.screen_fields.specs.Format.{MAX-CANDIDATES};
-ghost use Rattle.run.specs.Call.{at_entry};
+ghost use Rattle.run.specs.Call.{lent};
 ghost use Rattle.boxreach_lines.specs.Lines.{VERDICT-ROW};
 ghost use Rattle.boxlist_print.specs.Rows.{Prints};
 ghost use Rattle.boxlist_print.specs.Verdicts.{verdict_at, verdicts_from, verdicts_text};
@@ -33,7 +33,7 @@ fn put_verdict(
 )
     requires place_bound { place ≤ MAX-CANDIDATES }
     requires at_in_bounds { at + VERDICT-ROW ≤ length out.old }
-    ensures { out.new ≡ sets out.old at (verdict_at s (at_entry styles layouts working unclaimed) place) }
+    ensures { out.new ≡ sets out.old at (verdict_at s (lent styles.now layouts.now working.now unclaimed.now) place) }
 {
     let node = word_at(working, CANDIDATE_WORDS * place);
     let reached = reach::reach(place, s, styles, layouts, working, unclaimed);
@@ -53,7 +53,7 @@ fn put_each(
 )
     requires n_bound { n ≤ MAX-CANDIDATES }
     requires n_in_bounds { at + n * VERDICT-ROW ≤ length out.old }
-    ensures { out.new ≡ sets out.old at (verdicts_from s (at_entry styles layouts working unclaimed) 0 n) }
+    ensures { out.new ≡ sets out.old at (verdicts_from s (lent styles.now layouts.now working.now unclaimed.now) 0 n) }
 {
     let mut p = at;
     let mut i: usize = 0;
@@ -75,7 +75,7 @@ pub(crate) fn put_verdicts(
 ) -> usize
     requires working_bound { s.counts.filled.working ≤ MAX-CANDIDATES }
     requires working_in_bounds { (1 + s.counts.filled.working) * VERDICT-ROW ≤ length out.old }
-    ensures { Prints result out.old out.new (verdicts_text s (at_entry styles layouts working unclaimed)) }
+    ensures { Prints result out.old out.new (verdicts_text s (lent styles.now layouts.now working.now unclaimed.now)) }
 {
     let n = s.counts.filled.working;
     boxreach_lines::put_names(out, 0);

@@ -3,7 +3,7 @@
 // call what is ensured here.
 ghost use Rattle.std.specs.Prelude.{◌≡◌};
 ghost use Rattle.oof_axis.specs.StaticOffset.{static_offset};
-ghost use Rattle.run.specs.Call.{at_entry, at_exit};
+ghost use Rattle.run.specs.Call.{lent, outcome};
 ghost use Rattle.placer_check.specs.Verdict.{verdict_of};
 ghost use Rattle.demands.specs.Demands.{OpeningDemands, ReplyDemands, AlignmentDemands, PixelsDemands, ReachDemands, DrawingDemands, CheckDemands, ScreenDemands, Demanded};
 
@@ -26,7 +26,7 @@ pub fn open(
     working: &mut [u32],
     unclaimed: &mut [u32],
 ) -> Step
-    ensures { OpeningDemands o candidates.now (at_entry styles layouts working unclaimed) (at_exit result layouts working unclaimed) }
+    ensures { OpeningDemands o candidates.now (lent styles.now layouts.old working.old unclaimed.old) (outcome result layouts.new working.new unclaimed.new) }
 {
     placer::open(o, styles, candidates, layouts, working, unclaimed)
 }
@@ -40,7 +40,7 @@ pub fn reply(
     working: &mut [u32],
     unclaimed: &mut [u32],
 ) -> Step
-    ensures { ReplyDemands s reply surfaced.now (at_entry styles layouts working unclaimed) (at_exit result layouts working unclaimed) }
+    ensures { ReplyDemands s reply surfaced.now (lent styles.now layouts.old working.old unclaimed.old) (outcome result layouts.new working.new unclaimed.new) }
 {
     placer::reply(s, reply, surfaced, styles, layouts, working, unclaimed)
 }
@@ -65,7 +65,7 @@ pub fn reach(
     working: &[u32],
     unclaimed: &[u32],
 ) -> Reached
-    ensures { ReachDemands place s (at_entry styles layouts working unclaimed) result }
+    ensures { ReachDemands place s (lent styles.now layouts.now working.now unclaimed.now) result }
 {
     reach::reach(place, s, styles, layouts, working, unclaimed)
 }
@@ -78,7 +78,7 @@ pub fn drawing_order(
     unclaimed: &[u32],
     order: &mut [u32],
 ) -> Verdict
-    ensures { DrawingDemands s (at_entry styles layouts working unclaimed) order.old (record { verdict = verdict_of result; order = order.new }) }
+    ensures { DrawingDemands s (lent styles.now layouts.now working.now unclaimed.now) order.old (record { verdict = verdict_of result; order = order.new }) }
 {
     drawing::drawing_order(s, styles, layouts, working, unclaimed, order)
 }

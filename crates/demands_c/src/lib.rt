@@ -1,9 +1,9 @@
 // Demands 1 and 2 of the C entries. Each function here but the last is a call, and ensures what is demanded of it; those demands that
 // speak of runs are theorems (specs/Demands.antt), from what a caller learns of the entries.
 ghost use Rattle.std.specs.Prelude.{[]};
-ghost use Rattle.oof_c_words.specs.Entry.{came, before, returned, opening_of};
+ghost use Rattle.oof_c_words.specs.Entry.{returned, opening_of, words};
 ghost use Rattle.oof_c_words.specs.PixelWords.{pixels_returned};
-ghost use Rattle.run.specs.Call.{at_entry};
+ghost use Rattle.run.specs.Call.{lent};
 ghost use Rattle.oof_c_words.specs.CheckWords.{check_returned};
 ghost use Rattle.oof_c.specs.ReachWords.{reach_returned};
 ghost use Rattle.oof_c.specs.DrawingWords.{drawing_returned};
@@ -28,7 +28,7 @@ pub fn open(
     state: &mut [u32; 27],
     answer: &mut [u32; 10],
 ) -> u32
-    ensures { OpeningDemands (opening_of width height x y direction claims overflow_x overflow_y) (came candidates) (came styles) (before layouts working unclaimed state answer) (returned result layouts working unclaimed state answer) }
+    ensures { OpeningDemands (opening_of width height x y direction claims overflow_x overflow_y) candidates.now styles.now (words layouts.old working.old unclaimed.old state.old answer.old) (returned result layouts.new working.new unclaimed.new state.new answer.new) }
 {
     oof_c::oof_open(
         width, height, x, y, direction, claims, overflow_x, overflow_y, styles, candidates,
@@ -46,7 +46,7 @@ pub fn reply_both(
     state: &mut [u32; 27],
     answer: &mut [u32; 10],
 ) -> u32
-    ensures { ReplyDemands (Reply.Both (record { width = width; height = height })) [] (came styles) (before layouts working unclaimed state answer) (returned result layouts working unclaimed state answer) }
+    ensures { ReplyDemands (Reply.Both (record { width = width; height = height })) [] styles.now (words layouts.old working.old unclaimed.old state.old answer.old) (returned result layouts.new working.new unclaimed.new state.new answer.new) }
 {
     oof_c::oof_reply_both(
         width, height, styles, layouts, working, unclaimed, state, answer,
@@ -62,7 +62,7 @@ pub fn reply_width(
     state: &mut [u32; 27],
     answer: &mut [u32; 10],
 ) -> u32
-    ensures { ReplyDemands (Reply.Width width) [] (came styles) (before layouts working unclaimed state answer) (returned result layouts working unclaimed state answer) }
+    ensures { ReplyDemands (Reply.Width width) [] styles.now (words layouts.old working.old unclaimed.old state.old answer.old) (returned result layouts.new working.new unclaimed.new state.new answer.new) }
 {
     oof_c::oof_reply_width(width, styles, layouts, working, unclaimed, state, answer)
 }
@@ -76,7 +76,7 @@ pub fn reply_height(
     state: &mut [u32; 27],
     answer: &mut [u32; 10],
 ) -> u32
-    ensures { ReplyDemands (Reply.Height height) [] (came styles) (before layouts working unclaimed state answer) (returned result layouts working unclaimed state answer) }
+    ensures { ReplyDemands (Reply.Height height) [] styles.now (words layouts.old working.old unclaimed.old state.old answer.old) (returned result layouts.new working.new unclaimed.new state.new answer.new) }
 {
     oof_c::oof_reply_height(height, styles, layouts, working, unclaimed, state, answer)
 }
@@ -94,7 +94,7 @@ pub fn reply_laid_out(
     state: &mut [u32; 27],
     answer: &mut [u32; 10],
 ) -> u32
-    ensures { ReplyDemands (Reply.LaidOut (record { left = left; right = right; top = top; bottom = bottom })) (came surfaced) (came styles) (before layouts working unclaimed state answer) (returned result layouts working unclaimed state answer) }
+    ensures { ReplyDemands (Reply.LaidOut (record { left = left; right = right; top = top; bottom = bottom })) surfaced.now styles.now (words layouts.old working.old unclaimed.old state.old answer.old) (returned result layouts.new working.new unclaimed.new state.new answer.new) }
 {
     oof_c::oof_reply_laid_out(
         left, right, top, bottom, surfaced, styles, layouts, working, unclaimed, state, answer,
@@ -102,7 +102,7 @@ pub fn reply_laid_out(
 }
 
 pub fn pixels(layout: &[u32; 23], x: f32, y: f32, edges: &mut [i32; 4]) -> u32
-    ensures { PixelsDemands (came layout) (record { x = x; y = y }) edges.old (pixels_returned result edges) }
+    ensures { PixelsDemands layout.now (record { x = x; y = y }) edges.old (pixels_returned result edges.new) }
 {
     oof_c::oof_pixels(layout, x, y, edges)
 }
@@ -116,7 +116,7 @@ pub fn reach(
     state: &[u32; 27],
     verdict: &mut [u32; 3],
 ) -> u32
-    ensures { ReachDemands place (at_entry styles layouts working unclaimed) (came state) verdict.old (reach_returned result verdict) }
+    ensures { ReachDemands place (lent styles.now layouts.now working.now unclaimed.now) state.now verdict.old (reach_returned result verdict.new) }
 {
     oof_c::oof_reach(place, styles, layouts, working, unclaimed, state, verdict)
 }
@@ -129,13 +129,13 @@ pub fn drawing_order(
     state: &[u32; 27],
     order: &mut [u32],
 ) -> u32
-    ensures { DrawingDemands (at_entry styles layouts working unclaimed) (came state) order.old (drawing_returned result order) }
+    ensures { DrawingDemands (lent styles.now layouts.now working.now unclaimed.now) state.now order.old (drawing_returned result order.new) }
 {
     oof_c::oof_drawing_order(styles, layouts, working, unclaimed, state, order)
 }
 
 pub fn first_bad_word(styles: &[u32], found: &mut [u32; 2]) -> u32
-    ensures { BadWordDemands (came styles) found.old (check_returned result found) }
+    ensures { BadWordDemands styles.now found.old (check_returned result found.new) }
 {
     oof_c::oof_first_bad_word(styles, found)
 }

@@ -4,7 +4,7 @@ ghost use Rattle.std.specs.Prelude.{◌≡◌, ◌||◌, ◌+◌, ◌*◌, ◌�
 ghost use Rattle.records.specs.Records.{record_at};
 ghost use Rattle.tree_record.specs.Candidate.{candidate_width, candidate_of};
 ghost use Rattle.tree_record.specs.Layout.{layout_width};
-ghost use Rattle.run.specs.Call.{at_entry};
+ghost use Rattle.run.specs.Call.{lent};
 ghost use Rattle.run.specs.Refusals.{above_lists};
 ghost use Rattle.run.specs.Run.{layout_at};
 ghost use Rattle.placer_check.specs.Verdict.{verdict_of};
@@ -58,7 +58,7 @@ pub fn check_finished(
     working: &[u32],
     unclaimed: &[u32],
 ) -> Verdict
-    ensures { verdict_of result ≡ finished_verdict s (at_entry styles layouts working unclaimed) other }
+    ensures { verdict_of result ≡ finished_verdict s (lent styles.now layouts.now working.now unclaimed.now) other }
 {
     let extents = s.opened.extents;
     let filled = s.counts.filled.working;

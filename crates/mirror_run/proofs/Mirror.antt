@@ -113,7 +113,7 @@ module _ (f : Frame) (q : QuarterFrame f) where
 
   -- ---- any list of them
 
-  pub all_replies : {o o' : Outcome} (ms later : List Message) → Linked f o o' → AllFair f.styles o (ms ++ later)
+  pub all_replies : (ms later : List Message) {o o' : Outcome} → Linked f o o' → AllFair f.styles o (ms ++ later)
       → Linked f (foldl (run_next f.styles) o ms) (foldl (image_next (image_styles f.styles)) o' ms)
   all_replies [] later h fair = h
   all_replies (m ∷ ms) later h fair = all_replies ms later (one_reply m h fair.0) fair.1

@@ -11,7 +11,7 @@ use Rattle.util.proofs.Floats.{no}
 use Rattle.refusal.specs.declared.Refusal.{Refusal}
 use Rattle.refusal.specs.declared.Refusal.TheVariants.{BadArea, BadExtent, BadStyle, BadCandidate, ListFull, WrongReply}
 use Rattle.style.specs.declared.ContainingBlockClaims.{ContainingBlockClaims}
-use Rattle.records.specs.Records.{room, good_records}
+use Rattle.records.specs.Records.{good_records}
 use Rattle.records.proofs.Laws.{room_words}
 use Rattle.tree_record.specs.Candidate.{candidate_width, candidate_kinds}
 use Rattle.tree_record.specs.Layout.{layout_width}

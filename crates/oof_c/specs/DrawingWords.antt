@@ -1,7 +1,7 @@
 -- What `oof_drawing_order` leaves, of a state's words. Assumes nothing.
 use Rattle.std.specs.Prelude.{ℕ, List}
 use Rattle.refusal.specs.Refusal.{number_of}
-use Rattle.run.specs.Call.{Slice, Lent}
+use Rattle.run.specs.Call.{Lent}
 use Rattle.run.specs.Refusals.{Verdict, accepted, refused}
 use Rattle.drawing.specs.Drawing.{Drawn, drawn}
 use Rattle.oof_c_words.specs.StateWords.{state_of}
@@ -22,7 +22,6 @@ drawn_told left = record { result = verdict_number left.verdict; order = left.or
 unfoldable pub drawing_in_words : Lent → List ℕ → List ℕ → DrawingReturned
 drawing_in_words lent state before = drawn_told (drawn (state_of state) lent before)
 
--- ---- the same of the entry's parameters, as a contract has them
-
-abbrev pub drawing_returned : ℕ → Slice ℕ → DrawingReturned
-drawing_returned result order = record { result = result; order = order.exit.now }
+-- what the entry returns, and the order's words
+abbrev pub drawing_returned : ℕ → List ℕ → DrawingReturned
+drawing_returned result order = record { result = result; order = order }

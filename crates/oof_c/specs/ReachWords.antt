@@ -1,6 +1,6 @@
 -- What `oof_reach` leaves, of a state's words. Assumes nothing.
 use Rattle.std.specs.Prelude.{ℕ, List}
-use Rattle.run.specs.Call.{Slice, Lent}
+use Rattle.run.specs.Call.{Lent}
 use Rattle.reach.specs.Reach.{reached}
 use Rattle.reach.specs.Told.{ReachReturned, verdict_told}
 use Rattle.oof_c_words.specs.StateWords.{state_of}
@@ -9,7 +9,6 @@ use Rattle.oof_c_words.specs.StateWords.{state_of}
 unfoldable pub reach_in_words : ℕ → Lent → List ℕ → List ℕ → ReachReturned
 reach_in_words place lent state before = verdict_told (reached place (state_of state) lent) before
 
--- ---- the same of the entry's parameters, as a contract has them
-
-abbrev pub reach_returned : ℕ → Slice ℕ → ReachReturned
-reach_returned result verdict = record { result = result; verdict = verdict.exit.now }
+-- what the entry returns, and the verdict's words
+abbrev pub reach_returned : ℕ → List ℕ → ReachReturned
+reach_returned result verdict = record { result = result; verdict = verdict }

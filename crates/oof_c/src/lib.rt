@@ -3,9 +3,9 @@
 // state, answer, a layout, edges, a verdict and a found word's place pass as a pointer each. `oof_c_c` exports them, and hosts/c/oof.h
 // declares them for C.
 ghost use Rattle.std.specs.Prelude.{◌≡◌, []};
-ghost use Rattle.oof_c_words.specs.Entry.{came, before, returned, opening_of, opened_in_words, replied_in_words};
+ghost use Rattle.oof_c_words.specs.Entry.{returned, opening_of, opened_in_words, replied_in_words, words};
 ghost use Rattle.oof_c_words.specs.PixelWords.{pixels_returned, pixels_in_words};
-ghost use Rattle.run.specs.Call.{at_entry};
+ghost use Rattle.run.specs.Call.{lent};
 ghost use Rattle.placer_check.specs.Verdict.{verdict_of};
 ghost use Rattle.oof_c.specs.ReachWords.{reach_returned, reach_in_words};
 ghost use Rattle.oof_c.specs.DrawingWords.{verdict_number, drawing_returned, drawing_in_words};
@@ -41,7 +41,7 @@ pub fn oof_open(
     state: &mut [u32; STATE_WORDS],
     answer: &mut [u32; ANSWER_WORDS],
 ) -> u32
-    ensures { returned result layouts working unclaimed state answer ≡ opened_in_words (opening_of width height x y direction claims overflow_x overflow_y) (came candidates) (came styles) (before layouts working unclaimed state answer) }
+    ensures { returned result layouts.new working.new unclaimed.new state.new answer.new ≡ opened_in_words (opening_of width height x y direction claims overflow_x overflow_y) candidates.now styles.now (words layouts.old working.old unclaimed.old state.old answer.old) }
 {
     let area = OofPositioningArea {
         size: Size { width, height },
@@ -73,7 +73,7 @@ fn respond(
     state: &mut [u32; STATE_WORDS],
     answer: &mut [u32; ANSWER_WORDS],
 ) -> u32
-    ensures { returned result layouts working unclaimed state answer ≡ replied_in_words reply (came surfaced) (came styles) (before layouts working unclaimed state answer) }
+    ensures { returned result layouts.new working.new unclaimed.new state.new answer.new ≡ replied_in_words reply surfaced.now styles.now (words layouts.old working.old unclaimed.old state.old answer.old) }
 {
     let s = oof_c_words::state::state_of(&*state);
     let step = placer::reply(s, reply, surfaced, styles, layouts, working, unclaimed);
@@ -93,7 +93,7 @@ pub fn oof_reply_both(
     state: &mut [u32; STATE_WORDS],
     answer: &mut [u32; ANSWER_WORDS],
 ) -> u32
-    ensures { returned result layouts working unclaimed state answer ≡ replied_in_words (Reply.Both (record { width = width; height = height })) [] (came styles) (before layouts working unclaimed state answer) }
+    ensures { returned result layouts.new working.new unclaimed.new state.new answer.new ≡ replied_in_words (Reply.Both (record { width = width; height = height })) [] styles.now (words layouts.old working.old unclaimed.old state.old answer.old) }
 {
     let reply = Reply::Both(Size { width, height });
     let none: [u32; 0] = [];
@@ -112,7 +112,7 @@ pub fn oof_reply_width(
     state: &mut [u32; STATE_WORDS],
     answer: &mut [u32; ANSWER_WORDS],
 ) -> u32
-    ensures { returned result layouts working unclaimed state answer ≡ replied_in_words (Reply.Width width) [] (came styles) (before layouts working unclaimed state answer) }
+    ensures { returned result layouts.new working.new unclaimed.new state.new answer.new ≡ replied_in_words (Reply.Width width) [] styles.now (words layouts.old working.old unclaimed.old state.old answer.old) }
 {
     let none: [u32; 0] = [];
     respond(
@@ -137,7 +137,7 @@ pub fn oof_reply_height(
     state: &mut [u32; STATE_WORDS],
     answer: &mut [u32; ANSWER_WORDS],
 ) -> u32
-    ensures { returned result layouts working unclaimed state answer ≡ replied_in_words (Reply.Height height) [] (came styles) (before layouts working unclaimed state answer) }
+    ensures { returned result layouts.new working.new unclaimed.new state.new answer.new ≡ replied_in_words (Reply.Height height) [] styles.now (words layouts.old working.old unclaimed.old state.old answer.old) }
 {
     let none: [u32; 0] = [];
     respond(
@@ -166,7 +166,7 @@ pub fn oof_reply_laid_out(
     state: &mut [u32; STATE_WORDS],
     answer: &mut [u32; ANSWER_WORDS],
 ) -> u32
-    ensures { returned result layouts working unclaimed state answer ≡ replied_in_words (Reply.LaidOut (record { left = left; right = right; top = top; bottom = bottom })) (came surfaced) (came styles) (before layouts working unclaimed state answer) }
+    ensures { returned result layouts.new working.new unclaimed.new state.new answer.new ≡ replied_in_words (Reply.LaidOut (record { left = left; right = right; top = top; bottom = bottom })) surfaced.now styles.now (words layouts.old working.old unclaimed.old state.old answer.old) }
 {
     let overflow = Rect {
         left,
@@ -193,7 +193,7 @@ pub fn oof_pixels(
     y: f32,
     edges: &mut [i32; EDGES],
 ) -> u32
-    ensures { pixels_returned result edges ≡ pixels_in_words (came layout) (record { x = x; y = y }) edges.old }
+    ensures { pixels_returned result edges.new ≡ pixels_in_words layout.now (record { x = x; y = y }) edges.old }
 {
     let l = tree_record::layout::layout_at(layout, 0);
     let p = pixels::pixel_edges(l, Point { x, y });
@@ -210,7 +210,7 @@ pub fn oof_reach(
     state: &[u32; STATE_WORDS],
     verdict: &mut [u32; VERDICT],
 ) -> u32
-    ensures { reach_returned result verdict ≡ reach_in_words place (at_entry styles layouts working unclaimed) (came state) verdict.old }
+    ensures { reach_returned result verdict.new ≡ reach_in_words place (lent styles.now layouts.now working.now unclaimed.now) state.now verdict.old }
 {
     let s = oof_c_words::state::state_of(state);
     let reached = reach::reach(place, s, styles, layouts, working, unclaimed);
@@ -236,7 +236,7 @@ pub fn oof_drawing_order(
     state: &[u32; STATE_WORDS],
     order: &mut [u32],
 ) -> u32
-    ensures { drawing_returned result order ≡ drawing_in_words (at_entry styles layouts working unclaimed) (came state) order.old }
+    ensures { drawing_returned result order.new ≡ drawing_in_words (lent styles.now layouts.now working.now unclaimed.now) state.now order.old }
 {
     let s = oof_c_words::state::state_of(state);
     let verdict = drawing::drawing_order(s, styles, layouts, working, unclaimed, order);
@@ -245,7 +245,7 @@ pub fn oof_drawing_order(
 
 // The first word of a table of styles that breaks a code rule.
 pub fn oof_first_bad_word(styles: &[u32], found: &mut [u32; FOUND]) -> u32
-    ensures { check_returned result found ≡ check_in_words (came styles) found.old }
+    ensures { check_returned result found.new ≡ check_in_words styles.now found.old }
 {
     let check = style_record::check::check_styles(styles);
     oof_c_words::check::tell(check, found)

@@ -3,9 +3,9 @@
 // pointer each.
 #![tactic(auto)]
 ghost use Rattle.std.specs.Prelude.{◌≡◌, []};
-ghost use Rattle.oof_c_words.specs.Entry.{came, before, returned, opening_of, opened_in_words, replied_in_words};
+ghost use Rattle.oof_c_words.specs.Entry.{returned, opening_of, opened_in_words, replied_in_words, words};
 ghost use Rattle.oof_c_words.specs.PixelWords.{pixels_returned, pixels_in_words};
-ghost use Rattle.run.specs.Call.{at_entry};
+ghost use Rattle.run.specs.Call.{lent};
 ghost use Rattle.oof_c.specs.ReachWords.{reach_returned, reach_in_words};
 ghost use Rattle.oof_c.specs.DrawingWords.{drawing_returned, drawing_in_words};
 ghost use Rattle.oof_c_words.specs.CheckWords.{check_returned, check_in_words};
@@ -37,7 +37,7 @@ pub extern "C" fn oof_open(
     state: &mut [u32; STATE_WORDS],
     answer: &mut [u32; ANSWER_WORDS],
 ) -> u32
-    ensures { returned result layouts working unclaimed state answer ≡ opened_in_words (opening_of width height x y direction claims overflow_x overflow_y) (came candidates) (came styles) (before layouts working unclaimed state answer) }
+    ensures { returned result layouts.new working.new unclaimed.new state.new answer.new ≡ opened_in_words (opening_of width height x y direction claims overflow_x overflow_y) candidates.now styles.now (words layouts.old working.old unclaimed.old state.old answer.old) }
 {
     oof_c::oof_open(width, height, x, y, direction, claims, overflow_x, overflow_y, styles, candidates, layouts, working, unclaimed, state, answer)
 }
@@ -54,7 +54,7 @@ pub extern "C" fn oof_reply_both(
     state: &mut [u32; STATE_WORDS],
     answer: &mut [u32; ANSWER_WORDS],
 ) -> u32
-    ensures { returned result layouts working unclaimed state answer ≡ replied_in_words (Reply.Both (record { width = width; height = height })) [] (came styles) (before layouts working unclaimed state answer) }
+    ensures { returned result layouts.new working.new unclaimed.new state.new answer.new ≡ replied_in_words (Reply.Both (record { width = width; height = height })) [] styles.now (words layouts.old working.old unclaimed.old state.old answer.old) }
 {
     oof_c::oof_reply_both(width, height, styles, layouts, working, unclaimed, state, answer)
 }
@@ -70,7 +70,7 @@ pub extern "C" fn oof_reply_width(
     state: &mut [u32; STATE_WORDS],
     answer: &mut [u32; ANSWER_WORDS],
 ) -> u32
-    ensures { returned result layouts working unclaimed state answer ≡ replied_in_words (Reply.Width width) [] (came styles) (before layouts working unclaimed state answer) }
+    ensures { returned result layouts.new working.new unclaimed.new state.new answer.new ≡ replied_in_words (Reply.Width width) [] styles.now (words layouts.old working.old unclaimed.old state.old answer.old) }
 {
     oof_c::oof_reply_width(width, styles, layouts, working, unclaimed, state, answer)
 }
@@ -86,7 +86,7 @@ pub extern "C" fn oof_reply_height(
     state: &mut [u32; STATE_WORDS],
     answer: &mut [u32; ANSWER_WORDS],
 ) -> u32
-    ensures { returned result layouts working unclaimed state answer ≡ replied_in_words (Reply.Height height) [] (came styles) (before layouts working unclaimed state answer) }
+    ensures { returned result layouts.new working.new unclaimed.new state.new answer.new ≡ replied_in_words (Reply.Height height) [] styles.now (words layouts.old working.old unclaimed.old state.old answer.old) }
 {
     oof_c::oof_reply_height(height, styles, layouts, working, unclaimed, state, answer)
 }
@@ -106,7 +106,7 @@ pub extern "C" fn oof_reply_laid_out(
     state: &mut [u32; STATE_WORDS],
     answer: &mut [u32; ANSWER_WORDS],
 ) -> u32
-    ensures { returned result layouts working unclaimed state answer ≡ replied_in_words (Reply.LaidOut (record { left = left; right = right; top = top; bottom = bottom })) (came surfaced) (came styles) (before layouts working unclaimed state answer) }
+    ensures { returned result layouts.new working.new unclaimed.new state.new answer.new ≡ replied_in_words (Reply.LaidOut (record { left = left; right = right; top = top; bottom = bottom })) surfaced.now styles.now (words layouts.old working.old unclaimed.old state.old answer.old) }
 {
     oof_c::oof_reply_laid_out(left, right, top, bottom, surfaced, styles, layouts, working, unclaimed, state, answer)
 }
@@ -119,7 +119,7 @@ pub extern "C" fn oof_pixels(
     y: f32,
     edges: &mut [i32; EDGES],
 ) -> u32
-    ensures { pixels_returned result edges ≡ pixels_in_words (came layout) (record { x = x; y = y }) edges.old }
+    ensures { pixels_returned result edges.new ≡ pixels_in_words layout.now (record { x = x; y = y }) edges.old }
 {
     oof_c::oof_pixels(layout, x, y, edges)
 }
@@ -135,7 +135,7 @@ pub extern "C" fn oof_reach(
     state: &[u32; STATE_WORDS],
     verdict: &mut [u32; VERDICT],
 ) -> u32
-    ensures { reach_returned result verdict ≡ reach_in_words place (at_entry styles layouts working unclaimed) (came state) verdict.old }
+    ensures { reach_returned result verdict.new ≡ reach_in_words place (lent styles.now layouts.now working.now unclaimed.now) state.now verdict.old }
 {
     oof_c::oof_reach(place, styles, layouts, working, unclaimed, state, verdict)
 }
@@ -150,7 +150,7 @@ pub extern "C" fn oof_drawing_order(
     state: &[u32; STATE_WORDS],
     order: &mut [u32],
 ) -> u32
-    ensures { drawing_returned result order ≡ drawing_in_words (at_entry styles layouts working unclaimed) (came state) order.old }
+    ensures { drawing_returned result order.new ≡ drawing_in_words (lent styles.now layouts.now working.now unclaimed.now) state.now order.old }
 {
     oof_c::oof_drawing_order(styles, layouts, working, unclaimed, state, order)
 }
@@ -158,7 +158,7 @@ pub extern "C" fn oof_drawing_order(
 // The first word of a table of styles that breaks a code rule.
 #[unsafe(no_mangle)]
 pub extern "C" fn oof_first_bad_word(styles: &[u32], found: &mut [u32; FOUND]) -> u32
-    ensures { check_returned result found ≡ check_in_words (came styles) found.old }
+    ensures { check_returned result found.new ≡ check_in_words styles.now found.old }
 {
     oof_c::oof_first_bad_word(styles, found)
 }

@@ -1,6 +1,5 @@
 -- The law of `specs/Laws.antt` on pixel edges. Assumes nothing.
-use mathlib.Core.Path.{◌≡◌, refl, ap}
-use Rattle.records.specs.Records.{float_at}
+use mathlib.Core.Path.{refl, ap}
 use Rattle.tree_record.specs.Layout.{layout_of}
 use Rattle.pixels.specs.declared.Pixels.{Pixels}
 use Rattle.pixels.proofs.Edges.{only_six_are_read}

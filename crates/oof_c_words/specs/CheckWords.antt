@@ -4,7 +4,6 @@ use Rattle.std.specs.Prelude.{ℕ, List, [], ◌∷◌}
 use Rattle.style_record.specs.Check.{checked}
 use Rattle.style_record.specs.declared.check.TableCheck.{TableCheck}
 use Rattle.style_record.specs.declared.check.TableCheck.TheVariants.{Good, Bad}
-use Rattle.run.specs.Call.{Slice}
 use Rattle.oof_c_words.specs.StateWords.{count_word}
 
 -- 1 if there is such a word, or 0, and the two words
@@ -21,7 +20,6 @@ check_told (Bad i k) before = record { result = 1; found = count_word i ∷ coun
 unfoldable pub check_in_words : List ℕ → List ℕ → CheckReturned
 check_in_words styles before = check_told (checked styles) before
 
--- ---- the same of the entry's parameters, as a contract has them
-
-abbrev pub check_returned : ℕ → Slice ℕ → CheckReturned
-check_returned result found = record { result = result; found = found.exit.now }
+-- what the entry returns, and the two words
+abbrev pub check_returned : ℕ → List ℕ → CheckReturned
+check_returned result found = record { result = result; found = found }

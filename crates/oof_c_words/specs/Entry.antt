@@ -2,7 +2,7 @@
 use Rattle.std.specs.Prelude.{ℕ, cond, List, Float}
 use Rattle.refusal.specs.Refusal.{number_of}
 use Rattle.oof_box.specs.declared.question.Reply.{Reply}
-use Rattle.run.specs.Call.{Slice, Lent, Outcome}
+use Rattle.run.specs.Call.{Lent, Outcome}
 use Rattle.run.specs.Run.{opened, replied}
 use Rattle.run.specs.Theorems.{is_refused}
 use Rattle.run.specs.declared.Opening.{Opening}
@@ -74,20 +74,11 @@ replied_in_words reply surfaced styles before =
     let left = replied (state_of before.state) reply surfaced (lent_in styles before) in
     in_words left (state_left left.step before.state) before.answer
 
--- ---- the same of an entry's parameters, as a contract has them: a slice, the state or the answer, at entry and at exit
+-- ---- as a contract has them: what an entry returns, and the words of the slices that it may write
 
-abbrev pub came : Slice ℕ → List ℕ
-came slice = slice.entry.now
-
-abbrev pub before : Slice ℕ → Slice ℕ → Slice ℕ → Slice ℕ → Slice ℕ → Words
-before layouts working unclaimed state answer = words (came layouts) (came working) (came unclaimed) (came state) (came answer)
-
-abbrev pub returned : ℕ → Slice ℕ → Slice ℕ → Slice ℕ → Slice ℕ → Slice ℕ → Returned
+abbrev pub returned : ℕ → List ℕ → List ℕ → List ℕ → List ℕ → List ℕ → Returned
 returned result layouts working unclaimed state answer =
-    record {
-      result = result;
-      words = words layouts.exit.now working.exit.now unclaimed.exit.now state.exit.now answer.exit.now;
-    }
+    record { result = result; words = words layouts working unclaimed state answer }
 
 -- an area's width, height, x and y, then the codes of an opening
 abbrev pub opening_of : Float → Float → Float → Float → ℕ → ℕ → ℕ → ℕ → Opening

@@ -1,6 +1,7 @@
 // What a C call is lent and leaves, apart from the run itself: the words of a state and of an answer, what a call writes of both, and the
 // two words of what a check finds.
 #![tactic(auto)]
+
 ghost use Rattle.std.specs.Prelude.{◌≡◌};
 ghost use Rattle.run.specs.Theorems.{is_refused};
 ghost use Rattle.oof_c_words.specs.Entry.{result_of, answer_left, state_left, told};

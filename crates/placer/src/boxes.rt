@@ -3,7 +3,7 @@ ghost use Rattle.std.specs.Prelude.{◌≡◌, ◌+◌, ◌*◌, ◌-◌, ◌≤
 ghost use Rattle.tree_record.specs.Candidate.{candidate_width};
 ghost use Rattle.style_record.specs.Record.{style_words};
 ghost use Rattle.style_record.specs.Decode.{style_at};
-ghost use Rattle.run.specs.Call.{lent, at_entry, at_exit};
+ghost use Rattle.run.specs.Call.{lent, outcome};
 ghost use Rattle.run.specs.Refusals.{list_full};
 ghost use Rattle.run.specs.Run.{box_at_hand, asking, finishing, proceeding, replied_by};
 ghost use Rattle.placer_check.specs.Verdict.{then_room};
@@ -149,7 +149,7 @@ pub fn settle(
     unclaimed: &mut [u32],
 ) -> Step
     requires { ReplyCleared s (Reply.LaidOut overflow) surfaced.now (lent styles.now layouts.old working.old unclaimed.old) }
-    ensures { at_exit result layouts working unclaimed ≡ replied_by (then_room Verdict.Accepted (list_full s.opened.claims (at_entry styles layouts working unclaimed) s.counts.filled surfaced.now)) (Taken.Laid overflow) s surfaced.now (at_entry styles layouts working unclaimed) }
+    ensures { outcome result layouts.new working.new unclaimed.new ≡ replied_by (then_room Verdict.Accepted (list_full s.opened.claims (lent styles.now layouts.old working.old unclaimed.old) s.counts.filled surfaced.now)) (Taken.Laid overflow) s surfaced.now (lent styles.now layouts.old working.old unclaimed.old) }
 {
     let run = s.opened;
     let claims = run.claims;

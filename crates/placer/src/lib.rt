@@ -2,7 +2,7 @@
 // after another until the run finishes.
 #![tactic(auto)]
 ghost use Rattle.std.specs.Prelude.{◌≡◌};
-ghost use Rattle.run.specs.Call.{lent, at_entry, at_exit};
+ghost use Rattle.run.specs.Call.{lent, outcome};
 ghost use Rattle.run.specs.Refusals.{list_full};
 ghost use Rattle.run.specs.Run.{claims_of, container_of, extents_of, none_filled, closed, opened_by, opened, replied};
 ghost use Rattle.placer_check.specs.Verdict.{then_room};
@@ -47,7 +47,7 @@ fn claims_of(o: Opening) -> ContainingBlockClaims
 }
 
 fn extents_of(styles: &[u32], layouts: &[u32], working: &[u32], unclaimed: &[u32]) -> Extents
-    ensures { result ≡ extents_of (at_entry styles layouts working unclaimed) }
+    ensures { result ≡ extents_of (lent styles.now layouts.now working.now unclaimed.now) }
 {
     Extents {
         styles: styles.len(),
@@ -79,7 +79,7 @@ const NO_CLAIMS: ContainingBlockClaims = ContainingBlockClaims {
 
 // The state of a finished run with all counts 0, and the lengths as lent.
 fn closed(styles: &[u32], layouts: &[u32], working: &[u32], unclaimed: &[u32]) -> State
-    ensures { result ≡ closed (at_entry styles layouts working unclaimed) }
+    ensures { result ≡ closed (lent styles.now layouts.now working.now unclaimed.now) }
 {
     let container = ContainingBlock {
         area: NO_AREA,
@@ -115,7 +115,7 @@ fn begin(
     unclaimed: &mut [u32],
 ) -> Step
     requires { OpeningCleared o candidates.now (lent styles.now layouts.now working.old unclaimed.old) }
-    ensures { at_exit result layouts working unclaimed ≡ opened_by (then_room Verdict.Accepted (list_full (claims_of o) (at_entry styles layouts working unclaimed) none_filled candidates.now)) o candidates.now (at_entry styles layouts working unclaimed) }
+    ensures { outcome result layouts.now working.new unclaimed.new ≡ opened_by (then_room Verdict.Accepted (list_full (claims_of o) (lent styles.now layouts.now working.old unclaimed.old) none_filled candidates.now)) o candidates.now (lent styles.now layouts.now working.old unclaimed.old) }
 {
     let none = closed(styles, layouts, &working[..], &unclaimed[..]);
     let extents = none.opened.extents;
@@ -154,7 +154,7 @@ pub fn open(
     working: &mut [u32],
     unclaimed: &mut [u32],
 ) -> Step
-    ensures { at_exit result layouts working unclaimed ≡ opened o candidates.now (at_entry styles layouts working unclaimed) }
+    ensures { outcome result layouts.new working.new unclaimed.new ≡ opened o candidates.now (lent styles.now layouts.old working.old unclaimed.old) }
 {
     match opening::check_opening(
         o,
@@ -184,7 +184,7 @@ pub fn reply(
     working: &mut [u32],
     unclaimed: &mut [u32],
 ) -> Step
-    ensures { at_exit result layouts working unclaimed ≡ replied s reply surfaced.now (at_entry styles layouts working unclaimed) }
+    ensures { outcome result layouts.new working.new unclaimed.new ≡ replied s reply surfaced.now (lent styles.now layouts.old working.old unclaimed.old) }
 {
     match answer::check_reply(
         s,

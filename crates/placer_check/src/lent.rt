@@ -2,7 +2,7 @@
 ghost use Rattle.std.specs.Prelude.{◌≡◌};
 ghost use Rattle.tree_record.specs.Candidate.{candidate_width};
 ghost use Rattle.run.specs.Refusals.{ragged, bad_table, bad_list, bad_slices, other_lengths, bad_lent, bad_style, bad_candidate};
-ghost use Rattle.run.specs.Call.{at_entry};
+ghost use Rattle.run.specs.Call.{lent};
 
 use run::Extents;
 use style_record::check;
@@ -50,7 +50,7 @@ fn is_list_bad(list: &[u32]) -> bool
 }
 
 pub fn are_slices_bad(styles: &[u32], layouts: &[u32], working: &[u32], unclaimed: &[u32]) -> bool
-    ensures { result ≡ bad_slices (at_entry styles layouts working unclaimed) }
+    ensures { result ≡ bad_slices (lent styles.now layouts.now working.now unclaimed.now) }
 {
     if is_table_bad(styles, layouts) {
         return true;
@@ -69,7 +69,7 @@ fn are_lengths_other(
     working: &[u32],
     unclaimed: &[u32],
 ) -> bool
-    ensures { result ≡ other_lengths e (at_entry styles layouts working unclaimed) }
+    ensures { result ≡ other_lengths e (lent styles.now layouts.now working.now unclaimed.now) }
 {
     if styles.len() != e.styles {
         return true;
@@ -91,7 +91,7 @@ pub fn is_lent_bad(
     working: &[u32],
     unclaimed: &[u32],
 ) -> bool
-    ensures { result ≡ bad_lent e (at_entry styles layouts working unclaimed) }
+    ensures { result ≡ bad_lent e (lent styles.now layouts.now working.now unclaimed.now) }
 {
     if are_slices_bad(styles, layouts, working, unclaimed) {
         return true;

@@ -2,7 +2,7 @@
 ghost use Rattle.std.specs.Prelude.{◌≡◌};
 ghost use Rattle.run.specs.Refusals.{bad_area, list_full};
 ghost use Rattle.run.specs.Run.{claims_of, none_filled, opening_verdict};
-ghost use Rattle.run.specs.Call.{lent, at_entry};
+ghost use Rattle.run.specs.Call.{lent};
 ghost use Rattle.placer_check.specs.Verdict.{then_room};
 
 use crate::{Verdict, lent};
@@ -35,7 +35,7 @@ pub fn check_opening(
     working: &[u32],
     unclaimed: &[u32],
 ) -> Verdict
-    ensures { opening_verdict o candidates.now (at_entry styles layouts working unclaimed) ≡ then_room result (list_full (claims_of o) (at_entry styles layouts working unclaimed) none_filled candidates.now) }
+    ensures { opening_verdict o candidates.now (lent styles.now layouts.now working.now unclaimed.now) ≡ then_room result (list_full (claims_of o) (lent styles.now layouts.now working.now unclaimed.now) none_filled candidates.now) }
 {
     if is_area_bad(o) {
         return Verdict::Refused(Refusal::BadArea);

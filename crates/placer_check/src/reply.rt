@@ -3,7 +3,7 @@ ghost use Rattle.std.specs.Prelude.{◌≡◌, ◌||◌, [], length};
 ghost use Rattle.tree_record.specs.Candidate.{candidate_width};
 ghost use Rattle.run.specs.Refusals.{ragged, bad_lent, lent_by, bad_candidate, bad_candidates, list_full, wrong_counts};
 ghost use Rattle.run.specs.Run.{taken_by, is_wrong, reply_verdict};
-ghost use Rattle.run.specs.Call.{lent, at_entry};
+ghost use Rattle.run.specs.Call.{lent};
 ghost use Rattle.placer_check.specs.Verdict.{then_room};
 
 use crate::{Verdict, lent};
@@ -36,7 +36,7 @@ fn are_extents_bad(
     working: &[u32],
     unclaimed: &[u32],
 ) -> bool
-    ensures { result ≡ (bad_lent e (at_entry styles layouts working unclaimed) || ragged candidate_width (lent_by reply surfaced.now)) }
+    ensures { result ≡ (bad_lent e (lent styles.now layouts.now working.now unclaimed.now) || ragged candidate_width (lent_by reply surfaced.now)) }
 {
     if lent::is_lent_bad(e, styles, layouts, working, unclaimed) {
         return true;
@@ -134,7 +134,7 @@ pub fn check_reply(
     working: &[u32],
     unclaimed: &[u32],
 ) -> Verdict
-    ensures { reply_verdict s reply surfaced.now (at_entry styles layouts working unclaimed) ≡ then_room result (list_full s.opened.claims (at_entry styles layouts working unclaimed) s.counts.filled (lent_by reply surfaced.now)) }
+    ensures { reply_verdict s reply surfaced.now (lent styles.now layouts.now working.now unclaimed.now) ≡ then_room result (list_full s.opened.claims (lent styles.now layouts.now working.now unclaimed.now) s.counts.filled (lent_by reply surfaced.now)) }
 {
     let extents = s.opened.extents;
     if are_extents_bad(

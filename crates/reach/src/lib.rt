@@ -1,7 +1,7 @@
 // Whether scrolling brings a box up: seen, with the least offsets at which it is, or unseen.
 ghost use Rattle.std.specs.Prelude.{◌≡◌, ◌≤◌, nat_abs};
 ghost use Rattle.pixels.specs.Pixels.{all_accepted};
-ghost use Rattle.run.specs.Call.{at_entry};
+ghost use Rattle.run.specs.Call.{lent};
 ghost use Rattle.reach.specs.Reach.{or_zero, last_offset, from_start, axis_of, least, numbers_of, pair_of, box_reached, reached};
 
 use geometry::Rect;
@@ -188,7 +188,7 @@ pub fn reach(
     working: &[u32],
     unclaimed: &[u32],
 ) -> Reached
-    ensures { result ≡ reached place s (at_entry styles layouts working unclaimed) }
+    ensures { result ≡ reached place s (lent styles.now layouts.now working.now unclaimed.now) }
 {
     let container = s.opened.container;
     let overflow = s.overflow;

@@ -1,12 +1,6 @@
 -- What a call is lent, and what it leaves (document 01, "The dialogue"). Assumes nothing.
 use Rattle.std.specs.Prelude.{ℕ, List}
-use Rattle.std.specs.Borrow.{Bor}
-use denote.Triple.Both.{Both}
 use Rattle.run.specs.declared.Step.{Step}
-
--- a slice of words of type A
-abbrev pub Slice : Type 0 → Type 0
-Slice A = Both (Bor (List A)) (Bor (List A))
 
 -- the slices that every call is lent, by their words
 pub record Lent : Type 0 where
@@ -32,13 +26,3 @@ lent styles layouts working unclaimed = record { styles = styles; layouts = layo
 
 abbrev pub outcome : Step → List ℕ → List ℕ → List ℕ → Outcome
 outcome step layouts working unclaimed = record { step = step; layouts = layouts; working = working; unclaimed = unclaimed }
-
--- ---- As a contract names them: a slice is a pair, as it is at the call and as it is after it.
-
--- the slices that the call was lent
-abbrev pub at_entry : Slice ℕ → Slice ℕ → Slice ℕ → Slice ℕ → Lent
-at_entry styles layouts working unclaimed = lent styles.entry.now layouts.entry.now working.entry.now unclaimed.entry.now
-
--- what the call left: what it returned, and the words of the slices that it may write
-abbrev pub at_exit : Step → Slice ℕ → Slice ℕ → Slice ℕ → Outcome
-at_exit r layouts working unclaimed = outcome r layouts.exit.now working.exit.now unclaimed.exit.now

@@ -1,7 +1,7 @@
 // A run played out with scripted replies: for each item the host's replies stand written down beforehand, and no box surfaces
 // any (document 01, "Program boxlist": measured width and height, then overflow left, right, top, bottom).
 ghost use Rattle.std.specs.Prelude.{◌≡◌};
-ghost use Rattle.run.specs.Call.{outcome, at_entry, at_exit};
+ghost use Rattle.run.specs.Call.{outcome, lent};
 ghost use Rattle.script.specs.Script.{scripted, scripted_size, scripted_overflow, scripted_reply, played_on, played_out};
 
 use geometry::{Rect, Size};
@@ -72,7 +72,7 @@ fn play_on(
     working: &mut [u32],
     unclaimed: &mut [u32],
 ) -> Step
-    ensures { at_exit result layouts working unclaimed ≡ played_on replies.now styles.now (outcome step layouts.old working.old unclaimed.old) }
+    ensures { outcome result layouts.new working.new unclaimed.new ≡ played_on replies.now styles.now (outcome step layouts.old working.old unclaimed.old) }
 {
     let state = step.state;
     let answer = step.answer;
@@ -101,7 +101,7 @@ pub fn play_out(
     working: &mut [u32],
     unclaimed: &mut [u32],
 ) -> Step
-    ensures { at_exit result layouts working unclaimed ≡ played_out o replies.now candidates.now (at_entry styles layouts working unclaimed) }
+    ensures { outcome result layouts.new working.new unclaimed.new ≡ played_out o replies.now candidates.now (lent styles.now layouts.old working.old unclaimed.old) }
 {
     let mut step = placer::open(o, styles, candidates, layouts, working, unclaimed);
     let mut left = QUESTIONS * (candidates.len() / CANDIDATE_WORDS);

@@ -1,5 +1,4 @@
 use Rattle.oof_c_words.specs.Entry.{state_left}
-use borrow.Author.Rules.{rules}
 use Rattle.oof_c_words.proofs.keep.Goals as goal
 
 pub returns-then-is_refused : goal.returns-then-is_refused

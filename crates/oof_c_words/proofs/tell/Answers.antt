@@ -1,5 +1,4 @@
 use Rattle.oof_c_words.specs.Entry.{result_of, answer_left}
-use borrow.Author.Rules.{rules}
 use Rattle.oof_c_words.proofs.tell.Goals as goal
 
 pub returns-in-Refused : goal.returns-in-Refused

@@ -1,5 +1,4 @@
 use Rattle.oof_c_words.specs.AnswerWords.{finish_words}
-use borrow.Author.Rules.{rules}
 use Rattle.oof_c_words.proofs.answer.finish_words.Goals as goal
 
 pub returns : goal.returns

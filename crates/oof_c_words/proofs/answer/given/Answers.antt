@@ -1,5 +1,4 @@
 use Rattle.oof_c_words.specs.AnswerWords.{given}
-use borrow.Author.Rules.{rules}
 use Rattle.oof_c_words.proofs.answer.given.Goals as goal
 
 pub returns-in-None : goal.returns-in-None

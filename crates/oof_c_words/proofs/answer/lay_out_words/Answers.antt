@@ -1,7 +1,6 @@
 use Rattle.oof_c_words.specs.AnswerWords.{lay_out_words, given}
 use Rattle.geometry.specs.Geometry.{definite}
 use Rattle.util.specs.Maybe.{unwrap_or}
-use borrow.Author.Rules.{rules}
 use Rattle.oof_c_words.proofs.answer.lay_out_words.Goals as goal
 
 pub returns : goal.returns

@@ -1,5 +1,4 @@
 use Rattle.oof_c_words.specs.AnswerWords.{question_words}
-use borrow.Author.Rules.{rules}
 use Rattle.oof_c_words.proofs.answer.question_words.Goals as goal
 
 pub returns-in-MeasureBoth : goal.returns-in-MeasureBoth

@@ -1,5 +1,4 @@
 use Rattle.oof_c_words.specs.AnswerWords.{space_size}
-use borrow.Author.Rules.{rules}
 use Rattle.oof_c_words.proofs.answer.space_size.Goals as goal
 
 pub returns-in-Definite : goal.returns-in-Definite

@@ -1,5 +1,4 @@
 use Rattle.oof_c_words.specs.CheckWords.{check_told}
-use borrow.Author.Rules.{rules}
 use Rattle.oof_c_words.proofs.check.tell.Goals as goal
 
 pub returns-in-Good : goal.returns-in-Good

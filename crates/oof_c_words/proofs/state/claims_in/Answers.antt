@@ -1,4 +1,3 @@
-use borrow.Author.Rules.{rules}
 use Rattle.oof_c_words.proofs.state.claims_in.Goals as goal
 
 pub returns : goal.returns

@@ -1,5 +1,4 @@
 use Rattle.style.specs.Codes.{direction_code}
-use borrow.Author.Rules.{rules}
 use Rattle.oof_c_words.proofs.state.direction_code.Goals as goal
 
 pub returns-in-Ltr : goal.returns-in-Ltr

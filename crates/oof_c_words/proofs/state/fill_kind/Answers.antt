@@ -1,5 +1,4 @@
 use Rattle.oof_c_words.specs.StateWords.{fill_kind}
-use borrow.Author.Rules.{rules}
 use Rattle.oof_c_words.proofs.state.fill_kind.Goals as goal
 
 pub returns-in-None : goal.returns-in-None

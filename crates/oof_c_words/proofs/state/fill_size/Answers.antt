@@ -1,5 +1,4 @@
 use Rattle.oof_c_words.specs.StateWords.{fill_size}
-use borrow.Author.Rules.{rules}
 use Rattle.oof_c_words.proofs.state.fill_size.Goals as goal
 
 pub returns-in-None : goal.returns-in-None

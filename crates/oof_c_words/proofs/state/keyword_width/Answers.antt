@@ -1,5 +1,4 @@
 use Rattle.oof_c_words.specs.StateWords.{keyword_width}
-use borrow.Author.Rules.{rules}
 use Rattle.oof_c_words.proofs.state.keyword_width.Goals as goal
 
 pub returns-in-None : goal.returns-in-None

@@ -1,5 +1,4 @@
 use Rattle.oof_c_words.specs.StateWords.{opened_in}
-use borrow.Author.Rules.{rules}
 use Rattle.oof_c_words.proofs.state.opened_in.Goals as goal
 
 pub returns : goal.returns

@@ -1,5 +1,4 @@
 use Rattle.oof_c_words.specs.StateWords.{opening_codes}
-use borrow.Author.Rules.{rules}
 use Rattle.oof_c_words.proofs.state.opening_codes.Goals as goal
 
 pub returns : goal.returns

@@ -1,5 +1,4 @@
 use Rattle.style.specs.Codes.{overflow_code}
-use borrow.Author.Rules.{rules}
 use Rattle.oof_c_words.proofs.state.overflow_code.Goals as goal
 
 pub returns-in-Visible : goal.returns-in-Visible

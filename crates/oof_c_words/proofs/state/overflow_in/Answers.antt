@@ -1,6 +1,5 @@
 use Rattle.tree_record.specs.Layout.{rect_of}
 use Rattle.oof_c_words.specs.StateWords.{overflow_in}
-use borrow.Author.Rules.{rules}
 use Rattle.oof_c_words.proofs.state.overflow_in.Goals as goal
 
 pub returns : goal.returns

@@ -1,5 +1,4 @@
 use Rattle.oof_c_words.specs.StateWords.{progress_code}
-use borrow.Author.Rules.{rules}
 use Rattle.oof_c_words.proofs.state.progress_code.Goals as goal
 
 pub returns-in-Finished : goal.returns-in-Finished

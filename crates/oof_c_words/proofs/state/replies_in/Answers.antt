@@ -1,5 +1,4 @@
 use Rattle.oof_c_words.specs.StateWords.{replies_in}
-use borrow.Author.Rules.{rules}
 use Rattle.oof_c_words.proofs.state.replies_in.Goals as goal
 
 pub returns : goal.returns

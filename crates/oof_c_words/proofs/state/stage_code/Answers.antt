@@ -1,5 +1,4 @@
 use Rattle.oof_c_words.specs.StateWords.{stage_code}
-use borrow.Author.Rules.{rules}
 use Rattle.oof_c_words.proofs.state.stage_code.Goals as goal
 
 pub returns-in-KeywordBoth : goal.returns-in-KeywordBoth

@@ -1,5 +1,4 @@
 use Rattle.oof_c_words.specs.StateWords.{state_of}
-use borrow.Author.Rules.{rules}
 use Rattle.oof_c_words.proofs.state.state_of.Goals as goal
 
 pub returns : goal.returns

@@ -3,7 +3,6 @@ use mathlib.Core.Path.{ap, ◌∙◌}
 use lib.ListN.{get_or}
 use Rattle.geometry.specs.declared.Size.{Size}
 use Rattle.oof_c_words.specs.StateWords.{state_words, opening_codes, float_word}
-use borrow.Author.Rules.{rules}
 use Rattle.oof_c_words.proofs.state.state_words.Goals as goal
 
 pub returns : goal.returns

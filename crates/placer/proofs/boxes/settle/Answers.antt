@@ -49,12 +49,6 @@ returns-in-Refused c =
     no_room a.s a.overflow a.surfaced.now (lent a.styles.now a.layouts.now a.working.now a.unclaimed.now) _ _ _ _
     (rw (c.layout_oof_box-placed.ensures, c.style_of-style.ensures, c.box_at_hand-candidate.ensures, c.in-Refused.is) at c.sweep.ensures) c.refuse.ensures
 
-pub shape_of-working-in-Into : goal.shape_of-working-in-Into
-shape_of-working-in-Into c = c.sweep.auto.1.1.1.0
-
-pub shape_of-unclaimed-in-Into : goal.shape_of-unclaimed-in-Into
-shape_of-unclaimed-in-Into c = c.sweep.auto.1.1.1.1.0
-
 pub returns-in-Into : goal.returns-in-Into
 returns-in-Into c =
     let a = c.args in
