@@ -1,5 +1,7 @@
 // What every part that reads a finished run tests first, and how it finds a box's layout. Such a part is lent the slices of a reply, and
 // writes none of them.
+#![tactic(auto)]
+
 ghost use Rattle.std.specs.Prelude.{◌≡◌, ◌||◌, ◌+◌, ◌*◌, ◌≤◌, length};
 ghost use Rattle.records.specs.Records.{record_at};
 ghost use Rattle.tree_record.specs.Candidate.{candidate_width, candidate_of};

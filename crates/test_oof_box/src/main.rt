@@ -1,11 +1,14 @@
 // Replays on the code 2,000 boxes that the Rust laid out, read from standard input: every question, the layout and the finish
 // rectangle. Then document 01's rows 12 and 13, whose numbers it must write. tools/samples/boxes.py made the input and says how a
 // box stands in it.
+#![tactic(auto)]
+
 ghost use Rattle.std.specs.Prelude.{◌≡◌, length};
 ghost use Rattle.test_oof_box.specs.Box.{box_words};
 
-use libc::STDOUT_FILENO;
 use replay::BOX_WORDS;
+use std::io;
+use std::io::Read;
 
 mod replay;
 mod rows;
@@ -17,15 +20,13 @@ fn words_of(bytes: &[u8; BOX_BYTES]) -> [u32; BOX_WORDS]
     ensures { box_words ≡ length result }
 {
     let mut words = [0; BOX_WORDS];
-    let mut i: usize = 0;
-    while i < BOX_WORDS {
+    for i in 0..BOX_WORDS {
         words[i] = word(
             bytes[4 * i],
             bytes[4 * i + 1],
             bytes[4 * i + 2],
             bytes[4 * i + 3],
         );
-        i += 1;
     }
     words
 }
@@ -55,27 +56,19 @@ fn is_replayed(full: bool, bytes: &[u8; BOX_BYTES]) -> bool {
 }
 
 // How many of n boxes there are, and how many of them agree.
-fn replay_all(n: u64) {
+fn replay_all(rt: &impl Print, input: &mut impl Read, n: u64) -> io::Result<()> {
     let mut bytes = [0; BOX_BYTES];
     let mut there: u64 = 0;
     let mut agree: u64 = 0;
-    let mut i: u64 = 0;
-    while i < n {
-        let full = io::read_full(0, &mut bytes) == BOX_BYTES;
+    for _ in 0..n {
+        let full = input.read_exact(&mut bytes).is_ok();
         there = counted(there, full);
         agree = counted(agree, is_replayed(full, &bytes));
-        i += 1;
     }
-    print_count(there, b" boxes, ");
-    print_count(agree, b" agree\n");
+    println!(rt; "{there} boxes, {agree} agree")
 }
 
-fn print_count(n: u64, what: &[u8]) {
-    io::print_decimal(STDOUT_FILENO, n);
-    io::write_all(STDOUT_FILENO, what);
-}
-
-fn main() {
-    replay_all(2000);
-    rows::run();
+fn main(rt: HostRuntime) -> io::Result<()> {
+    replay_all(&rt, &mut rt.stdin(), 2000)?;
+    rows::run(&rt)
 }

@@ -231,12 +231,10 @@ fn is_finish(finish: Rect, w: &[u32; BOX_WORDS]) -> bool {
 
 fn is_layout(laid: Layout, w: &[u32; BOX_WORDS]) -> bool {
     let words = layout::layout_words(laid);
-    let mut i: usize = 0;
-    while i < LAYOUT_WORDS {
+    for i in 0..LAYOUT_WORDS {
         if !same(words[i], w[LAYOUT + i]) {
             return false;
         }
-        i += 1;
     }
     true
 }
@@ -255,8 +253,7 @@ pub(crate) fn agrees(w: &[u32; BOX_WORDS]) -> bool {
     let container = container_of(w);
     let mut replies = Replies::NONE;
     let mut path = w[STAGES];
-    let mut i: usize = 0;
-    while i < 3 {
+    for i in 0..3 {
         let asked = dialogue::next_question(container, style, candidate, replies);
         let stage = asked.stage;
         if !is_recorded(asked, path % 8, w, QUESTIONS + 4 * i) {
@@ -277,7 +274,6 @@ pub(crate) fn agrees(w: &[u32; BOX_WORDS]) -> bool {
             }
         }
         path = path / 8;
-        i += 1;
     }
     false
 }

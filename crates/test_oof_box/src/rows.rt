@@ -1,52 +1,38 @@
 // Document 01's rows 12 and 13, run on the code; all 13 rows are computed from the definitions (test_oof_box_rows). What is written
 // is held to the column "found".
 use geometry::{Line, Point, Rect, Size};
-use libc::STDOUT_FILENO;
 use oof_common::scrollable_overflow;
+use std::io;
 use style::{Contain, Overflow, OverflowPoint};
 use util::eighths;
 use util::eighths::Count;
 
 // ---- what is written
 
-fn print(text: &[u8]) {
-    io::write_all(STDOUT_FILENO, text);
+fn sign_of(negative: bool) -> &'static str {
+    if negative { "-" } else { "" }
 }
 
 // A number of pixels, by its eighths: 29.500.
-fn print_px(x: f32) {
+fn print_px(rt: &impl Print, x: f32) -> io::Result<()> {
     match eighths::to_eighths(x) {
-        Count::NotWhole => {
-            print(b" *");
-        }
+        Count::NotWhole => print!(rt; " *"),
         Count::Whole(negative, n) => {
-            print_sign(negative);
-            io::print_decimal(STDOUT_FILENO, n / 8);
-            print(b".");
-            io::print_decimal(STDOUT_FILENO, n % 8 * 125 / 100);
-            io::print_decimal(STDOUT_FILENO, n % 8 * 125 % 100 / 10);
-            io::print_decimal(STDOUT_FILENO, n % 8 * 125 % 10);
+            let sign = sign_of(negative);
+            print!(rt; " {sign}{}.{:03}", n / 8, n % 8 * 125)
         }
     }
 }
 
-fn print_sign(negative: bool) {
-    if negative {
-        print(b" -");
-        return;
-    }
-    print(b" ");
+fn print_line(rt: &impl Print, line: Line) -> io::Result<()> {
+    print_px(rt, line.start)?;
+    print_px(rt, line.end)?;
+    println!(rt)
 }
 
-fn print_line(line: Line) {
-    print_px(line.start);
-    print_px(line.end);
-    print(b"\n");
-}
-
-fn print_rect(row: &[u8], rect: Rect) {
-    print(row);
-    print_line(rect.horizontal_components());
+fn print_rect(rt: &impl Print, row: u8, rect: Rect) -> io::Result<()> {
+    print!(rt; "{row}")?;
+    print_line(rt, rect.horizontal_components())
 }
 
 // ---- rows 12 and 13: the contribution
@@ -83,7 +69,7 @@ fn contribution(x: f32, size: Size, right: f32, scrolls: bool) -> Rect {
     )
 }
 
-pub(crate) fn run() {
+pub(crate) fn run(rt: &impl Print) -> io::Result<()> {
     let empty = Size {
         width: 0.0,
         height: 10.0,
@@ -92,8 +78,8 @@ pub(crate) fn run() {
         width: 40.0,
         height: 10.0,
     };
-    print_rect(b"12", contribution(0.0, empty, 0.0, false));
-    print_rect(b"12", contribution(0.0, empty, 5.0, false));
-    print_rect(b"13", contribution(-40.0, forty, 0.0, true));
-    print_rect(b"13", contribution(-39.0, forty, 0.0, true));
+    print_rect(rt, 12, contribution(0.0, empty, 0.0, false))?;
+    print_rect(rt, 12, contribution(0.0, empty, 5.0, false))?;
+    print_rect(rt, 13, contribution(-40.0, forty, 0.0, true))?;
+    print_rect(rt, 13, contribution(-39.0, forty, 0.0, true))
 }

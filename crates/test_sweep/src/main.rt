@@ -1,9 +1,11 @@
 // Runs alignment, sweeps, checks and layout records on small lists. What it must write was worked out apart from this code:
 // the static positions by the Rust, the lists by hand from document 01, their layers from request #104.
+#![tactic(auto)]
+
 ghost use Rattle.std.specs.Prelude.{◌≡◌, length};
 
 use geometry::{Line, Point};
-use libc::STDOUT_FILENO;
+use std::io;
 use style::ContainingBlockClaims;
 use style::alignment::{AlignItems, AlignItemsKeyword, AlignmentSafety};
 use sweep::{Filled, Shift, Swept};
@@ -11,45 +13,26 @@ use tree::layout::{Aligned, AxisStaticPosition};
 use tree_record::{candidate, codes, layout};
 use util::bits;
 
-fn wide(word: u32) -> u64 {
-    word as u64
-}
-
-fn print_word(word: u32) {
-    io::print_hex(STDOUT_FILENO, wide(word), 8);
-}
-
 // Words in hex, 14 to a line.
-fn print_words(words: &[u32]) {
-    let mut i: usize = 0;
-    while i < words.len() {
-        print_word(words[i]);
-        i += 1;
-        print_after(i);
+fn print_words(rt: &impl Print, words: &[u32]) -> io::Result<()> {
+    for (i, word) in words.iter().enumerate() {
+        print!(rt; "{word:08x}")?;
+        print_after(rt, i)?;
     }
-    io::write_all(STDOUT_FILENO, b"\n");
+    println!(rt)
 }
 
-// What stands after the first i words.
-fn print_after(i: usize) {
-    if i % 14 == 0 {
-        io::write_all(STDOUT_FILENO, b"\n");
-        return;
+// What stands after word i.
+fn print_after(rt: &impl Print, i: usize) -> io::Result<()> {
+    if i % 14 == 13 {
+        return println!(rt);
     }
-    io::write_all(STDOUT_FILENO, b" ");
+    print!(rt; " ")
 }
 
-fn print_number(name: &[u8], n: u32) {
-    io::write_all(STDOUT_FILENO, name);
-    io::print_decimal(STDOUT_FILENO, wide(n));
-    io::write_all(STDOUT_FILENO, b"\n");
-}
-
-fn print_aligned(aligned: Aligned) {
+fn print_aligned(rt: &impl Print, aligned: Aligned) -> io::Result<()> {
     match aligned {
-        Aligned::Refused(refusal) => {
-            print_number(b"refused ", refusal.number());
-        }
+        Aligned::Refused(refusal) => println!(rt; "refused {}", refusal.number()),
         Aligned::At(position) => {
             let align = position.align;
             let edge = align.keyword;
@@ -62,13 +45,13 @@ fn print_aligned(aligned: Aligned) {
                 codes::safety_code(safety),
                 codes::edge_code(fallback),
             ];
-            print_words(&words);
+            print_words(rt, &words)
         }
     }
 }
 
 // 10 to 52, right to left.
-fn align(keyword: AlignItemsKeyword, safety: AlignmentSafety) {
+fn align(rt: &impl Print, keyword: AlignItemsKeyword, safety: AlignmentSafety) -> io::Result<()> {
     let alignment = AlignItems {
         keyword: keyword,
         safety: safety,
@@ -77,29 +60,24 @@ fn align(keyword: AlignItemsKeyword, safety: AlignmentSafety) {
         start: 10.0,
         end: 52.0,
     };
-    print_aligned(AxisStaticPosition::from_alignment(alignment, area, true));
+    print_aligned(
+        rt,
+        AxisStaticPosition::from_alignment(alignment, area, true),
+    )
 }
 
-fn print_swept(swept: Swept) {
+fn print_swept(rt: &impl Print, swept: Swept) -> io::Result<()> {
     match swept {
-        Swept::Refused(refusal) => {
-            print_number(b"refused ", refusal.number());
-        }
-        Swept::Into(filled) => {
-            io::print_decimal(STDOUT_FILENO, filled.working as u64);
-            io::write_all(STDOUT_FILENO, b" ");
-            io::print_decimal(STDOUT_FILENO, filled.unclaimed as u64);
-            io::write_all(STDOUT_FILENO, b"\n");
-        }
+        Swept::Refused(refusal) => println!(rt; "refused {}", refusal.number()),
+        Swept::Into(filled) => println!(rt; "{} {}", filled.working, filled.unclaimed),
     }
 }
 
-fn print_good(good: bool) {
+fn print_good(rt: &impl Print, good: bool) -> io::Result<()> {
     if good {
-        io::write_all(STDOUT_FILENO, b"good\n");
-        return;
+        return println!(rt; "good");
     }
-    io::write_all(STDOUT_FILENO, b"bad\n");
+    println!(rt; "bad")
 }
 
 // An absolute box with -0 and a NaN that has a payload, a static one with another NaN, and a fixed one. Layers 255, 7 and 1.
@@ -167,20 +145,24 @@ fn candidates() -> [u32; 43]
 
 // One sweep, and both lists after it.
 fn print_sweep(
+    rt: &impl Print,
     fixed_only: bool,
     shift: Shift,
     list: &[u32],
     working: &mut [u32],
     unclaimed: &mut [u32],
     filled: Filled,
-) {
+) -> io::Result<()> {
     let claims = ContainingBlockClaims {
         absolute: !fixed_only,
         fixed: true,
     };
-    print_swept(sweep::sweep(claims, shift, list, working, unclaimed, filled));
-    print_words(&working[..]);
-    print_words(&unclaimed[..]);
+    print_swept(
+        rt,
+        sweep::sweep(claims, shift, list, working, unclaimed, filled),
+    )?;
+    print_words(rt, &working[..])?;
+    print_words(rt, &unclaimed[..])
 }
 
 fn filled(working: usize, unclaimed: usize) -> Filled {
@@ -191,75 +173,96 @@ fn filled(working: usize, unclaimed: usize) -> Filled {
 }
 
 // The three candidates of an opening, then the same surfaced by a box at (0, -2.5) whose area claims fixed ones only.
-fn print_accepted(list: &[u32], working: &mut [u32], unclaimed: &mut [u32]) {
+fn print_accepted(
+    rt: &impl Print,
+    list: &[u32],
+    working: &mut [u32],
+    unclaimed: &mut [u32],
+) -> io::Result<()> {
     let location = Point { x: 0.0, y: -2.5 };
     print_sweep(
+        rt,
         false,
         Shift::Unmoved,
         list,
         working,
         unclaimed,
         filled(0, 0),
-    );
+    )?;
     print_sweep(
+        rt,
         true,
         Shift::By(location),
         list,
         working,
         unclaimed,
         filled(2, 1),
-    );
+    )
 }
 
 // One record too many for the working list, then for the unclaimed list.
-fn print_refused(list: &[u32], working: &mut [u32], unclaimed: &mut [u32]) {
+fn print_refused(
+    rt: &impl Print,
+    list: &[u32],
+    working: &mut [u32],
+    unclaimed: &mut [u32],
+) -> io::Result<()> {
     print_sweep(
+        rt,
         false,
         Shift::Unmoved,
         list,
         working,
         unclaimed,
         filled(4, 3),
-    );
-    print_sweep(true, Shift::Unmoved, list, working, unclaimed, filled(4, 3));
+    )?;
+    print_sweep(
+        rt,
+        true,
+        Shift::Unmoved,
+        list,
+        working,
+        unclaimed,
+        filled(4, 3),
+    )
 }
 
-fn print_checks(list: &[u32]) {
-    print_good(candidate::are_good(list, 3, 10));
-    print_good(candidate::are_good(list, 3, 9));
-    print_good(candidate::are_good(list, 4, 10));
+fn print_checks(rt: &impl Print, list: &[u32]) -> io::Result<()> {
+    print_good(rt, candidate::are_good(list, 3, 10))?;
+    print_good(rt, candidate::are_good(list, 3, 9))?;
+    print_good(rt, candidate::are_good(list, 4, 10))
 }
 
 // The same with another layer of the static box, which no area claims: the highest one, and the first that is none.
-fn print_layers() {
+fn print_layers(rt: &impl Print) -> io::Result<()> {
     let mut list = candidates();
     list[27] = 255;
-    print_good(candidate::are_good(&list, 3, 10));
+    print_good(rt, candidate::are_good(&list, 3, 10))?;
     list[27] = 256;
-    print_good(candidate::are_good(&list, 3, 10));
+    print_good(rt, candidate::are_good(&list, 3, 10))
 }
 
 // The first 23 words as a layout, written in the middle of three.
-fn print_layout(list: &[u32]) {
+fn print_layout(rt: &impl Print, list: &[u32]) -> io::Result<()> {
     if list.len() < 23 {
-        return;
+        return Ok(());
     }
     let mut layouts = [0x3333_3333; 69];
     layout::write_layout(&mut layouts, 1, layout::layout_at(list, 0));
-    print_words(&layouts);
+    print_words(rt, &layouts)
 }
 
-fn main() {
-    align(AlignItemsKeyword::Stretch, AlignmentSafety::Default);
-    align(AlignItemsKeyword::End, AlignmentSafety::Unsafe);
-    align(AlignItemsKeyword::End, AlignmentSafety::Safe);
-    align(AlignItemsKeyword::SelfEnd, AlignmentSafety::Safe);
+fn main(rt: HostRuntime) -> io::Result<()> {
+    align(&rt, AlignItemsKeyword::Stretch, AlignmentSafety::Default)?;
+    align(&rt, AlignItemsKeyword::End, AlignmentSafety::Unsafe)?;
+    align(&rt, AlignItemsKeyword::End, AlignmentSafety::Safe)?;
+    align(&rt, AlignItemsKeyword::SelfEnd, AlignmentSafety::Safe)?;
     let list = candidates();
     let mut working = [0x1111_1111; 71];
     let mut unclaimed = [0x2222_2222; 57];
-    print_accepted(&list, &mut working, &mut unclaimed);
-    print_refused(&list, &mut working, &mut unclaimed);
-    print_checks(&list);
-    print_layers();
-    print_layout(&list);
+    print_accepted(&rt, &list, &mut working, &mut unclaimed)?;
+    print_refused(&rt, &list, &mut working, &mut unclaimed)?;
+    print_checks(&rt, &list)?;
+    print_layers(&rt)?;
+    print_layout(&rt, &list)
 }
