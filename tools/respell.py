@@ -140,7 +140,7 @@ def main():
             if inner and "-" in w and w not in local_own(t, crates) and p not in defs[w]:
                 plain.add(w)
                 continue
-            if is_rt and "-" in w:
+            if is_rt and "-" in w and not w.isupper():
                 continue
             out.append(t[last:m.start()])
             out.append(turn[w])
@@ -170,6 +170,38 @@ def main():
         was = {l for l in open(path, encoding="utf-8").read().splitlines()} if os.path.exists(path) else set()
         with open(path, "w", encoding="utf-8") as f:
             f.write("\n".join(sorted(was | {f"{a}\t{b}" for a, b in turn.items()})) + "\n")
+
+
+def behind_dots(root):
+    """What stands behind a dot: fields of records, and constructors behind the name of their type."""
+    turn = {}
+    for line in open(os.path.join(root, "docs", "RESPELLED.tsv"), encoding="utf-8"):
+        a, b = line.rstrip("\n").split("\t")
+        turn.setdefault(a, b)
+    paths = [p for p in files(root) if p.endswith(".antt")]
+    fields = set()
+    for p in paths:
+        t = open(os.path.join(root, p), encoding="utf-8").read()
+        for m in re.finditer(r"^ *(?:pub )?record (?:pub )?.*\n((?:(?:[ ]+[^\n]*)?\n)*)", t, re.M):
+            for k in re.finditer(r"^ +([\w' -]+) :", m.group(1), re.M):
+                fields |= set(k.group(1).split())
+    for p in paths:
+        t = open(os.path.join(root, p), encoding="utf-8").read()
+        inner = deep(p)
+
+        def field(m):
+            w = m.group(1)
+            generated = inner and "-" in w and t[max(0, m.start() - 7):m.start()].endswith("before")
+            return "." + turn[w] if turn.get(w) in fields and not generated else m.group(0)
+
+        def constructor(m):
+            w = m.group(2)
+            return m.group(1) + "." + turn[w] if w in turn and not (inner and "-" in w) else m.group(0)
+
+        u = re.sub(r"(?<=[\w')\]])\.([a-z][\w']*(?:-[\w']+)*)", field, t)
+        u = re.sub(r"(?<![\w'.-])([A-Z][\w']*)\.([a-z][\w']*(?:-[\w']+)*)", constructor, u)
+        if u != t:
+            open(os.path.join(root, p), "w", encoding="utf-8").write(u)
 
 
 # Lemmas that already have the new spelling of a definition that stands in their file.
@@ -213,3 +245,5 @@ def clause_has(t, word):
 
 
 main()
+if "--dry" not in sys.argv:
+    behind_dots(os.getcwd())

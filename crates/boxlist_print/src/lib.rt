@@ -1,14 +1,14 @@
 // What `boxlist` and `boxreach` print for a screen's bytes: of the run that the screen scripts the boxes or their verdicts, or one line for a
 // refusal.
 ghost use Rattle.std.specs.Prelude.{◌≡◌, ◌*◌, ◌≤◌, length, take};
-ghost use Rattle.screen_fields.specs.Format.{MAX-ITEMS, MAX-CANDIDATES, reply_width};
+ghost use Rattle.screen_fields.specs.Format.{MAX_ITEMS, MAX_CANDIDATES, reply_width};
 ghost use Rattle.style_record.specs.Record.{style_words};
 ghost use Rattle.tree_record.specs.Candidate.{candidate_width};
 ghost use Rattle.tree_record.specs.Layout.{layout_width};
 ghost use Rattle.run.specs.Call.{lent};
 ghost use Rattle.script.specs.Script.{played_out};
 ghost use Rattle.boxlist_print.specs.Rows.{Prints};
-ghost use Rattle.boxlist_print.specs.Printed.{LIST-BYTES, finished_text, list_of, opening_of, list_words, list_from, printed};
+ghost use Rattle.boxlist_print.specs.Printed.{LIST_BYTES, finished_text, list_of, opening_of, list_words, list_from, printed};
 
 use boxlist_lines::list;
 use geometry::{Point, Rect, Size};
@@ -76,8 +76,8 @@ fn put_finished(
     working: &[u32],
     unclaimed: &[u32],
 ) -> usize
-    requires working_bound { s.counts.filled.working ≤ MAX-CANDIDATES }
-    requires in_bounds { LIST-BYTES ≤ length out.old }
+    requires working_bound { s.counts.filled.working ≤ MAX_CANDIDATES }
+    requires in_bounds { LIST_BYTES ≤ length out.old }
     ensures { Prints result out.old out.new (finished_text listing s overflow (lent styles.now layouts.now working.now unclaimed.now)) }
 {
     let n = s.counts.filled.working;
@@ -100,7 +100,7 @@ fn list_run(
     out: &mut [u8],
 ) -> usize
     requires working_len { length working.old ≡ list_words }
-    requires in_bounds { LIST-BYTES ≤ length out.old }
+    requires in_bounds { LIST_BYTES ≤ length out.old }
     ensures { Prints result out.old out.new (list_of listing styles.now (played_out o replies.now candidates.now (lent styles.now layouts.old working.old unclaimed.old))) }
 {
     let step = script::play_out(o, replies, styles, candidates, layouts, working, unclaimed);
@@ -140,7 +140,7 @@ fn list_parts(
     out: &mut [u8],
 ) -> usize
     requires style_words_in_bounds { (n * style_words ≤ length styles.now) × (n * reply_width ≤ length replies.now) × (m * candidate_width ≤ length candidates.now) × (n * layout_width ≤ length layouts.old) }
-    requires working_len { (length working.old ≡ list_words) × (LIST-BYTES ≤ length out.old) }
+    requires working_len { (length working.old ≡ list_words) × (LIST_BYTES ≤ length out.old) }
     ensures { Prints result out.old out.new (list_of listing (take (n * style_words) styles.now) (played_out (opening_of header.now) (take (n * reply_width) replies.now) (take (m * candidate_width) candidates.now) (lent (take (n * style_words) styles.now) (take (n * layout_width) layouts.old) working.old unclaimed.old))) }
 {
     let styles_end = n * STYLE_WORDS;
@@ -171,7 +171,7 @@ fn list_words(
     candidates: &[u32; format::MAX_CANDIDATES * CANDIDATE_WORDS],
     out: &mut [u8; LIST_BYTES],
 ) -> usize
-    requires { (n ≤ MAX-ITEMS) × (m ≤ MAX-CANDIDATES) }
+    requires { (n ≤ MAX_ITEMS) × (m ≤ MAX_CANDIDATES) }
     ensures { Prints result out.old out.new (list_from listing header.now (take (n * style_words) styles.now) n (take (n * reply_width) replies.now) (take (m * candidate_width) candidates.now)) }
 {
     let mut layouts = [0u32; ALL_LAYOUTS];

@@ -1,9 +1,9 @@
 // The verdicts of a finished run, and the whole list of them.
 ghost use Rattle.std.specs.Prelude.{◌≡◌, ◌+◌, ◌*◌, ◌≤◌, length};
 ghost use Rattle.std.proofs.lemmas.List.Edits.{sets};
-ghost use Rattle.screen_fields.specs.Format.{MAX-CANDIDATES};
+ghost use Rattle.screen_fields.specs.Format.{MAX_CANDIDATES};
 ghost use Rattle.run.specs.Call.{lent};
-ghost use Rattle.boxreach_lines.specs.Lines.{VERDICT-ROW};
+ghost use Rattle.boxreach_lines.specs.Lines.{VERDICT_ROW};
 ghost use Rattle.boxlist_print.specs.Rows.{Prints};
 ghost use Rattle.boxlist_print.specs.Verdicts.{verdict_at, verdicts_from, verdicts_text};
 
@@ -14,7 +14,7 @@ use tree_record::candidate::CANDIDATE_WORDS;
 
 // A place as it is printed.
 fn number(place: usize) -> u32
-    requires { place ≤ MAX-CANDIDATES }
+    requires { place ≤ MAX_CANDIDATES }
     ensures { result ≡ place }
 {
     place as u32
@@ -31,8 +31,8 @@ fn put_verdict(
     working: &[u32],
     unclaimed: &[u32],
 )
-    requires place_bound { place ≤ MAX-CANDIDATES }
-    requires at_in_bounds { at + VERDICT-ROW ≤ length out.old }
+    requires place_bound { place ≤ MAX_CANDIDATES }
+    requires at_in_bounds { at + VERDICT_ROW ≤ length out.old }
     ensures { out.new ≡ sets out.old at (verdict_at s (lent styles.now layouts.now working.now unclaimed.now) place) }
 {
     let node = word_at(working, CANDIDATE_WORDS * place);
@@ -51,8 +51,8 @@ fn put_each(
     working: &[u32],
     unclaimed: &[u32],
 )
-    requires n_bound { n ≤ MAX-CANDIDATES }
-    requires n_in_bounds { at + n * VERDICT-ROW ≤ length out.old }
+    requires n_bound { n ≤ MAX_CANDIDATES }
+    requires n_in_bounds { at + n * VERDICT_ROW ≤ length out.old }
     ensures { out.new ≡ sets out.old at (verdicts_from s (lent styles.now layouts.now working.now unclaimed.now) 0 n) }
 {
     let mut p = at;
@@ -73,8 +73,8 @@ pub(crate) fn put_verdicts(
     working: &[u32],
     unclaimed: &[u32],
 ) -> usize
-    requires working_bound { s.counts.filled.working ≤ MAX-CANDIDATES }
-    requires working_in_bounds { (1 + s.counts.filled.working) * VERDICT-ROW ≤ length out.old }
+    requires working_bound { s.counts.filled.working ≤ MAX_CANDIDATES }
+    requires working_in_bounds { (1 + s.counts.filled.working) * VERDICT_ROW ≤ length out.old }
     ensures { Prints result out.old out.new (verdicts_text s (lent styles.now layouts.now working.now unclaimed.now)) }
 {
     let n = s.counts.filled.working;

@@ -1,10 +1,11 @@
 // The lines of the printed verdicts: place, node, and whether scrolling brings the box up.
+#![tactic(auto)]
 ghost use Rattle.std.specs.Prelude.{◌≡◌, ◌+◌, ◌*◌, ◌≤◌, length};
 ghost use Rattle.std.proofs.lemmas.List.Edits.{sets};
 ghost use Rattle.boxlist_lines.specs.Column.{COLUMN};
 ghost use Rattle.boxlist_lines.specs.Lines.{joined};
 ghost use Rattle.refusal.specs.Refusal.{number_of};
-ghost use Rattle.boxreach_lines.specs.Lines.{VERDICT-ROW, verdict_names, seen_columns, unseen_columns, refused_columns, verdict_columns, verdict_row};
+ghost use Rattle.boxreach_lines.specs.Lines.{VERDICT_ROW, verdict_names, seen_columns, unseen_columns, refused_columns, verdict_columns, verdict_row};
 
 use boxlist_lines::list::put_bytes;
 use boxlist_lines::{COLUMN, put_code};
@@ -15,7 +16,7 @@ pub const VERDICT_ROW: usize = 5 * COLUMN + 1;
 
 // The names of the columns.
 pub fn put_names(out: &mut [u8], at: usize)
-    requires { at + VERDICT-ROW ≤ length out.old }
+    requires { at + VERDICT_ROW ≤ length out.old }
     ensures { out.new ≡ sets out.old at verdict_names }
 {
     put_bytes(out, at, b"   place    node verdict scrollx scrolly\n");
@@ -62,7 +63,7 @@ fn put_verdict(out: &mut [u8], at: usize, reached: Reached)
 
 // A box: its place, its node, its verdict.
 pub fn put_row(out: &mut [u8], at: usize, place: u32, node: u32, reached: Reached)
-    requires { at + VERDICT-ROW ≤ length out.old }
+    requires { at + VERDICT_ROW ≤ length out.old }
     ensures { out.new ≡ sets out.old at (verdict_row place node reached) }
 {
     put_code(out, at, place);

@@ -33,7 +33,7 @@ use Rattle.run.specs.declared.Progress.TheVariants.{Asking}
 use Rattle.run.specs.declared.State.{State}
 use Rattle.run.specs.declared.Step.{Step}
 use Rattle.run.specs.Call.{Lent, Outcome, lent}
-use Rattle.run.specs.Refusals.{Verdict, accepted, refused, ◌when◌else◌, lent_by, bad_candidate, bad_candidates}
+use Rattle.run.specs.Refusals.{Verdict, accepted, refused, lent_by, bad_candidate, bad_candidates}
 use Rattle.run.specs.Run.{box_at_hand, asking, finishing, proceeding, claims_of, extents_of, none_filled, opening_verdict, closed, begun, opened_by, opened, taken_by, reply_verdict, measured_on, laid_out, refusing, replied_by, replied}
 use Rattle.mirror_run.specs.Runs.{Each}
 use Rattle.mirror_run.proofs.Lists.{each_length, each_kept}

@@ -6,13 +6,12 @@ use mathlib.Core.Path.{◌≡◌, refl, sym, ap, ◌∙◌, subst, subst₂}
 use mathlib.Core.Bool.{Bool, true, false, cond}
 use mathlib.Core.List.{List, [], ◌∷◌, ◌++◌, foldl}
 use lib.Dec.{ltb, lit<}
-use lib.ListN.{length, get_or, length-map, get_or-map, get_or-eq_default}
+use lib.ListN.{length, get_or, get_or-eq_default}
 use borrow.Author.Tests.{ltb-true, ltb-false}
 use Rattle.geometry.specs.declared.Rect.{Rect}
 use Rattle.style.specs.declared.ContainingBlockClaims.{ContainingBlockClaims}
 use Rattle.tree.specs.declared.layout.OofCandidate.{OofCandidate}
-use Rattle.records.proofs.Laws.{word_of_record}
-use Rattle.tree_record.specs.Candidate.{candidate_width, layer_word, layer_count, candidate_of}
+use Rattle.tree_record.specs.Candidate.{candidate_width, layer_word, layer_count}
 use Rattle.sweep.specs.Laws.{HasLayers}
 use Rattle.sweep.specs.Sweep.{first_candidates, candidates_in, layers_of, side, keep, claimed, swept_into}
 use Rattle.sweep.specs.declared.Filled.{Filled}
@@ -26,7 +25,6 @@ use Rattle.run.specs.Run.{asking, claims_of, none_filled, closed, begun, opened,
 use Rattle.run.specs.Theorems.{Heard, Loan, other, Turn, next, next_with, turned, Lends, AllLend, called}
 use Rattle.run.proofs.Refusals.{turn_refused}
 use Rattle.run.proofs.Ways.{OpeningWay, begins, opening_way, ReplyWay, measures, lays_out, reply_way}
-use Rattle.mirror_run.proofs.Lists.{nobody, first_length, first_at}
 use Rattle.mirror_run.proofs.Unread.{taken_all}
 use Rattle.drawing.proofs.There.{layers_in, layer_by_word}
 use Rattle.drawing_laws.specs.Laws.{LayersAllowed, SameCandidates, SameSlices, SameOutcomes, SameLoan, both_own, both_other, SameTurns, none, one, RunReadsNoLayer}

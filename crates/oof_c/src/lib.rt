@@ -2,6 +2,8 @@
 // the boxes are drawn, and the first word of a table of styles that breaks a code rule. A slice passes as a pointer, then its length in words;
 // state, answer, a layout, edges, a verdict and a found word's place pass as a pointer each. `oof_c_c` exports them, and hosts/c/oof.h
 // declares them for C.
+#![tactic(auto)]
+
 ghost use Rattle.std.specs.Prelude.{◌≡◌, []};
 ghost use Rattle.oof_c_words.specs.Entry.{returned, opening_of, opened_in_words, replied_in_words, words};
 ghost use Rattle.oof_c_words.specs.PixelWords.{pixels_returned, pixels_in_words};
@@ -187,12 +189,7 @@ pub fn oof_reply_laid_out(
 }
 
 // The pixel edges of a box, from its layout's words, relative to an area at x, y.
-pub fn oof_pixels(
-    layout: &[u32; LAYOUT_WORDS],
-    x: f32,
-    y: f32,
-    edges: &mut [i32; EDGES],
-) -> u32
+pub fn oof_pixels(layout: &[u32; LAYOUT_WORDS], x: f32, y: f32, edges: &mut [i32; EDGES]) -> u32
     ensures { pixels_returned result edges.new ≡ pixels_in_words layout.now (record { x = x; y = y }) edges.old }
 {
     let l = tree_record::layout::layout_at(layout, 0);

@@ -4,7 +4,7 @@ use native.Mathlib.Omega.{arith}
 use mathlib.Core.Bool.{Bool, true, false, cond, not}
 use mathlib.Core.Logic.{◌↔◌, ◌⊎◌, inl, inr}
 use mathlib.Core.Path.{◌≡◌, refl, sym, ap, ◌∙◌}
-use lib.IntN.{ℤ, pos, neg_ℤ, ◌-ℤ◌}
+use lib.IntN.{pos, neg_ℤ, ◌-ℤ◌}
 use lib.Signed.{◌≤ℤ◌}
 use lib.Ieee.{Float}
 use Rattle.util.proofs.Floats.{no}

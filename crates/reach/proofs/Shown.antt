@@ -5,14 +5,10 @@ use mathlib.Core.Bool.{true}
 use mathlib.Core.Logic.{◌↔◌}
 use mathlib.Core.Path.{◌≡◌}
 use lib.IntN.{ℤ, pos, neg_ℤ, ◌+ℤ◌, ◌-ℤ◌}
-use lib.Signed.{◌≤ℤ◌}
 use lib.Ieee.{Float}
-use Rattle.geometry.specs.declared.Rect.{Rect}
 use Rattle.style.specs.declared.Direction.{Direction}
 use Rattle.style.specs.declared.Direction.TheVariants.{Ltr, Rtl}
 use Rattle.style.specs.declared.Overflow.{Overflow}
-use Rattle.tree.specs.declared.layout.Layout.{Layout}
-use Rattle.oof_resolve.specs.declared.ContainingBlock.{ContainingBlock}
 use Rattle.pixels.specs.Accepted.{in_eighths}
 use Rattle.pixels.proofs.Pairs.{up, off, add_is, neg_is, le_from, le_to}
 use Rattle.reach.specs.declared.Reached.TheVariants.{Seen, Unseen}

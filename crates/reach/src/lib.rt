@@ -1,5 +1,6 @@
 // Whether scrolling brings a box up: seen, with the least offsets at which it is, or unseen.
 #![tactic(auto)]
+
 ghost use Rattle.std.specs.Prelude.{◌≡◌, ◌≤◌, nat_abs};
 ghost use Rattle.pixels.specs.Pixels.{all_accepted};
 ghost use Rattle.run.specs.Call.{lent};

@@ -24,7 +24,6 @@ use Rattle.sweep.proofs.Steps.{kept_moved, appended_length}
 use Rattle.sweep.proofs.Listed.{IsBelow}
 use Rattle.oof_box.specs.declared.question.Reply.{Reply}
 use Rattle.oof_resolve.specs.declared.ContainingBlock.{ContainingBlock}
-use Rattle.pixels.specs.Accepted.{accepted}
 use Rattle.pixels.specs.Pixels.{all_accepted}
 use Rattle.run.specs.declared.Counts.{Counts}
 use Rattle.run.specs.declared.Extents.{Extents}

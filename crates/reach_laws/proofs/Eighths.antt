@@ -6,7 +6,7 @@ use mathlib.Core.Bool.{Bool, true, false, ◌||◌, beq, and-eq-true_iff}
 use mathlib.Core.List.{[], ◌∷◌}
 use mathlib.Core.Path.{◌≡◌, refl, sym, ap, ◌∙◌}
 use lib.Dec.{eqb, lit≤}
-use lib.IntN.{ℤ, pos, neg_ℤ, ◌+ℤ◌, ◌-ℤ◌}
+use lib.IntN.{pos, neg_ℤ, ◌+ℤ◌, ◌-ℤ◌}
 use lib.Ieee.{Float, nan, inf, fin, up, down, eq}
 use lib.Ieee.Exact.{HasValue}
 use lib.Ieee.Fits.{down_pos}

@@ -23,7 +23,7 @@ use Rattle.run.specs.declared.Opened.{Opened}
 use Rattle.run.specs.declared.State.{State}
 use Rattle.run.specs.declared.Step.{Step}
 use Rattle.run.specs.Call.{Lent}
-use Rattle.run.specs.Run.{asking, finishing, proceeding, closed, begun, opened, measured_on, laid_out, taken_by, taken_in, is_wrong, replied}
+use Rattle.run.specs.Run.{asking, finishing, proceeding, closed, begun, opened, measured_on, laid_out, taken_by, taken_in, is_wrong, refusing, replied}
 use Rattle.run.specs.Theorems.{Call, asked_for, asked_for_in, ThreeQuestionsForEachBox}
 use Rattle.run.proofs.Ways.{NextWay, asks, ends, next_way, OpeningWay, begins, opening_way, ReplyWay, measures, lays_out, reply_way}
 use Rattle.run.proofs.Questions.{kept, at_most_two, Forward, OneMore, one_more}
@@ -112,9 +112,10 @@ reply_for i n s given surfaced lent b = go (reply_way s given surfaced lent)
     go : ReplyWay s given surfaced lent → ForBoxBy i n (replied s given surfaced lent).step
     go (ReplyWay.turned_down r e) = rw e (unasked (eqb s.counts.begun (i + 1)))
       where
-        unasked : (b : Bool) → ForBox i (n + cond b 0 0) s
-        unasked true = rw add-zero b
-        unasked false = rw add-zero b
+        -- boxes begun, replies and progress are what they were
+        unasked : (b : Bool) → ForBox i (n + cond b 0 0) (refusing s lent r).step.state
+        unasked true = rw add-zero (record { three = b.three; none = b.none; now = b.now })
+        unasked false = rw add-zero (record { three = b.three; none = b.none; now = b.now })
     go (measures replies v t e) =
         rw e (asking_for i n _ _ _ _ _ replies b.three b.none (one_kept i n s.counts.begun s.replies s.progress given b.now t))
     go (lays_out overflow v t e) = rw e (proceeding_for i n _ _ _ _ _ b.three b.none)

@@ -1,7 +1,7 @@
 // What the programs share: a screen is read from standard input, and what `list_screen` makes of it goes to standard output. What a stream
 // holds isn't modelled, so `run` promises nothing: it is to be read.
 ghost use Rattle.std.specs.Prelude.{◌≡◌, ◌+◌, ◌≤◌, length};
-ghost use Rattle.screen_fields.specs.Format.{MAX-BYTES};
+ghost use Rattle.screen_fields.specs.Format.{MAX_BYTES};
 ghost use Rattle.screen_program.specs.Input.{bytes_of};
 
 use boxlist_print::{LIST_BYTES, Listing};
@@ -12,7 +12,7 @@ use screen_fields::format;
 const ROOM: usize = format::MAX_BYTES + 1;
 
 fn room() -> [u8; ROOM]
-    ensures { MAX-BYTES + 1 ≡ length result }
+    ensures { MAX_BYTES + 1 ≡ length result }
 {
     [0; ROOM]
 }

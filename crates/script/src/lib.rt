@@ -1,5 +1,7 @@
 // A run played out with scripted replies: for each item the host's replies stand written down beforehand, and no box surfaces
 // any (document 01, "Program boxlist": measured width and height, then overflow left, right, top, bottom).
+#![tactic(auto)]
+
 ghost use Rattle.std.specs.Prelude.{◌≡◌};
 ghost use Rattle.run.specs.Call.{outcome, lent};
 ghost use Rattle.script.specs.Script.{scripted, scripted_size, scripted_overflow, scripted_reply, played_on, played_out};
