@@ -1,5 +1,6 @@
 // geometry.rs: lines, points, sizes and rectangles, of floats and of floats that may be absent, by value.
 #![tactic(auto)]
+
 ghost use Rattle.std.specs.Prelude.{◌≡◌};
 ghost use Rattle.geometry.specs.Geometry.{moved_by, counted_from, line_x, line_y, maybe_line_x, maybe_line_y, rect_of, rect_or_zero, sum_x, sum_y, sums, rect_sum, union_of, smaller_size, both_present, first_size, filled_size, definite, added_size, raised_size, clamped_size, clamped_floats, with_ratio};
 

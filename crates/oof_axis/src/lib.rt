@@ -1,5 +1,6 @@
 // compute/oof.rs: the absolute positioning layout model in one axis.
 #![tactic(auto)]
+
 ghost use Rattle.std.specs.Prelude.{◌≡◌, not, ◌&&◌};
 ghost use Rattle.std.specs.Float.Ieee.{lt};
 ghost use Rattle.util.specs.Number.{0f};

@@ -1,4 +1,5 @@
 // compute/common/: what layout algorithms share.
 #![tactic(auto)]
+
 pub mod scrollable_overflow;
 pub mod sizing_keyword;

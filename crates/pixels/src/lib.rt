@@ -1,5 +1,6 @@
 // Whole pixels (request #101): the pixel edges of a box, from its layout and the area's offset. 1.0 of a layout is one pixel.
 #![tactic(auto)]
+
 ghost use Rattle.std.specs.Prelude.{◌≡◌, ◌≤◌, [], ◌∷◌, nat_abs};
 ghost use Rattle.pixels.specs.Accepted.{signed, accepted, in_eighths};
 ghost use Rattle.pixels.specs.Pixels.{floor, pixel_of, line_of, all_accepted, pixel_edges};

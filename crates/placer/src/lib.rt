@@ -1,6 +1,7 @@
 // compute/oof.rs, `compute_oof_layout_for_area` as a dialogue: a host opens a run over lent words, then answers one question
 // after another until the run finishes.
 #![tactic(auto)]
+
 ghost use Rattle.std.specs.Prelude.{◌≡◌};
 ghost use Rattle.run.specs.Call.{lent, outcome};
 ghost use Rattle.run.specs.Refusals.{list_full};

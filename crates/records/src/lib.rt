@@ -1,5 +1,6 @@
 // Lists of records in lent words: a record is a run of words of a fixed width, and a list is one record after another.
 #![tactic(auto)]
+
 ghost use Rattle.std.specs.Prelude.{◌≡◌, ◌+◌, ◌/◌, ◌≤◌, length};
 ghost use Rattle.records.specs.Records.{written, room};
 

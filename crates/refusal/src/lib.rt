@@ -1,5 +1,6 @@
 // The refusals of document 01 and of the change requests: one enum, one definition of their numbers.
 #![tactic(auto)]
+
 ghost use Rattle.std.specs.Prelude.{◌≡◌};
 ghost use Rattle.refusal.specs.Refusal.{number_of};
 

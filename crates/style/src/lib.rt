@@ -1,5 +1,6 @@
 // style/mod.rs: the style of an out-of-flow box, as far as its placement reads it.
 #![tactic(auto)]
+
 ghost use Rattle.std.specs.Prelude.{◌≡◌};
 ghost use Rattle.style.specs.Codes.{sizing_of, overflow_of, direction_of, contain_of};
 ghost use Rattle.style.specs.Values.{claims, is_scroll_container, any_scroll_container, is_visible, is_scroll, contains_overflow, is_rtl, differs, is_content_box};

@@ -3,9 +3,9 @@ use Prim.Native.Nat.{ℕ, zero, suc, ◌+◌, ◌-◌, ◌%◌, ◌<◌, ◌≤�
 use native.Mathlib.Omega.{arith}
 use mathlib.Core.Path.{◌≡◌, refl, ◌∙◌, ap}
 use mathlib.Core.Bool.{Bool, true, false, cond}
-use lib.Dec.{T, eqb, ltb}
+use lib.Dec.{eqb, ltb}
 use lib.ListN.{get_or}
-use lib.Ieee.{Float, fits, of_bits, to_bits, binary32}
+use lib.Ieee.{Float, of_bits, to_bits, binary32}
 use lib.Ieee.Bits.{of_bits-to_bits}
 use borrow.Author.Tests.{ltb-false, eqb-false}
 use Rattle.util.specs.declared.math.MaybeF32.{MaybeF32}

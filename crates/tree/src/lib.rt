@@ -1,3 +1,4 @@
 // tree/: candidates and layouts.
 #![tactic(auto)]
+
 pub mod layout;

@@ -13,7 +13,6 @@ use lib.Ieee.Fits.{up_pos, down_pos, and_l, and_r, round-fits}
 use borrow.Author.Tests.{ltb-true}
 use Rattle.util.proofs.Order.{zero_place}
 use Rattle.util.proofs.Unique.{same, is_odd}
-use Rattle.util.specs.Number.{◌⊕◌}
 use Rattle.util_exact.specs.Value.{−0f}
 use Rattle.util_exact.specs.Laws.{NothingAdded}
 

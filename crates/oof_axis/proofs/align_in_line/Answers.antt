@@ -1,5 +1,4 @@
 use Rattle.oof_axis.specs.Axis.{align_in}
-use borrow.Author.Rules.{rules}
 use Rattle.oof_axis.proofs.align_in_line.Goals as goal
 
 pub returns-in-Start : goal.returns-in-Start

@@ -1,5 +1,4 @@
 use Rattle.oof_axis.specs.Axis.{centered_block}
-use borrow.Author.Rules.{rules}
 use Rattle.oof_axis.proofs.centered_block.Goals as goal
 
 pub returns-then-abs : goal.returns-then-abs

@@ -1,5 +1,4 @@
 use Rattle.oof_axis.specs.StaticOffset.{offset_edge}
-use borrow.Author.Rules.{rules}
 use Rattle.oof_axis.proofs.offset_edge.Goals as goal
 
 pub returns-then-outer-place : goal.returns-then-outer-place

@@ -1,5 +1,4 @@
 use Rattle.oof_axis.specs.StaticOffset.{static_offset}
-use borrow.Author.Rules.{rules}
 use Rattle.oof_axis.proofs.resolve_static_offset.Goals as goal
 
 pub returns : goal.returns

@@ -1,5 +1,4 @@
 use Rattle.oof_axis.specs.Axis.{static_block}
-use borrow.Author.Rules.{rules}
 use Rattle.oof_axis.proofs.static_block.Goals as goal
 
 pub returns-in-Start : goal.returns-in-Start

@@ -1,5 +1,4 @@
 use Rattle.pixels.specs.Pixels.{all_accepted}
-use borrow.Author.Rules.{rules}
 use mathlib.Core.Bool.{and-true}
 use mathlib.Core.Path.{sym}
 use borrow.Author.Tests.{not-true, not-false}

@@ -2,7 +2,6 @@ use Rattle.util.proofs.Laws.{count_is_small}
 use Rattle.pixels.specs.Accepted.{in_eighths}
 use Rattle.pixels.proofs.Held.{held_eighths}
 use mathlib.Core.Path.{◌≡◌, sym, ◌∙◌}
-use borrow.Author.Rules.{rules}
 use Rattle.pixels.proofs.in_eighths.Goals as goal
 
 pub integer-requires : goal.integer-requires

@@ -1,6 +1,5 @@
 use Rattle.pixels.proofs.Held.{back, held, minus_fits, minus_is, plus_is}
 use mathlib.Core.Path.{◌∙◌}
-use borrow.Author.Rules.{rules}
 use Rattle.pixels.proofs.integer.Goals as goal
 
 pub overflow_sub-result : goal.overflow_sub-result

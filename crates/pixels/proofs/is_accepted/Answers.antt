@@ -1,5 +1,4 @@
 use Rattle.pixels.specs.Accepted.{accepted}
-use borrow.Author.Rules.{rules}
 use Rattle.pixels.proofs.is_accepted.Goals as goal
 
 pub returns-in-NotWhole : goal.returns-in-NotWhole

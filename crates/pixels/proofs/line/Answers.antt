@@ -1,5 +1,4 @@
 use Rattle.pixels.proofs.Held.{back, within_abs, held_eighths, start_fits, start_within, end_fits, end_within, held_pixel, line_is_sums}
-use borrow.Author.Rules.{rules}
 use mathlib.Core.Path.{refl}
 use lib.IntN.{◌+ℤ◌, ◌-ℤ◌}
 use Rattle.pixels.specs.Accepted.{in_eighths}

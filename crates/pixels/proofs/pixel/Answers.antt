@@ -1,6 +1,5 @@
 use Rattle.pixels.proofs.Held.{back, four_fits, floor_fits, pixel_fits, pixel_is_floor}
 use mir.Facts.{to_z-of_z}
-use borrow.Author.Rules.{rules}
 use Rattle.pixels.proofs.pixel.Goals as goal
 
 pub overflow_add-n : goal.overflow_add-n

@@ -2,7 +2,6 @@ use mathlib.Core.Bool.{false}
 use Rattle.pixels.specs.Pixels.{numbers_read, all_accepted, pixel_edges, edges_of}
 use Rattle.pixels.proofs.Held.{held_start, held_end}
 use mathlib.Core.Path.{◌≡◌, refl, sym, ◌∙◌}
-use borrow.Author.Rules.{rules}
 use borrow.Author.Tests.{not-true, not-false}
 use Rattle.pixels.proofs.pixel_edges.Goals as goal
 

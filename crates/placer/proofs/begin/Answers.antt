@@ -1,7 +1,6 @@
 use Rattle.placer.proofs.Openings.{no_room, first_at_hand, swept_in}
 use Rattle.run.specs.Call.{lent}
 use Rattle.run.specs.Run.{closed}
-use borrow.Author.Rules.{rules}
 use Rattle.placer.proofs.begin.Goals as goal
 
 pub proceed-requires : goal.proceed-requires

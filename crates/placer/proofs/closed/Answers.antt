@@ -1,5 +1,4 @@
 use Rattle.run.specs.Run.{closed}
-use borrow.Author.Rules.{rules}
 use Rattle.placer.proofs.closed.Goals as goal
 
 pub returns : goal.returns

@@ -1,4 +1,3 @@
-use borrow.Author.Rules.{rules}
 use Rattle.placer.proofs.compute_oof_layout.Goals as goal
 
 pub returns-then-is_pass_needed : goal.returns-then-is_pass_needed

@@ -1,4 +1,3 @@
-use borrow.Author.Rules.{rules}
 use Rattle.placer.proofs.is_pass_needed.Goals as goal
 
 pub returns-in-Some : goal.returns-in-Some

@@ -1,6 +1,5 @@
 use Rattle.placer.proofs.Openings.{turned_down, accepted}
 use Rattle.run.specs.Call.{lent}
-use borrow.Author.Rules.{rules}
 use Rattle.placer.proofs.open.Goals as goal
 
 pub begin-requires : goal.begin-requires

@@ -3,7 +3,6 @@ use Rattle.run.proofs.Ways.{counted}
 use Rattle.placer.proofs.Calls.{reply_passed, at_hand}
 use Rattle.run.specs.Call.{lent}
 use mathlib.Core.Path.{sym, ◌∙◌}
-use borrow.Author.Rules.{rules}
 use Rattle.placer.proofs.reply.Goals as goal
 
 pub go_on-requires : goal.go_on-requires

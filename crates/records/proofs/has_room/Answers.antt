@@ -1,7 +1,6 @@
 use mathlib.Core.Path.{sym}
 use native.Mathlib.Omega.{arith}
 use Rattle.records.proofs.Laws.{room_for, no_room}
-use borrow.Author.Rules.{rules}
 use Rattle.records.proofs.has_room.Goals as goal
 
 pub returns-then-held-places : goal.returns-then-held-places

@@ -1,6 +1,5 @@
 use mathlib.Core.Path.{sym}
 use native.Mathlib.Nat.{div-zero}
-use borrow.Author.Rules.{rules}
 use Rattle.records.proofs.places.Goals as goal
 
 pub returns-then-width-eq0 : goal.returns-then-width-eq0

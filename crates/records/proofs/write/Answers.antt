@@ -1,10 +1,9 @@
 use borrow.Author.Rules.{rules}
 use Rattle.records.proofs.Laws.{written_step}
 use Rattle.records.specs.Records.{written}
-use lib.ListN.{length, drop, length-set, drop_of_length-le}
-use mathlib.Core.Path.{◌≡◌, refl, sym, ◌∙◌}
+use lib.ListN.{length-set, drop_of_length-le}
+use mathlib.Core.Path.{refl, sym, ◌∙◌}
 use native.Mathlib.Nat.{add-zero}
-use Prim.Native.Nat.{◌+◌, ◌-◌, ◌≤◌}
 use Rattle.records.proofs.write.Goals as goal
 
 pub loop-j-init : goal.loop-j-init

@@ -1,9 +1,6 @@
-use borrow.Author.Rules.{rules}
-use Rattle.records.proofs.Laws.{written_step}
 use Rattle.records.specs.Records.{written}
-use lib.ListN.{length, drop, length-set, drop_of_length-le}
-use mathlib.Core.Path.{◌≡◌, refl, sym, ◌∙◌}
-use native.Mathlib.Nat.{add-zero}
+use lib.ListN.{length, drop}
+use mathlib.Core.Path.{◌≡◌}
 use Prim.Native.Nat.{◌+◌, ◌-◌, ◌≤◌}
 use Rattle.records.proofs.write.Given as goal
 

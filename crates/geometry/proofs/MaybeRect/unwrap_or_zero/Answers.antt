@@ -1,5 +1,4 @@
 use Rattle.geometry.specs.Geometry.{rect_or_zero}
-use borrow.Author.Rules.{rules}
 use Rattle.geometry.proofs.MaybeRect.unwrap_or_zero.Goals as goal
 
 pub returns : goal.returns

@@ -1,5 +1,4 @@
 use Rattle.geometry.specs.Geometry.{both_present}
-use borrow.Author.Rules.{rules}
 use Rattle.geometry.proofs.MaybeSize.both_axis_defined.Goals as goal
 
 pub returns-then-is_some : goal.returns-then-is_some

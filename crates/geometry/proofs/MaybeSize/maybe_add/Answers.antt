@@ -1,5 +1,4 @@
 use Rattle.geometry.specs.Geometry.{added_size}
-use borrow.Author.Rules.{rules}
 use Rattle.geometry.proofs.MaybeSize.maybe_add.Goals as goal
 
 pub returns : goal.returns

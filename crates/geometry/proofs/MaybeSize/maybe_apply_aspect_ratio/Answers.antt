@@ -1,5 +1,4 @@
 use Rattle.geometry.specs.Geometry.{with_ratio, completed}
-use borrow.Author.Rules.{rules}
 use Rattle.geometry.proofs.MaybeSize.maybe_apply_aspect_ratio.Goals as goal
 
 pub returns-in-None : goal.returns-in-None

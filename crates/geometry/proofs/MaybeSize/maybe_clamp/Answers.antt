@@ -1,5 +1,4 @@
 use Rattle.geometry.specs.Geometry.{clamped_size}
-use borrow.Author.Rules.{rules}
 use Rattle.geometry.proofs.MaybeSize.maybe_clamp.Goals as goal
 
 pub returns : goal.returns

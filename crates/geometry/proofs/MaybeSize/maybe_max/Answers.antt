@@ -1,5 +1,4 @@
 use Rattle.geometry.specs.Geometry.{raised_size}
-use borrow.Author.Rules.{rules}
 use Rattle.geometry.proofs.MaybeSize.maybe_max.Goals as goal
 
 pub returns : goal.returns

@@ -1,5 +1,4 @@
 use Rattle.geometry.specs.Geometry.{first_size}
-use borrow.Author.Rules.{rules}
 use Rattle.geometry.proofs.MaybeSize.or.Goals as goal
 
 pub returns : goal.returns

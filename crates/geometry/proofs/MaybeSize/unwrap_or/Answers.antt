@@ -1,5 +1,4 @@
 use Rattle.geometry.specs.Geometry.{filled_size}
-use borrow.Author.Rules.{rules}
 use Rattle.geometry.proofs.MaybeSize.unwrap_or.Goals as goal
 
 pub returns : goal.returns

@@ -1,5 +1,4 @@
 use Rattle.geometry.specs.Geometry.{union_of}
-use borrow.Author.Rules.{rules}
 use Rattle.geometry.proofs.Rect.union.Goals as goal
 
 pub returns : goal.returns

@@ -1,5 +1,4 @@
 use Rattle.geometry.specs.Geometry.{smaller_size}
-use borrow.Author.Rules.{rules}
 use Rattle.geometry.proofs.Size.f32_min.Goals as goal
 
 pub returns : goal.returns

@@ -1,5 +1,4 @@
 use Rattle.oof_axis.specs.Axis.{from_resolved}
-use borrow.Author.Rules.{rules}
 use Rattle.oof_axis.proofs.OofAlignment.from_resolved.Goals as goal
 
 pub returns-in-Normal : goal.returns-in-Normal

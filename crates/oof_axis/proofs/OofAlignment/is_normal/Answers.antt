@@ -1,5 +1,4 @@
 use Rattle.oof_axis.specs.Axis.{is_normal}
-use borrow.Author.Rules.{rules}
 use Rattle.oof_axis.proofs.OofAlignment.is_normal.Goals as goal
 
 pub returns-in-Normal : goal.returns-in-Normal

@@ -1,5 +1,4 @@
 use Rattle.oof_axis.specs.Axis.{align_edge}
-use borrow.Author.Rules.{rules}
 use Rattle.oof_axis.proofs.OofAlignment.physical_edge.Goals as goal
 
 pub returns-in-Normal : goal.returns-in-Normal

@@ -1,5 +1,4 @@
 use Rattle.oof_axis.specs.Axis.{stretching}
-use borrow.Author.Rules.{rules}
 use Rattle.oof_axis.proofs.OofAlignment.stretches.Goals as goal
 
 pub returns-in-Normal : goal.returns-in-Normal

@@ -1,5 +1,4 @@
 use Rattle.oof_axis.specs.Axis.{both_insets}
-use borrow.Author.Rules.{rules}
 use Rattle.oof_axis.proofs.OofAxis.both_insets.Goals as goal
 
 pub returns-then-is_some : goal.returns-then-is_some

@@ -1,5 +1,4 @@
 use Rattle.oof_axis.specs.Axis.{filled_margins}
-use borrow.Author.Rules.{rules}
 use Rattle.oof_axis.proofs.OofAxis.filled_margins.Goals as goal
 
 pub returns-in-Some-after : goal.returns-in-Some-after

@@ -1,5 +1,4 @@
 use Rattle.oof_axis.specs.Axis.{halves}
-use borrow.Author.Rules.{rules}
 use Rattle.oof_axis.proofs.OofAxis.halves.Goals as goal
 
 pub returns-then-end_is_left : goal.returns-then-end_is_left

@@ -1,5 +1,4 @@
 use Rattle.oof_axis.specs.Axis.{inset_block}
-use borrow.Author.Rules.{rules}
 use Rattle.oof_axis.proofs.OofAxis.inset_block.Goals as goal
 
 pub returns-in-Some-to : goal.returns-in-Some-to

@@ -1,5 +1,4 @@
 use Rattle.oof_axis.specs.Axis.{block}
-use borrow.Author.Rules.{rules}
 use Rattle.oof_axis.proofs.OofAxis.inset_modified_containing_block.Goals as goal
 
 pub returns : goal.returns

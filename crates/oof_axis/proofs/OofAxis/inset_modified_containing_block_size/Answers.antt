@@ -1,4 +1,3 @@
-use borrow.Author.Rules.{rules}
 use Rattle.oof_axis.proofs.OofAxis.inset_modified_containing_block_size.Goals as goal
 
 pub returns : goal.returns

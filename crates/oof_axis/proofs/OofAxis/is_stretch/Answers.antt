@@ -1,5 +1,4 @@
 use Rattle.oof_axis.specs.Axis.{is_stretch}
-use borrow.Author.Rules.{rules}
 use Rattle.oof_axis.proofs.OofAxis.is_stretch.Goals as goal
 
 pub returns : goal.returns

@@ -1,5 +1,4 @@
 use Rattle.oof_axis.specs.Axis.{kept_within}
-use borrow.Author.Rules.{rules}
 use Rattle.oof_axis.proofs.OofAxis.kept_within.Goals as goal
 
 pub returns-then-outer-limit : goal.returns-then-outer-limit

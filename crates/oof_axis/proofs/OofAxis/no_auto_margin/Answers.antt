@@ -1,4 +1,3 @@
-use borrow.Author.Rules.{rules}
 use Rattle.oof_axis.proofs.OofAxis.no_auto_margin.Goals as goal
 
 pub returns-then-is_some : goal.returns-then-is_some

@@ -1,6 +1,5 @@
 use Rattle.oof_axis.proofs.Infinity.{plus_inf, minus_inf}
 use Rattle.oof_axis.specs.Axis.{limit}
-use borrow.Author.Rules.{rules}
 use Rattle.oof_axis.proofs.OofAxis.overflow_limit.Goals as goal
 
 pub returns-then-leftwards : goal.returns-then-leftwards

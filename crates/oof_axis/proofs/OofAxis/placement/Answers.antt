@@ -1,5 +1,4 @@
 use Rattle.oof_axis.specs.Axis.{placement}
-use borrow.Author.Rules.{rules}
 use Rattle.oof_axis.proofs.OofAxis.placement.Goals as goal
 
 pub returns : goal.returns

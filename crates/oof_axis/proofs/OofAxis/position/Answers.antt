@@ -1,5 +1,4 @@
 use Rattle.oof_axis.specs.Axis.{position, position_in}
-use borrow.Author.Rules.{rules}
 use Rattle.oof_axis.proofs.OofAxis.position.Goals as goal
 
 pub returns-then-no_auto_margin : goal.returns-then-no_auto_margin

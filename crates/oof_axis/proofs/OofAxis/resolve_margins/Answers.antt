@@ -1,5 +1,4 @@
 use Rattle.oof_axis.specs.Axis.{margins}
-use borrow.Author.Rules.{rules}
 use Rattle.oof_axis.proofs.OofAxis.resolve_margins.Goals as goal
 
 pub returns-then-both_insets : goal.returns-then-both_insets

@@ -1,5 +1,4 @@
 use Rattle.oof_axis.specs.Axis.{self_aligned}
-use borrow.Author.Rules.{rules}
 use Rattle.oof_axis.proofs.OofAxis.self_aligned.Goals as goal
 
 pub returns-then-outer-imcb : goal.returns-then-outer-imcb

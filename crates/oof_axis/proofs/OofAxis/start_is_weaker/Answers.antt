@@ -1,5 +1,4 @@
 use Rattle.oof_axis.specs.Axis.{start_is_weaker}
-use borrow.Author.Rules.{rules}
 use Rattle.oof_axis.proofs.OofAxis.start_is_weaker.Goals as goal
 
 pub returns-in-Some-to : goal.returns-in-Some-to

@@ -1,5 +1,4 @@
 use Rattle.oof_axis.specs.Axis.{static_aligned}
-use borrow.Author.Rules.{rules}
 use Rattle.oof_axis.proofs.OofAxis.static_aligned.Goals as goal
 
 pub returns-then-outer-imcb : goal.returns-then-outer-imcb

@@ -1,5 +1,4 @@
 use Rattle.oof_axis.specs.Axis.{stretch_fit}
-use borrow.Author.Rules.{rules}
 use Rattle.oof_axis.proofs.OofAxis.stretch_fit_size.Goals as goal
 
 pub returns : goal.returns

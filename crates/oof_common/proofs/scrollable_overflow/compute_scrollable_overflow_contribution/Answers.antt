@@ -1,5 +1,4 @@
 use Rattle.oof_common.specs.ScrollableOverflow.{contribution}
-use borrow.Author.Rules.{rules}
 use Rattle.oof_common.proofs.scrollable_overflow.compute_scrollable_overflow_contribution.Goals as goal
 
 pub returns-then-either_at_most_zero : goal.returns-then-either_at_most_zero

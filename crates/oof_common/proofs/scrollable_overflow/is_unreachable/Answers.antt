@@ -1,4 +1,3 @@
-use borrow.Author.Rules.{rules}
 use Rattle.oof_common.proofs.scrollable_overflow.is_unreachable.Goals as goal
 
 pub returns-then-scrolls : goal.returns-then-scrolls

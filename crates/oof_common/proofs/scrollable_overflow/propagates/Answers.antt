@@ -1,5 +1,4 @@
 use Rattle.oof_common.specs.ScrollableOverflow.{propagates}
-use borrow.Author.Rules.{rules}
 use Rattle.oof_common.proofs.scrollable_overflow.propagates.Goals as goal
 
 pub returns-then-is_scroll_container : goal.returns-then-is_scroll_container

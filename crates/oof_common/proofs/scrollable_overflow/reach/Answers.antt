@@ -1,5 +1,4 @@
 use Rattle.oof_common.specs.ScrollableOverflow.{reach}
-use borrow.Author.Rules.{rules}
 use Rattle.oof_common.proofs.scrollable_overflow.reach.Goals as goal
 
 pub returns-then-shows : goal.returns-then-shows

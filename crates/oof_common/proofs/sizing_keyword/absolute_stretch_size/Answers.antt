@@ -1,5 +1,4 @@
 use Rattle.oof_common.specs.SizingKeyword.{absolute_stretch}
-use borrow.Author.Rules.{rules}
 use Rattle.oof_common.proofs.sizing_keyword.absolute_stretch_size.Goals as goal
 
 pub returns : goal.returns

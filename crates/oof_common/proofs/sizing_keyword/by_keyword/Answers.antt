@@ -1,5 +1,4 @@
 use Rattle.oof_common.specs.SizingKeyword.{by_keyword}
-use borrow.Author.Rules.{rules}
 use Rattle.oof_common.proofs.sizing_keyword.by_keyword.Goals as goal
 
 pub returns-in-MinContent : goal.returns-in-MinContent

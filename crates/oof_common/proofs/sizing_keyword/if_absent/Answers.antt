@@ -1,5 +1,4 @@
 use Rattle.oof_common.specs.SizingKeyword.{if_absent}
-use borrow.Author.Rules.{rules}
 use Rattle.oof_common.proofs.sizing_keyword.if_absent.Goals as goal
 
 pub returns-in-None : goal.returns-in-None

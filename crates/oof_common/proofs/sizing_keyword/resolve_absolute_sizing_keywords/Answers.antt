@@ -1,5 +1,4 @@
 use Rattle.oof_common.specs.SizingKeyword.{keywords_of}
-use borrow.Author.Rules.{rules}
 use Rattle.oof_common.proofs.sizing_keyword.resolve_absolute_sizing_keywords.Goals as goal
 
 pub returns : goal.returns

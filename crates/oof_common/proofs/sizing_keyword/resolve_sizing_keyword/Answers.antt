@@ -1,5 +1,4 @@
 use Rattle.oof_common.specs.SizingKeyword.{keyword_of, of_resolved}
-use borrow.Author.Rules.{rules}
 use Rattle.oof_common.proofs.sizing_keyword.resolve_sizing_keyword.Goals as goal
 
 pub returns-in-NotAllowed : goal.returns-in-NotAllowed

@@ -1,5 +1,4 @@
 use Rattle.pixels.specs.Told.{edges_told}
-use borrow.Author.Rules.{rules}
 use Rattle.pixels.proofs.lent.tell.Goals as goal
 
 pub returns-in-Refused : goal.returns-in-Refused

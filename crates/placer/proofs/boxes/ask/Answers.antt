@@ -1,5 +1,4 @@
 use Rattle.run.specs.Run.{asking, box_at_hand}
-use borrow.Author.Rules.{rules}
 use Rattle.placer.proofs.boxes.ask.Goals as goal
 
 pub style_of-style-requires : goal.style_of-style-requires

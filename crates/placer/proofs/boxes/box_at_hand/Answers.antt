@@ -1,5 +1,4 @@
 use Rattle.run.specs.Run.{box_at_hand}
-use borrow.Author.Rules.{rules}
 use Rattle.placer.proofs.boxes.box_at_hand.Goals as goal
 
 pub returns : goal.returns

@@ -1,6 +1,5 @@
 use Rattle.run.specs.Run.{proceeding}
 use borrow.Author.Tests.{lt-ltb, le-ltb}
-use borrow.Author.Rules.{rules}
 use Rattle.placer.proofs.boxes.proceed.Goals as goal
 
 pub ask-requires : goal.ask-requires

@@ -5,7 +5,6 @@ use Rattle.placer.proofs.Calls.{reply_passed, at_hand, layout_room}
 use Rattle.oof_box.specs.declared.question.Reply.TheVariants.{LaidOut}
 use Rattle.run.specs.Run.{box_at_hand}
 use Rattle.run.specs.Call.{lent}
-use borrow.Author.Rules.{rules}
 use Rattle.placer.proofs.boxes.settle.Goals as goal
 
 pub box_at_hand-candidate-requires : goal.box_at_hand-candidate-requires

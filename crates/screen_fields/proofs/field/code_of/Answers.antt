@@ -1,6 +1,5 @@
 use Rattle.screen_fields.specs.Field.{code_of}
 use borrow.Author.Tests.{eq-eqb, le-leb, le-ltb, lt-leb, lt-ltb, ne_eqb}
-use borrow.Author.Rules.{rules}
 use Rattle.screen_fields.proofs.field.code_of.Goals as goal
 
 pub returns-then-size-eq0 : goal.returns-then-size-eq0

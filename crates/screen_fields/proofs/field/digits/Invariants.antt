@@ -1,11 +1,7 @@
-use Rattle.screen_fields.proofs.Text.{unsigned_none, no_digits}
-use native.Mathlib.Omega.{arith}
-use borrow.Author.Rules.{rules}
 use Prim.Native.Nat.{◌≤◌, ◌<◌, ◌-◌, ◌^◌}
-use mathlib.Core.Path.{◌≡◌, refl, sym, ◌∙◌}
+use mathlib.Core.Path.{◌≡◌}
 use Rattle.screen_fields.specs.Field.{spelled}
 use Rattle.screen_fields.specs.Place.{part}
-use Rattle.screen_fields.proofs.Text.{digit_more, digit_none, unsigned_some, spelled_done, digit_low, digit_high, ten_digits, longer}
 use Rattle.screen_fields.proofs.field.digits.Given as goal
 
 -- was: invariant-loop s from end negative v₀ i₀ v i

@@ -1,5 +1,4 @@
 use Rattle.screen_fields.specs.Field.{float_of}
-use borrow.Author.Rules.{rules}
 use Rattle.screen_fields.proofs.field.float_of.Goals as goal
 
 pub returns-in-Malformed : goal.returns-in-Malformed

@@ -1,6 +1,5 @@
 use mathlib.Core.Path.{refl}
 use Rattle.screen_fields.specs.Field.{is_good}
-use borrow.Author.Rules.{rules}
 use Rattle.screen_fields.proofs.field.is_good.Goals as goal
 
 pub returns-in-Wrong : goal.returns-in-Wrong

@@ -1,7 +1,6 @@
 use native.Mathlib.Omega.{arith}
 use mathlib.Core.Path.{sym, ◌∙◌}
 use Rattle.screen_fields.proofs.Text.{field_rest, signed_none, signed_minus, signed_plus, signed_plain}
-use borrow.Author.Rules.{rules}
 use Rattle.screen_fields.proofs.field.numeral_at.Goals as goal
 
 pub returns-then-i-end : goal.returns-then-i-end

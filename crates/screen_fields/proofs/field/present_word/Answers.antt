@@ -1,5 +1,4 @@
 use Rattle.screen_fields.specs.Field.{present_word}
-use borrow.Author.Rules.{rules}
 use Rattle.screen_fields.proofs.field.present_word.Goals as goal
 
 pub returns-in-None : goal.returns-in-None

@@ -1,8 +1,6 @@
 use borrow.Author.Rules.{rules}
-use Prim.Native.Nat.{◌≤◌, ◌-◌}
-use mathlib.Core.Path.{◌≡◌, refl, ◌∙◌}
-use Rattle.screen_fields.specs.Field.{unblank}
-use Rattle.screen_fields.specs.Place.{part}
+use Prim.Native.Nat.{◌≤◌}
+use mathlib.Core.Path.{refl, ◌∙◌}
 use Rattle.screen_fields.proofs.Text.{blank_more, blank_ends, blank_none}
 use Rattle.screen_fields.proofs.field.skip_blanks.Goals as goal
 

@@ -1,9 +1,7 @@
-use borrow.Author.Rules.{rules}
 use Prim.Native.Nat.{◌≤◌, ◌-◌}
-use mathlib.Core.Path.{◌≡◌, refl, ◌∙◌}
+use mathlib.Core.Path.{◌≡◌}
 use Rattle.screen_fields.specs.Field.{unblank}
 use Rattle.screen_fields.specs.Place.{part}
-use Rattle.screen_fields.proofs.Text.{blank_more, blank_ends, blank_none}
 use Rattle.screen_fields.proofs.field.skip_blanks.Given as goal
 
 -- was: invariant-loop s from end i₀ i

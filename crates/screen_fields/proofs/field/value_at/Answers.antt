@@ -1,6 +1,5 @@
 use mathlib.Core.Path.{refl}
 use Rattle.screen_fields.specs.Field.{value_of}
-use borrow.Author.Rules.{rules}
 use Rattle.screen_fields.proofs.field.value_at.Goals as goal
 
 pub returns-in-Wrong : goal.returns-in-Wrong

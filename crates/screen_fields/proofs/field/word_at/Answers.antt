@@ -1,5 +1,4 @@
 use Rattle.screen_fields.specs.Field.{word_of}
-use borrow.Author.Rules.{rules}
 use Rattle.screen_fields.proofs.field.word_at.Goals as goal
 
 pub returns-in-Code : goal.returns-in-Code

@@ -1,6 +1,5 @@
 use mathlib.Core.Path.{sym}
 use Rattle.screen_fields.proofs.Table.{first_bytes, item_bytes, candidate_bytes}
-use borrow.Author.Rules.{rules}
 use Rattle.screen_fields.proofs.format.bytes_of.Goals as goal
 
 pub returns-in-First : goal.returns-in-First

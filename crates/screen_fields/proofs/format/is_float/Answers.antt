@@ -1,6 +1,5 @@
 use Rattle.screen_fields.proofs.Table.{is_float_at, float_at}
 use borrow.Author.Tests.{eq-eqb, le-leb, le-ltb, lt-leb, lt-ltb, ne_eqb}
-use borrow.Author.Rules.{rules}
 use Rattle.screen_fields.proofs.format.is_float.Goals as goal
 
 pub returns-then-j-lt-RATIO_PRESENT : goal.returns-then-j-lt-RATIO_PRESENT

@@ -1,6 +1,5 @@
 use mathlib.Core.Path.{sym, ◌∙◌}
 use Rattle.screen_fields.proofs.Table.{float_is, code_is}
-use borrow.Author.Rules.{rules}
 use Rattle.screen_fields.proofs.format.kind_of.Goals as goal
 
 pub returns-then-is_float : goal.returns-then-is_float

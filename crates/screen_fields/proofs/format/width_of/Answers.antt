@@ -1,6 +1,5 @@
 use mathlib.Core.Path.{sym}
 use Rattle.screen_fields.proofs.Table.{first_width, item_width, candidate_width_lem}
-use borrow.Author.Rules.{rules}
 use Rattle.screen_fields.proofs.format.width_of.Goals as goal
 
 pub returns-in-First : goal.returns-in-First

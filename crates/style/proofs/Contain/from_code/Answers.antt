@@ -1,5 +1,4 @@
 use Rattle.style.specs.Codes.{contain_of}
-use borrow.Author.Rules.{rules}
 use Rattle.style.proofs.Contain.from_code.Goals as goal
 
 pub returns : goal.returns

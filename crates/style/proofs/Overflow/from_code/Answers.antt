@@ -1,4 +1,3 @@
-use borrow.Author.Rules.{rules}
 use Rattle.style.specs.Codes.{overflow_of}
 use borrow.Author.Tests.{ne_eqb}
 use Rattle.style.proofs.Overflow.from_code.Goals as goal

@@ -1,4 +1,3 @@
-use borrow.Author.Rules.{rules}
 use Rattle.style.proofs.alignment.is_flipped.Goals as goal
 
 pub returns-then-inline : goal.returns-then-inline

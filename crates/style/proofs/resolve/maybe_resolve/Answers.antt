@@ -1,5 +1,4 @@
 use Rattle.style.specs.Resolve.{maybe_resolved}
-use borrow.Author.Rules.{rules}
 use Rattle.style.proofs.resolve.maybe_resolve.Goals as goal
 
 pub returns : goal.returns

@@ -1,5 +1,4 @@
 use Rattle.style.specs.Resolve.{resolved_rect}
-use borrow.Author.Rules.{rules}
 use Rattle.style.proofs.resolve.maybe_resolve_rect.Goals as goal
 
 pub returns : goal.returns

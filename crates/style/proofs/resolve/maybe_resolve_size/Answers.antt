@@ -1,5 +1,4 @@
 use Rattle.style.specs.Resolve.{resolved_size}
-use borrow.Author.Rules.{rules}
 use Rattle.style.proofs.resolve.maybe_resolve_size.Goals as goal
 
 pub returns : goal.returns

@@ -1,6 +1,5 @@
 use Rattle.style.specs.Resolve.{by_tag, resolved}
 use borrow.Author.Tests.{ne_eqb}
-use borrow.Author.Rules.{rules}
 use Rattle.style.proofs.resolve.resolve.Goals as goal
 
 pub returns-in-1 : goal.returns-in-1

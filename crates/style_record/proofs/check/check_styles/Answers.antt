@@ -1,11 +1,9 @@
-use Rattle.style_record.proofs.Walk.{From, all_words, words_end, word_on, word_stop, Tags, next_tags, tag_on, tag_stop, insets_and_margins, padding_and_borders, sizes, was_true, was_false, item_bad, item_good, items_done}
-use Rattle.style_record.specs.Check.{checked, checked_from}
-use Rattle.style_record.specs.Record.{after_lengths, style_words, tag_word, items}
+use Rattle.style_record.proofs.Walk.{all_words, words_end, word_on, word_stop, next_tags, tag_on, tag_stop, insets_and_margins, padding_and_borders, sizes, was_true, was_false, item_bad, item_good, items_done}
+use Rattle.style_record.specs.Check.{checked}
+use Rattle.style_record.specs.Record.{items}
 use native.Mathlib.Nat.{sub-zero}
 use native.Mathlib.Omega.{arith}
-use mathlib.Core.Logic.{⊎_elim}
-use mathlib.Core.Path.{◌≡◌, sym, ◌∙◌}
-use Prim.Native.Nat.{◌*◌, ◌-◌, ◌%◌, ◌≤◌}
+use mathlib.Core.Path.{sym, ◌∙◌}
 use borrow.Author.Rules.{rules}
 use Rattle.style.specs.declared.resolve.Field.TheVariants as field
 use Rattle.style_record.proofs.check.check_styles.Goals as goal
@@ -45,12 +43,12 @@ items-preserved c = (search rules, c.items.invariant.1 ∙ item_good _ _ _ c.ite
 pub returns-then-i-n : goal.returns-then-i-n
 unfolding checked items
 returns-then-i-n c =
-    elim c.items-test.branch
-    [ else-items-test w ↦ absurd (omega arith)
-    | then-items-test+then-loop-k-test+then-not-takes w ↦ rw w.k-is (sym (c.items.invariant.1 ∙ item_bad _ _ _ w.items-test.true (tag_stop field.InsetOrMargin _ _ insets_and_margins _ _ _ w.loop-k.invariant w.loop-k-test.true (sym w.takes.ensures ∙ was_false _ w.if-not-takes.true-raw))))
-    | then-items-test+else-loop-k-test+then-loop-k-2-test+then-not-takes-2 w ↦ rw w.k-is (sym (c.items.invariant.1 ∙ item_bad _ _ _ w.items-test.true (tag_stop field.PaddingOrBorder _ _ padding_and_borders _ _ _ w.loop-k-2.invariant w.loop-k-2-test.true (sym w.takes-in-loop-k-2.ensures ∙ was_false _ w.if-not-takes-2.true-raw))))
-    | then-items-test+else-loop-k-test+else-loop-k-2-test+then-loop-k-3-test+then-not-takes-3 w ↦ rw w.k-is (sym (c.items.invariant.1 ∙ item_bad _ _ _ w.items-test.true (tag_stop field.Size _ _ sizes _ _ _ w.loop-k-3.invariant w.loop-k-3-test.true (sym w.takes-in-loop-k-3.ensures ∙ was_false _ w.if-not-takes-3.true-raw))))
-    | then-items-test+else-loop-k-test+else-loop-k-2-test+else-loop-k-3-test+then-loop-k-4-test+then-code_breaks w ↦ rw w.k-is (sym (c.items.invariant.1 ∙ item_bad _ _ _ w.items-test.true (word_stop _ _ _ w.loop-k-4.invariant.2 w.loop-k-4-test.true (sym w.code_breaks.ensures ∙ w.if-code_breaks.true))))
+    elim c.items-test.branch [
+      | else-items-test w ↦ absurd (omega arith)
+      | then-items-test+then-loop-k-test+then-not-takes w ↦ rw w.k-is (sym (c.items.invariant.1 ∙ item_bad _ _ _ w.items-test.true (tag_stop field.InsetOrMargin _ _ insets_and_margins _ _ _ w.loop-k.invariant w.loop-k-test.true (sym w.takes.ensures ∙ was_false _ w.if-not-takes.true-raw))))
+      | then-items-test+else-loop-k-test+then-loop-k-2-test+then-not-takes-2 w ↦ rw w.k-is (sym (c.items.invariant.1 ∙ item_bad _ _ _ w.items-test.true (tag_stop field.PaddingOrBorder _ _ padding_and_borders _ _ _ w.loop-k-2.invariant w.loop-k-2-test.true (sym w.takes-in-loop-k-2.ensures ∙ was_false _ w.if-not-takes-2.true-raw))))
+      | then-items-test+else-loop-k-test+else-loop-k-2-test+then-loop-k-3-test+then-not-takes-3 w ↦ rw w.k-is (sym (c.items.invariant.1 ∙ item_bad _ _ _ w.items-test.true (tag_stop field.Size _ _ sizes _ _ _ w.loop-k-3.invariant w.loop-k-3-test.true (sym w.takes-in-loop-k-3.ensures ∙ was_false _ w.if-not-takes-3.true-raw))))
+      | then-items-test+else-loop-k-test+else-loop-k-2-test+else-loop-k-3-test+then-loop-k-4-test+then-code_breaks w ↦ rw w.k-is (sym (c.items.invariant.1 ∙ item_bad _ _ _ w.items-test.true (word_stop _ _ _ w.loop-k-4.invariant.2 w.loop-k-4-test.true (sym w.code_breaks.ensures ∙ w.if-code_breaks.true))))
     ]
 
 pub returns : goal.returns

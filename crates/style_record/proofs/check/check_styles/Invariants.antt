@@ -1,13 +1,8 @@
-use Rattle.style_record.proofs.Walk.{From, all_words, words_end, word_on, word_stop, Tags, next_tags, tag_on, tag_stop, insets_and_margins, padding_and_borders, sizes, was_true, was_false, item_bad, item_good, items_done}
-use Rattle.style_record.specs.Check.{checked, checked_from}
-use Rattle.style_record.specs.Record.{after_lengths, style_words, tag_word, items}
-use native.Mathlib.Nat.{sub-zero}
-use native.Mathlib.Omega.{arith}
-use mathlib.Core.Logic.{⊎_elim}
-use mathlib.Core.Path.{◌≡◌, sym, ◌∙◌}
-use Prim.Native.Nat.{◌*◌, ◌-◌, ◌%◌, ◌≤◌}
-use borrow.Author.Rules.{rules}
-use Rattle.style.specs.declared.resolve.Field.TheVariants as field
+use Rattle.style_record.proofs.Walk.{From, Tags}
+use Rattle.style_record.specs.Check.{checked_from}
+use Rattle.style_record.specs.Record.{after_lengths, style_words, tag_word}
+use mathlib.Core.Path.{◌≡◌}
+use Prim.Native.Nat.{◌-◌, ◌≤◌}
 use Rattle.style_record.proofs.check.check_styles.Given as goal
 
 -- the three walks over tags, and the one over codes

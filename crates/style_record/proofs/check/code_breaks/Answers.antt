@@ -1,4 +1,3 @@
-use borrow.Author.Rules.{rules}
 use Rattle.style_record.proofs.Codes.{held, above}
 use Prim.Native.Nat.{ℕ, ◌+◌, ◌≤◌, ◌<◌}
 use native.Mathlib.Omega.{arith}

@@ -1,5 +1,4 @@
 use Rattle.style_record.specs.Decode.{align_at}
-use borrow.Author.Rules.{rules}
 use Rattle.style_record.proofs.decode.align_at.Goals as goal
 
 pub returns : goal.returns

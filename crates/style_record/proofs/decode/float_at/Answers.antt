@@ -1,4 +1,3 @@
-use borrow.Author.Rules.{rules}
 use Rattle.style_record.proofs.decode.float_at.Goals as goal
 
 pub returns : goal.returns

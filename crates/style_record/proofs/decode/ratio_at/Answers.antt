@@ -1,6 +1,5 @@
 use Rattle.style_record.specs.Decode.{ratio_at}
 use borrow.Author.Tests.{eq-eqb, ne_eqb}
-use borrow.Author.Rules.{rules}
 use Rattle.style_record.proofs.decode.ratio_at.Goals as goal
 
 pub returns-then-word_at-eq0 : goal.returns-then-word_at-eq0

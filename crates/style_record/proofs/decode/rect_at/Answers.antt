@@ -1,5 +1,4 @@
 use Rattle.style_record.specs.Decode.{rect_at}
-use borrow.Author.Rules.{rules}
 use Rattle.style_record.proofs.decode.rect_at.Goals as goal
 
 pub returns : goal.returns

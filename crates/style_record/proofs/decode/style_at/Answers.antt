@@ -5,7 +5,6 @@ use native.Mathlib.Omega.{arith}
 use Prim.Native.Nat.{◌+◌}
 use Rattle.style_record.specs.Record.{style_words, flags_word, direction_word, justify_word, align_word, scrollbar_word}
 use Rattle.style_record.specs.Decode.{style_at, style_of}
-use borrow.Author.Rules.{rules}
 use Rattle.style_record.proofs.decode.style_at.Goals as goal
 
 pub word_at-requires-2 : goal.word_at-requires-2

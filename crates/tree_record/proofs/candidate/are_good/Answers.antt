@@ -1,11 +1,8 @@
 use borrow.Author.Rules.{rules}
-use Rattle.tree_record.specs.Candidate.{candidate_width, candidate_kinds}
 use Rattle.records.proofs.Laws.{too_few, one_bad, all_good, one_more}
-use Rattle.records.specs.Records.{every, good}
+use Rattle.records.specs.Records.{every}
 use mathlib.Core.Path.{◌≡◌, refl, sym, ◌∙◌}
-use mathlib.Core.Bool.{true}
 use native.Mathlib.Omega.{arith}
-use Prim.Native.Nat.{◌-◌, ◌*◌, ◌≤◌}
 use Rattle.tree_record.proofs.candidate.are_good.Goals as goal
 
 pub returns-then-words-count : goal.returns-then-words-count

@@ -1,10 +1,7 @@
-use borrow.Author.Rules.{rules}
 use Rattle.tree_record.specs.Candidate.{candidate_width, candidate_kinds}
-use Rattle.records.proofs.Laws.{too_few, one_bad, all_good, one_more}
 use Rattle.records.specs.Records.{every, good}
-use mathlib.Core.Path.{◌≡◌, refl, sym, ◌∙◌}
+use mathlib.Core.Path.{◌≡◌}
 use mathlib.Core.Bool.{true}
-use native.Mathlib.Omega.{arith}
 use Prim.Native.Nat.{◌-◌, ◌*◌, ◌≤◌}
 use Rattle.tree_record.proofs.candidate.are_good.Given as goal
 

@@ -1,5 +1,4 @@
 use Rattle.tree_record.specs.Candidate.{axis_of}
-use borrow.Author.Rules.{rules}
 use Rattle.tree_record.proofs.candidate.axis_at.Goals as goal
 
 pub returns : goal.returns

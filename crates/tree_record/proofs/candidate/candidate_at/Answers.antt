@@ -1,5 +1,4 @@
 use Rattle.tree_record.proofs.Places.{candidate_place}
-use borrow.Author.Rules.{rules}
 use Rattle.tree_record.proofs.candidate.candidate_at.Goals as goal
 
 pub returns : goal.returns

@@ -1,5 +1,4 @@
 use Rattle.tree_record.specs.Candidate.{candidate_words}
-use borrow.Author.Rules.{rules}
 use Rattle.tree_record.proofs.candidate.candidate_words.Goals as goal
 
 pub returns : goal.returns

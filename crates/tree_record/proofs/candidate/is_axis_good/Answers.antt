@@ -1,7 +1,6 @@
 use mathlib.Core.Path.{sym, ◌∙◌}
 use Rattle.tree_record.proofs.Good.{good_axis}
 use borrow.Author.Tests.{le-leb, le-ltb, lt-leb, lt-ltb}
-use borrow.Author.Rules.{rules}
 use Rattle.tree_record.proofs.candidate.is_axis_good.Goals as goal
 
 pub returns-then-words-at-ge3 : goal.returns-then-words-at-ge3

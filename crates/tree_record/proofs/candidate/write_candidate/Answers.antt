@@ -1,4 +1,3 @@
-use borrow.Author.Rules.{rules}
 use Rattle.tree_record.proofs.candidate.write_candidate.Goals as goal
 
 pub returns : goal.returns

@@ -1,5 +1,4 @@
 use Rattle.tree_record.specs.Codes.{edge_code}
-use borrow.Author.Rules.{rules}
 use Rattle.tree_record.proofs.codes.edge_code.Goals as goal
 
 pub returns-in-Start : goal.returns-in-Start

@@ -1,5 +1,4 @@
 use Rattle.tree_record.specs.Codes.{position_code}
-use borrow.Author.Rules.{rules}
 use Rattle.tree_record.proofs.codes.position_code.Goals as goal
 
 pub returns-in-Static : goal.returns-in-Static

@@ -1,5 +1,4 @@
 use Rattle.style.specs.Codes.{safety_code}
-use borrow.Author.Rules.{rules}
 use Rattle.tree_record.proofs.codes.safety_code.Goals as goal
 
 pub returns-in-Default : goal.returns-in-Default

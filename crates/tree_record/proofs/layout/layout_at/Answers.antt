@@ -1,5 +1,4 @@
 use Rattle.tree_record.proofs.Places.{layout_place}
-use borrow.Author.Rules.{rules}
 use Rattle.tree_record.proofs.layout.layout_at.Goals as goal
 
 pub returns : goal.returns

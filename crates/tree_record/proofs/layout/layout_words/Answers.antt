@@ -1,5 +1,4 @@
 use Rattle.tree_record.specs.Layout.{layout_words}
-use borrow.Author.Rules.{rules}
 use Rattle.tree_record.proofs.layout.layout_words.Goals as goal
 
 pub returns : goal.returns

@@ -1,5 +1,4 @@
 use Rattle.tree_record.specs.Layout.{rect_of}
-use borrow.Author.Rules.{rules}
 use Rattle.tree_record.proofs.layout.rect_at.Goals as goal
 
 pub returns : goal.returns

@@ -1,4 +1,3 @@
-use borrow.Author.Rules.{rules}
 use Rattle.tree_record.proofs.layout.write_layout.Goals as goal
 
 pub returns : goal.returns

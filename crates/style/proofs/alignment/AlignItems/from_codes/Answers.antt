@@ -1,6 +1,5 @@
 use Rattle.style.specs.Codes.{alignment_of}
 use borrow.Author.Tests.{eq-eqb, ne_eqb}
-use borrow.Author.Rules.{rules}
 use Rattle.style.proofs.alignment.AlignItems.from_codes.Goals as goal
 
 pub returns-then-keyword-eq10 : goal.returns-then-keyword-eq10

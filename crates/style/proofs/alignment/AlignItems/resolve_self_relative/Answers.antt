@@ -1,5 +1,4 @@
 use Rattle.style.specs.Values.{self_relative}
-use borrow.Author.Rules.{rules}
 use Rattle.style.proofs.alignment.AlignItems.resolve_self_relative.Goals as goal
 
 pub returns : goal.returns

@@ -1,5 +1,4 @@
 use Rattle.style.specs.Values.{clamped_spaces}
-use borrow.Author.Rules.{rules}
 use Rattle.style.proofs.available_space.AvailableSize.maybe_clamp.Goals as goal
 
 pub returns : goal.returns

@@ -1,5 +1,4 @@
 use Rattle.style.specs.Values.{clamped_space}
-use borrow.Author.Rules.{rules}
 use Rattle.style.proofs.available_space.AvailableSpace.maybe_clamp.Goals as goal
 
 pub returns-in-Definite : goal.returns-in-Definite

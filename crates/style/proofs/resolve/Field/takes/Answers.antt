@@ -1,5 +1,4 @@
 use Rattle.style.specs.Resolve.{takes}
-use borrow.Author.Rules.{rules}
 use Rattle.style.proofs.resolve.Field.takes.Goals as goal
 
 pub returns : goal.returns

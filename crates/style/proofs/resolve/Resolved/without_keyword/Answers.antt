@@ -1,4 +1,3 @@
-use borrow.Author.Rules.{rules}
 use Rattle.style.proofs.resolve.Resolved.without_keyword.Goals as goal
 
 pub returns-in-Length : goal.returns-in-Length

@@ -1,5 +1,4 @@
 use Rattle.tree.specs.Static.{from_alignment}
-use borrow.Author.Rules.{rules}
 use Rattle.tree.proofs.layout.AxisStaticPosition.from_alignment.Goals as goal
 
 pub returns-then-is_self_relative : goal.returns-then-is_self_relative

@@ -1,5 +1,4 @@
 use Rattle.tree.specs.Static.{translated}
-use borrow.Author.Rules.{rules}
 use Rattle.tree.proofs.layout.OofCandidate.translate.Goals as goal
 
 pub returns : goal.returns
