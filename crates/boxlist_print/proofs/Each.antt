@@ -1,12 +1,11 @@
 -- The rows of verdicts, one after another. Assumes nothing.
 use Prim.Native.Nat.{ℕ, zero, suc, ◌+◌, ◌-◌, ◌*◌, ◌≤◌, ◌<◌}
 use native.Mathlib.Omega.{arith}
-use mathlib.Core.Path.{◌≡◌, refl, sym, ap, ◌∙◌}
+use mathlib.Core.Path.{◌≡◌, refl, sym, ◌∙◌}
 use mathlib.Core.List.{List, [], ◌++◌}
 use lib.ListN.{length, get_or, length-append}
 use lib.Seq.{sets}
-use Rattle.records.specs.Records.{record_at}
-use Rattle.tree_record.specs.Candidate.{candidate_width, candidate_of}
+use Rattle.tree_record.specs.Candidate.{candidate_width}
 use Rattle.run.specs.Call.{Lent}
 use Rattle.run.specs.declared.State.{State}
 use Rattle.finished.proofs.There.{node_is}

@@ -30,7 +30,6 @@ use Rattle.reach.specs.Laws.{IsAnswer}
 use Rattle.reach.specs.Reach.{across, down, least, numbers_of, pair_of, box_reached, reached}
 use Rattle.script.specs.Theorems.{is_finish}
 use Rattle.script.proofs.Finishes.{Passes, opened_passes}
-use Rattle.boxlist_print.specs.declared.Listing.{Listing}
 use Rattle.boxlist_print.specs.declared.Listing.TheVariants.{Boxes}
 use Rattle.boxlist_print.specs.Printed.{finished_text, list_of, lent_for, opening_of, run_of, printed}
 use Rattle.boxlist_print.specs.Laws.{program_tests, RunIsListed, OnlyNineInRows}

@@ -1,6 +1,7 @@
 // What `boxlist` and `boxreach` print for a screen's bytes: of the run that the screen scripts the boxes or their verdicts, or one line for a
 // refusal.
 #![tactic(auto)]
+
 ghost use Rattle.std.specs.Prelude.{◌≡◌, ◌*◌, ◌≤◌, length, take};
 ghost use Rattle.screen_fields.specs.Format.{MAX_ITEMS, MAX_CANDIDATES, reply_width};
 ghost use Rattle.style_record.specs.Record.{style_words};

@@ -1,6 +1,5 @@
 use mathlib.Core.Path.{sym}
 use lib.Seq.{length-take-le}
-use borrow.Author.Rules.{rules}
 use Rattle.boxlist_print.proofs.list_parts.Goals as goal
 
 pub slice_bounds-list_run-end : goal.slice_bounds-list_run-end

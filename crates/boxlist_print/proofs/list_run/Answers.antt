@@ -1,4 +1,3 @@
-use borrow.Author.Rules.{rules}
 use Rattle.run.specs.Call.{lent}
 use Rattle.boxlist_print.proofs.Lists.{list_asked, list_finished, list_refused, few_boxes}
 use Rattle.boxlist_print.proofs.list_run.Goals as goal

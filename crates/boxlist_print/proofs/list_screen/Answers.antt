@@ -1,7 +1,6 @@
 use mathlib.Core.Path.{sym, ◌∙◌}
 use Rattle.screen.proofs.Whole.{read_told, bad_told}
 use Rattle.boxlist_print.proofs.Whole.{printed_bad, printed_read}
-use borrow.Author.Rules.{rules}
 use Rattle.boxlist_print.proofs.list_screen.Goals as goal
 
 pub list_words-requires : goal.list_words-requires

@@ -3,7 +3,6 @@ use native.Mathlib.Nat.{mul-le-mul_right}
 use Rattle.tree_record.specs.Layout.{layout_width}
 use Rattle.screen_fields.specs.Format.{MAX_ITEMS}
 use Rattle.boxlist_print.proofs.Whole.{zeros}
-use borrow.Author.Rules.{rules}
 use Rattle.boxlist_print.proofs.list_words.Goals as goal
 
 pub returns : goal.returns

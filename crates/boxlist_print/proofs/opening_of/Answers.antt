@@ -1,5 +1,4 @@
 use Rattle.boxlist_print.specs.Printed.{opening_of}
-use borrow.Author.Rules.{rules}
 use Rattle.boxlist_print.proofs.opening_of.Goals as goal
 
 pub returns : goal.returns

@@ -1,4 +1,3 @@
-use borrow.Author.Rules.{rules}
 use Rattle.boxlist_print.proofs.put_finished.Goals as goal
 
 pub returns-in-Boxes : goal.returns-in-Boxes

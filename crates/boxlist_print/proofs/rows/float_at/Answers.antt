@@ -1,4 +1,3 @@
-use borrow.Author.Rules.{rules}
 use Rattle.boxlist_print.proofs.rows.float_at.Goals as goal
 
 pub returns : goal.returns

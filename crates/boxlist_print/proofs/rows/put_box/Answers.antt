@@ -1,5 +1,4 @@
 use mathlib.Core.Path.{refl, ◌∙◌}
-use borrow.Author.Rules.{rules}
 use Rattle.boxlist_print.proofs.rows.put_box.Goals as goal
 
 pub returns : goal.returns

@@ -1,6 +1,5 @@
 use mathlib.Core.Path.{◌∙◌}
 use Rattle.boxlist_print.proofs.Boxes.{list_size, list_stored}
-use borrow.Author.Rules.{rules}
 use Rattle.boxlist_print.proofs.rows.put_list.Goals as goal
 
 pub returns : goal.returns

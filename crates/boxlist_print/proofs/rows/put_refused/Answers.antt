@@ -1,6 +1,5 @@
 use mathlib.Core.Path.{sym}
 use Rattle.boxlist_lines.proofs.Laws.{refusal_bytes}
-use borrow.Author.Rules.{rules}
 use Rattle.boxlist_print.proofs.rows.put_refused.Goals as goal
 
 pub returns : goal.returns

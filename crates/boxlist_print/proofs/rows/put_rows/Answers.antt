@@ -1,12 +1,7 @@
 use borrow.Author.Rules.{rules}
-use Prim.Native.Nat.{◌≤◌, ◌-◌, ◌+◌, ◌*◌}
 use native.Mathlib.Nat.{sub-zero}
-use mathlib.Core.Path.{◌≡◌, refl, sym, ◌∙◌}
-use lib.ListN.{length, drop}
-use lib.Seq.{sets, length-sets}
-use Rattle.boxlist_lines.specs.Lines.{ROW, rows_text}
-use Rattle.tree_record.specs.Candidate.{candidate_width}
-use Rattle.boxlist_print.specs.Rows.{rows_at}
+use mathlib.Core.Path.{refl, sym, ◌∙◌}
+use lib.Seq.{length-sets}
 use Rattle.boxlist_print.proofs.Boxes.{rows_none, rows_stored}
 use Rattle.boxlist_print.proofs.rows.put_rows.Goals as goal
 

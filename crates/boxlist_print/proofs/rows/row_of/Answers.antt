@@ -1,6 +1,5 @@
 use mathlib.Core.Path.{refl, sym, ◌∙◌}
 use Rattle.boxlist_print.proofs.Boxes.{row_words}
-use borrow.Author.Rules.{rules}
 use Rattle.boxlist_print.proofs.rows.row_of.Goals as goal
 
 pub returns : goal.returns

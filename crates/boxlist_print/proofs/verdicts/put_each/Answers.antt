@@ -1,12 +1,8 @@
 use borrow.Author.Rules.{rules}
-use Prim.Native.Nat.{◌≤◌, ◌-◌, ◌+◌, ◌*◌}
 use native.Mathlib.Nat.{sub-zero}
-use mathlib.Core.Path.{◌≡◌, refl, sym, ◌∙◌}
-use lib.ListN.{length}
-use lib.Seq.{sets, length-sets}
+use mathlib.Core.Path.{refl, sym, ◌∙◌}
+use lib.Seq.{length-sets}
 use Rattle.run.specs.Call.{lent}
-use Rattle.boxreach_lines.specs.Lines.{VERDICT_ROW}
-use Rattle.boxlist_print.specs.Verdicts.{verdicts_from}
 use Rattle.boxlist_print.proofs.Each.{none_left, row_stored}
 use Rattle.boxlist_print.proofs.verdicts.put_each.Goals as goal
 

@@ -1,13 +1,10 @@
-use borrow.Author.Rules.{rules}
 use Prim.Native.Nat.{◌≤◌, ◌-◌, ◌+◌, ◌*◌}
-use native.Mathlib.Nat.{sub-zero}
-use mathlib.Core.Path.{◌≡◌, refl, sym, ◌∙◌}
+use mathlib.Core.Path.{◌≡◌}
 use lib.ListN.{length}
-use lib.Seq.{sets, length-sets}
+use lib.Seq.{sets}
 use Rattle.run.specs.Call.{lent}
 use Rattle.boxreach_lines.specs.Lines.{VERDICT_ROW}
 use Rattle.boxlist_print.specs.Verdicts.{verdicts_from}
-use Rattle.boxlist_print.proofs.Each.{none_left, row_stored}
 use Rattle.boxlist_print.proofs.verdicts.put_each.Given as goal
 
 -- was: invariant-loop out₀ at n s styles layouts working unclaimed p₀ i₀ out p i

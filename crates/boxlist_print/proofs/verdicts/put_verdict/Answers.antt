@@ -1,4 +1,3 @@
-use borrow.Author.Rules.{rules}
 use mathlib.Core.Path.{refl, ◌∙◌}
 use Rattle.run.specs.Call.{lent}
 use Rattle.boxlist_print.proofs.Each.{verdict_row_lem}

@@ -1,4 +1,3 @@
-use borrow.Author.Rules.{rules}
 use mathlib.Core.Path.{sym, ◌∙◌}
 use Rattle.run.specs.Call.{lent}
 use Rattle.boxlist_print.proofs.Each.{verdicts_bytes, verdicts_stored}
