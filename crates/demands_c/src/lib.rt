@@ -1,6 +1,7 @@
 // Demands 1 and 2 of the C entries. Each function here but the last is a call, and ensures what is demanded of it; those demands that
 // speak of runs are theorems (specs/Demands.antt), from what a caller learns of the entries.
 #![tactic(auto)]
+
 ghost use Rattle.std.specs.Prelude.{[]};
 ghost use Rattle.oof_c_words.specs.Entry.{returned, opening_of, words};
 ghost use Rattle.oof_c_words.specs.PixelWords.{pixels_returned};

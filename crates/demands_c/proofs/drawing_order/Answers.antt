@@ -1,5 +1,4 @@
 use Rattle.demands_c.proofs.Demands.{drawing_demands}
-use borrow.Author.Rules.{rules}
 use Rattle.demands_c.proofs.drawing_order.Goals as goal
 
 pub returns : goal.returns

@@ -1,5 +1,4 @@
 use Rattle.demands_c.proofs.Demands.{bad_word_demands}
-use borrow.Author.Rules.{rules}
 use Rattle.demands_c.proofs.first_bad_word.Goals as goal
 
 pub returns : goal.returns

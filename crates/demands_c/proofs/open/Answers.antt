@@ -1,6 +1,5 @@
 use Rattle.oof_c_words.specs.Entry.{words, opening_of}
 use Rattle.demands_c.proofs.Demands.{opening_demands}
-use borrow.Author.Rules.{rules}
 use Rattle.demands_c.proofs.open.Goals as goal
 
 -- `l` are the words that the call left: layouts, working, unclaimed, state, answer

@@ -1,5 +1,4 @@
 use Rattle.demands_c.proofs.Demands.{pixels_demands}
-use borrow.Author.Rules.{rules}
 use Rattle.demands_c.proofs.pixels.Goals as goal
 
 pub returns : goal.returns

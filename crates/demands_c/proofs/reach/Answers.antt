@@ -1,4 +1,3 @@
-use borrow.Author.Rules.{rules}
 use Rattle.demands_c.proofs.Demands.{reach_demands}
 use Rattle.demands_c.proofs.reach.Goals as goal
 

@@ -1,7 +1,6 @@
 use Rattle.oof_c_words.specs.Entry.{words}
 use Rattle.demands_c.proofs.Demands.{reply_demands}
 use Rattle.oof_box.specs.declared.question.Reply.TheVariants.{LaidOut}
-use borrow.Author.Rules.{rules}
 use Rattle.demands_c.proofs.reply_laid_out.Goals as goal
 
 -- `l` are the words that the call left: layouts, working, unclaimed, state, answer

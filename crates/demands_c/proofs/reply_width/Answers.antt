@@ -2,7 +2,6 @@ use mathlib.Core.List.{[]}
 use Rattle.oof_c_words.specs.Entry.{words}
 use Rattle.demands_c.proofs.Demands.{reply_demands}
 use Rattle.oof_box.specs.declared.question.Reply.TheVariants.{Width}
-use borrow.Author.Rules.{rules}
 use Rattle.demands_c.proofs.reply_width.Goals as goal
 
 -- `l` are the words that the call left: layouts, working, unclaimed, state, answer
