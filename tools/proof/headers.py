@@ -1,4 +1,4 @@
-"""What stands in the first line of a function's proof file, and the places in the source that the check prints before its needs."""
+"""What stood in the first line of a function's proof file of the older form, and the places in the source that the check prints above its goals."""
 import re
 
 SKELETON = "-- Generated skeleton (tools/proof/write-skeletons), answers by hand.\n"
