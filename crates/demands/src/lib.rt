@@ -1,6 +1,8 @@
 // The demands that speak of one call, stated of the entries themselves: each function here is a call of an entry and nothing
 // else, and ensures what is demanded of it. Those that speak of runs are theorems (specs/Demands.antt); they suppose of each
 // call what is ensured here.
+#![tactic(auto)]
+
 ghost use Rattle.std.specs.Prelude.{◌≡◌};
 ghost use Rattle.oof_axis.specs.StaticOffset.{static_offset};
 ghost use Rattle.run.specs.Call.{lent, outcome};

@@ -1,11 +1,9 @@
--- Generated skeleton (tools/proof/write-skeletons), answers by hand.
 use Rattle.demands.proofs.Demands.{three_questions_each, openings_go_by_the_check, replies_go_by_the_check, equals_straight_run, laid_out_as_asked, mirror_image, mirrored_reach, mirrored_drawing, layers_are_kept, finished_is_drawn, placement_reads_no_layer, quarters_have_edges, quarters_are_answered}
 use Rattle.run.proofs.EachQuestion.{stage_tells_kind}
 use Rattle.boxlist_print.proofs.Listed.{run_is_listed, only_nine_in_rows}
-use Rattle.demands.proofs.demanded.Statement.{statement}
-use Rattle.demands.proofs.demanded.Tie as tie
+use Rattle.demands.proofs.demanded.Goals as goal
 
-returns : tie.Need-returns
+pub returns : goal.returns
 returns c =
     record {
       three_questions_each = three_questions_each;
@@ -25,6 +23,3 @@ returns c =
       run_is_listed = run_is_listed;
       only_nine_in_rows = only_nine_in_rows;
     }
-
-pub demanded-spec : {M : Type 1} → statement M
-demanded-spec = tie.close (tie.spec returns)

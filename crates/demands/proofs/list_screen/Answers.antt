@@ -1,0 +1,5 @@
+use Rattle.demands.proofs.Demands.{screen_demands}
+use Rattle.demands.proofs.list_screen.Goals as goal
+
+pub returns : goal.returns
+returns c = screen_demands _ _ c.list_screen.ensures

@@ -1,0 +1,9 @@
+use Rattle.run.specs.Call.{lent}
+use Rattle.demands.proofs.Demands.{opening_demands}
+use Rattle.demands.proofs.open.Goals as goal
+
+pub returns : goal.returns
+returns c =
+    let a = c.args in
+    opening_demands a.o a.candidates.now (lent a.styles.now a.layouts.now a.working.now a.unclaimed.now)
+    c.open.ensures

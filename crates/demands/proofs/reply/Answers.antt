@@ -1,0 +1,9 @@
+use Rattle.run.specs.Call.{lent}
+use Rattle.demands.proofs.Demands.{reply_demands}
+use Rattle.demands.proofs.reply.Goals as goal
+
+pub returns : goal.returns
+returns c =
+    let a = c.args in
+    reply_demands a.s a.reply a.surfaced.now (lent a.styles.now a.layouts.now a.working.now a.unclaimed.now)
+    c.reply.ensures
