@@ -1,12 +1,16 @@
 // Reads a screen from standard input and prints the list of its boxes, or one line for a refusal. A read or a write that fails is told on
 // standard error.
-use boxlist_print::Listing;
-use screen_program::Ended;
+#![tactic(auto)]
 
-fn main() {
-    match screen_program::run(Listing::Boxes) {
-        Ended::Printed => {}
-        Ended::NotRead => os::fail(b"boxlist: standard input"),
-        Ended::NotWritten => os::fail(b"boxlist: standard output"),
+use boxlist_print::Listing;
+use std::process::ExitCode;
+
+fn main(rt: HostRuntime) -> ExitCode {
+    match screen_program::run(Listing::Boxes, &mut rt.stdin(), &mut rt.stdout()) {
+        Ok(()) => ExitCode::SUCCESS,
+        Err(failure) => {
+            let _ = eprintln!(rt; "boxlist: {failure}");
+            ExitCode::FAILURE
+        }
     }
 }

@@ -1,12 +1,16 @@
 // Reads a screen from standard input and prints for each of its boxes whether scrolling brings it up, or one line for a refusal. A read or a
 // write that fails is told on standard error.
-use boxlist_print::Listing;
-use screen_program::Ended;
+#![tactic(auto)]
 
-fn main() {
-    match screen_program::run(Listing::Verdicts) {
-        Ended::Printed => {}
-        Ended::NotRead => os::fail(b"boxreach: standard input"),
-        Ended::NotWritten => os::fail(b"boxreach: standard output"),
+use boxlist_print::Listing;
+use std::process::ExitCode;
+
+fn main(rt: HostRuntime) -> ExitCode {
+    match screen_program::run(Listing::Verdicts, &mut rt.stdin(), &mut rt.stdout()) {
+        Ok(()) => ExitCode::SUCCESS,
+        Err(failure) => {
+            let _ = eprintln!(rt; "boxreach: {failure}");
+            ExitCode::FAILURE
+        }
     }
 }

@@ -1,12 +1,18 @@
-// What the programs share: a screen is read from standard input, and what `list_screen` makes of it goes to standard output. What a stream
-// holds isn't modelled, so `run` promises nothing: it is to be read.
-ghost use Rattle.std.specs.Prelude.{◌≡◌, ◌+◌, ◌≤◌, length};
+// What the programs share: a screen is read from standard input, and what `list_screen` makes of it goes to standard output. `run` does so from
+// any reader to any writer, and is proved where it is known which bytes they hold. Of the system's streams that isn't known: that standard
+// input gives a file's bytes, and standard output takes what is written, is to be read.
+#![tactic(auto)]
+
+ghost use Rattle.std.specs.Prelude.{◌≡◌, ◌+◌, ◌≤◌, length, take, OnOk, IfOk, IfErr, IfSome};
+ghost use Rattle.std.specs.Io.KnownBytes.{Appends, Keeps};
 ghost use Rattle.screen_fields.specs.Format.{MAX_BYTES};
-ghost use Rattle.screen_program.specs.Input.{bytes_of};
+ghost use Rattle.boxlist_print.specs.Printed.{printed};
+ghost use Rattle.screen_program.specs.Input.{bytes_of, IsNotRead};
 
 use boxlist_print::{LIST_BYTES, Listing};
-use libc::{STDIN_FILENO, STDOUT_FILENO};
 use screen_fields::format;
+use std::io::{Cursor, Read, Write};
+use std::{fmt, io};
 
 // One byte more than the longest screen: of a longer text no more is read, and it is no screen either.
 const ROOM: usize = format::MAX_BYTES + 1;
@@ -17,53 +23,82 @@ fn room() -> [u8; ROOM]
     [0; ROOM]
 }
 
-// What standard input gave: so many bytes, up to its end or as many as there is room for; or a read that failed.
-#[derive(Clone, Copy)]
-enum Input {
-    Failed,
-    Bytes(usize),
-}
-
-fn read_input(text: &mut [u8]) -> Input
-    ensures { bytes_of result ≤ length text.new }
+// What the input gave: so many bytes, up to its end or as many as there is room for; or a read that failed.
+fn read_input<R: Read>(input: &mut R, text: &mut [u8]) -> io::Result<usize>
+    ensures in_bounds { bytes_of result ≤ length text.new }
+    ensures read { IfOk result (λ n. IfSome (R.remaining input.old) (λ all. take n text.new ≡ take (length text.new) all)) }
 {
     let mut n: usize = 0;
     while n < text.len() {
-        let got = libc::read(STDIN_FILENO, &mut text[n..]);
-        if got < 0 {
-            return Input::Failed;
-        }
-        let more = io::count(got, &text[n..]);
+        let more = input.read(&mut text[n..])?;
         if more == 0 {
-            return Input::Bytes(n);
+            return Ok(n);
         }
         n += more;
     }
-    Input::Bytes(n)
+    Ok(n)
 }
 
-// How a program ended. A read that failed is no screen, and nothing is printed.
-#[derive(Clone, Copy)]
-pub enum Ended {
-    Printed,
-    NotRead,
-    NotWritten,
+// How a program ended where it didn't print. A read that failed is no screen, and nothing is printed.
+#[derive(Debug, Drop)]
+pub enum Failure {
+    NotRead(io::Error),
+    NotWritten(io::Error),
 }
 
-fn print_list(listing: Listing, text: &[u8]) -> Ended {
+// The system's reason, without the number that std puts behind it.
+#[derive(Drop)]
+struct Reason<'a>(&'a io::Error);
+
+impl fmt::Display for Reason<'_> {
+    fn fmt<W: fmt::Write>(&self, f: &mut fmt::Formatter<W>) -> fmt::Result {
+        let error = self.0;
+        let mut said = Cursor::new([0u8; 256]);
+        let _ = write!(said, "{error}");
+        let end = said.position() as usize;
+        let bytes = said.into_inner();
+        let whole = str::from_utf8(bytes.get(..end).unwrap_or(&bytes)).unwrap_or("");
+        f.write_str(whole.split(" (os error ").next().unwrap_or(whole))
+    }
+}
+
+impl fmt::Display for Failure {
+    fn fmt<W: fmt::Write>(&self, f: &mut fmt::Formatter<W>) -> fmt::Result {
+        match self {
+            Failure::NotRead(error) => write!(f, "standard input: {}", Reason(error)),
+            Failure::NotWritten(error) => write!(f, "standard output: {}", Reason(error)),
+        }
+    }
+}
+
+impl std::error::Error for Failure {}
+
+fn print_list<W: Write>(listing: Listing, text: &[u8], output: &mut W) -> io::Result<()>
+    ensures { OnOk result (Appends (W.contents output.old) (W.contents output.new) (printed listing text.now)) }
+{
     let mut out = [0u8; LIST_BYTES];
     let size = boxlist_print::list_screen(listing, text, &mut out);
-    if io::write_all(STDOUT_FILENO, &out[..size]) {
-        return Ended::Printed;
-    }
-    Ended::NotWritten
+    output.write_all(&out[..size])
 }
 
-pub fn run(listing: Listing) -> Ended {
+// Prints what is printed for the bytes that the input has left.
+pub fn run<R: Read, W: Write>(
+    listing: Listing,
+    input: &mut R,
+    output: &mut W,
+) -> Result<(), Failure>
+    ensures prints { OnOk result (IfSome (R.remaining input.old) (λ text. Appends (W.contents output.old) (W.contents output.new) (printed listing text))) }
+    ensures not_read { IfErr result (λ failure. IsNotRead failure → Keeps (W.contents output.old) (W.contents output.new)) }
+{
     let mut text = room();
-    let input = read_input(&mut text);
-    match input {
-        Input::Failed => Ended::NotRead,
-        Input::Bytes(n) => print_list(listing, &text[..n]),
+    match read_input(input, &mut text) {
+        Err(error) => Err(Failure::NotRead(error)),
+        Ok(n) => match print_list(listing, &text[..n], output) {
+            Err(error) => Err(Failure::NotWritten(error)),
+            Ok(()) => Ok(()),
+        },
     }
 }
+
+#[cfg(test)]
+mod tests;
