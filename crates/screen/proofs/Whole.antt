@@ -60,31 +60,32 @@ module _ (text : List ℕ) where
     unfolding answer_of is_screen
     items_over h = rw (f, ← p, lt-leb n MAX_ITEMS h) refl
 
-    module _ (a : n ≤ MAX_ITEMS) where
-      pub candidates_over : MAX_CANDIDATES < m → BadLine ≡ answer_of text
+    -- a test that fails is enough, however the limits come out
+    pub candidates_over : MAX_CANDIDATES < m → BadLine ≡ answer_of text
+    unfolding answer_of is_screen
+    candidates_over h = rw (f, ← p, ← q, lt-leb m MAX_CANDIDATES h, and-false (leb n MAX_ITEMS)) refl
+
+    pub bytes_differ : (length text ≡ FIRST_BYTES + n * ITEM_BYTES + m * CANDIDATE_BYTES → ⊥) → BadLine ≡ answer_of text
+    unfolding answer_of is_screen
+    bytes_differ d =
+        rw (f, ← p, ← q, screen_bytes_lem n m, ne_eqb (length text) (FIRST_BYTES + n * ITEM_BYTES + m * CANDIDATE_BYTES) d, and-false (leb n MAX_ITEMS && leb m MAX_CANDIDATES)) refl
+
+    module _ (s : length text ≡ FIRST_BYTES + n * ITEM_BYTES + m * CANDIDATE_BYTES) where
+      pub items_bad : good_lines Item n (drop FIRST_BYTES text) ≡ false → BadLine ≡ answer_of text
       unfolding answer_of is_screen
-      candidates_over h = rw (f, ← p, ← q, le-leb n MAX_ITEMS a, lt-leb m MAX_CANDIDATES h) refl
+      items_bad g =
+          rw (f, ← p, ← q, screen_bytes_lem n m, eq-eqb (length text) (FIRST_BYTES + n * ITEM_BYTES + m * CANDIDATE_BYTES) s, first_bytes, g, and-false (leb n MAX_ITEMS && leb m MAX_CANDIDATES && true)) refl
 
-      module _ (b : m ≤ MAX_CANDIDATES) where
-        pub bytes_differ : (length text ≡ FIRST_BYTES + n * ITEM_BYTES + m * CANDIDATE_BYTES → ⊥) → BadLine ≡ answer_of text
+      pub candidates_bad : good_lines Item n (drop FIRST_BYTES text) ≡ true → good_lines Candidate m (drop (FIRST_BYTES + n * ITEM_BYTES) text) ≡ false → BadLine ≡ answer_of text
+      unfolding answer_of is_screen
+      candidates_bad g h =
+          rw (f, ← p, ← q, screen_bytes_lem n m, eq-eqb (length text) (FIRST_BYTES + n * ITEM_BYTES + m * CANDIDATE_BYTES) s, first_bytes, g, candidates_at_lem n, h, and-false (leb n MAX_ITEMS && leb m MAX_CANDIDATES && true && true)) refl
+
+      module _ (a : n ≤ MAX_ITEMS) (b : m ≤ MAX_CANDIDATES) where
+        pub all_good : good_lines Item n (drop FIRST_BYTES text) ≡ true → good_lines Candidate m (drop (FIRST_BYTES + n * ITEM_BYTES) text) ≡ true → Read n m ≡ answer_of text
         unfolding answer_of is_screen
-        bytes_differ d = rw (f, ← p, ← q, le-leb n MAX_ITEMS a, le-leb m MAX_CANDIDATES b, screen_bytes_lem n m, ne_eqb (length text) (FIRST_BYTES + n * ITEM_BYTES + m * CANDIDATE_BYTES) d) refl
-
-        module _ (s : length text ≡ FIRST_BYTES + n * ITEM_BYTES + m * CANDIDATE_BYTES) where
-          pub items_bad : good_lines Item n (drop FIRST_BYTES text) ≡ false → BadLine ≡ answer_of text
-          unfolding answer_of is_screen
-          items_bad g =
-              rw (f, ← p, ← q, le-leb n MAX_ITEMS a, le-leb m MAX_CANDIDATES b, screen_bytes_lem n m, eq-eqb (length text) (FIRST_BYTES + n * ITEM_BYTES + m * CANDIDATE_BYTES) s, first_bytes, g) refl
-
-          pub candidates_bad : good_lines Item n (drop FIRST_BYTES text) ≡ true → good_lines Candidate m (drop (FIRST_BYTES + n * ITEM_BYTES) text) ≡ false → BadLine ≡ answer_of text
-          unfolding answer_of is_screen
-          candidates_bad g h =
-              rw (f, ← p, ← q, le-leb n MAX_ITEMS a, le-leb m MAX_CANDIDATES b, screen_bytes_lem n m, eq-eqb (length text) (FIRST_BYTES + n * ITEM_BYTES + m * CANDIDATE_BYTES) s, first_bytes, g, candidates_at_lem n, h) refl
-
-          pub all_good : good_lines Item n (drop FIRST_BYTES text) ≡ true → good_lines Candidate m (drop (FIRST_BYTES + n * ITEM_BYTES) text) ≡ true → Read n m ≡ answer_of text
-          unfolding answer_of is_screen
-          all_good g h =
-              rw (f, ← p, ← q, le-leb n MAX_ITEMS a, le-leb m MAX_CANDIDATES b, screen_bytes_lem n m, eq-eqb (length text) (FIRST_BYTES + n * ITEM_BYTES + m * CANDIDATE_BYTES) s, first_bytes, g, candidates_at_lem n, h) refl
+        all_good g h =
+            rw (f, ← p, ← q, le-leb n MAX_ITEMS a, le-leb m MAX_CANDIDATES b, screen_bytes_lem n m, eq-eqb (length text) (FIRST_BYTES + n * ITEM_BYTES + m * CANDIDATE_BYTES) s, first_bytes, g, candidates_at_lem n, h) refl
 
 -- ---- what an answer tells
 
