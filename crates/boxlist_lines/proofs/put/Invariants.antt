@@ -5,11 +5,9 @@ use lib.Seq.{sets}
 use Rattle.boxlist_lines.specs.Column.{cells}
 use Rattle.boxlist_lines.proofs.put.Given as goal
 
--- was: invariant-loop out₀ at width i₀ rest₀ out i rest
 abbrev pub invariant-loop-i : goal.invariant-loop-i
 invariant-loop-i l =
     (l.i ≤ l.width) × (length l.out ≡ length l.initial.out) × (sets l.initial.out l.at (cells l.width l.initial.rest) ≡ sets l.out l.at (cells l.i l.rest))
 
--- was: decreases-loop out₀ at width i₀ rest₀ out i rest
 abbrev pub decreases-loop-i : goal.decreases-loop-i
 decreases-loop-i l = l.i

@@ -7,7 +7,6 @@ use Rattle.screen_fields.specs.Place.{part}
 use Rattle.screen.specs.Screen.{rows_of}
 use Rattle.screen.proofs.read_rows.Given as goal
 
--- was: invariant-loop text at line first n rows out₀ step p₀ q₀ i₀ out p q i
 abbrev pub invariant-loop-i : goal.invariant-loop-i
 invariant-loop-i l =
     (l.i ≤ l.rows)
@@ -17,6 +16,5 @@ invariant-loop-i l =
     × (sets l.initial.out 0 (rows_of (part (fields_of l.line) l.first l.n) l.line l.rows (drop (l.at + COLUMNS * l.first) l.text))
     ≡ sets l.out l.q (rows_of (part (fields_of l.line) l.first l.n) l.line (l.rows - l.i) (drop (l.p + COLUMNS * l.first) l.text)))
 
--- was: decreases-loop text at line first n rows out₀ step p₀ q₀ i₀ out p q i
 abbrev pub decreases-loop-i : goal.decreases-loop-i
 decreases-loop-i l = l.rows - l.i

@@ -7,13 +7,11 @@ use mathlib.Core.List.{map}
 use Prim.Native.Nat.{◌+◌, ◌-◌, ◌*◌, ◌≤◌}
 use Rattle.sweep.proofs.append.Given as goal
 
--- was: invariant-loop claims claimed shift candidates list₀ held n k₀ i₀ list k i
 abbrev pub invariant-loop-i : goal.invariant-loop-i
 invariant-loop-i l =
     (l.i ≤ l.n) × (length l.list ≡ length l.initial.list)
     × (candidate_width * (l.k + length (keep l.claims l.claimed (from l.candidates l.n l.i))) ≤ length l.initial.list)
     × (appended l.initial.list l.held (keep l.claims l.claimed (map (moved l.shift) (from l.candidates l.n 0))) ≡ appended l.list l.k (keep l.claims l.claimed (map (moved l.shift) (from l.candidates l.n l.i))))
 
--- was: decreases-loop claims claimed shift candidates list₀ held n k₀ i₀ list k i
 abbrev pub decreases-loop-i : goal.decreases-loop-i
 decreases-loop-i l = l.n - l.i

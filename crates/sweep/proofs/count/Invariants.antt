@@ -5,11 +5,9 @@ use mathlib.Core.Path.{◌≡◌}
 use Prim.Native.Nat.{◌+◌, ◌-◌, ◌≤◌}
 use Rattle.sweep.proofs.count.Given as goal
 
--- was: invariant-loop claims claimed candidates n count₀ i₀ count i
 abbrev pub invariant-loop-i : goal.invariant-loop-i
 invariant-loop-i l =
     (l.i ≤ l.n) × (l.count ≤ l.i) × (length (keep l.claims l.claimed (from l.candidates l.n 0)) ≡ l.count + length (keep l.claims l.claimed (from l.candidates l.n l.i)))
 
--- was: decreases-loop claims claimed candidates n count₀ i₀ count i
 abbrev pub decreases-loop-i : goal.decreases-loop-i
 decreases-loop-i l = l.n - l.i

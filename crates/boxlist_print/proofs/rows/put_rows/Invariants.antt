@@ -7,7 +7,6 @@ use Rattle.tree_record.specs.Candidate.{candidate_width}
 use Rattle.boxlist_print.specs.Rows.{rows_at}
 use Rattle.boxlist_print.proofs.rows.put_rows.Given as goal
 
--- was: invariant-loop out₀ at working n layouts p₀ word₀ i₀ out p word i
 abbrev pub invariant-loop-i : goal.invariant-loop-i
 invariant-loop-i l =
     (l.i ≤ l.n)
@@ -16,6 +15,5 @@ invariant-loop-i l =
     × (length l.out ≡ length l.initial.out)
     × (sets l.initial.out l.at (rows_text (rows_at l.working l.n l.layouts)) ≡ sets l.out l.p (rows_text (rows_at (drop l.word l.working) (l.n - l.i) l.layouts)))
 
--- was: decreases-loop out₀ at working n layouts p₀ word₀ i₀ out p word i
 abbrev pub decreases-loop-i : goal.decreases-loop-i
 decreases-loop-i l = l.n - l.i

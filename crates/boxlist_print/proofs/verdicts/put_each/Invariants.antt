@@ -7,7 +7,6 @@ use Rattle.boxreach_lines.specs.Lines.{VERDICT_ROW}
 use Rattle.boxlist_print.specs.Verdicts.{verdicts_from}
 use Rattle.boxlist_print.proofs.verdicts.put_each.Given as goal
 
--- was: invariant-loop out₀ at n s styles layouts working unclaimed p₀ i₀ out p i
 abbrev pub invariant-loop-i : goal.invariant-loop-i
 invariant-loop-i l =
     (l.i ≤ l.n)
@@ -15,6 +14,5 @@ invariant-loop-i l =
     × (length l.out ≡ length l.initial.out)
     × (sets l.initial.out l.at (verdicts_from l.s (lent l.styles l.layouts l.working l.unclaimed) 0 l.n) ≡ sets l.out l.p (verdicts_from l.s (lent l.styles l.layouts l.working l.unclaimed) l.i (l.n - l.i)))
 
--- was: decreases-loop out₀ at n s styles layouts working unclaimed p₀ i₀ out p i
 abbrev pub decreases-loop-i : goal.decreases-loop-i
 decreases-loop-i l = l.n - l.i

@@ -5,10 +5,8 @@ use mathlib.Core.Bool.{true}
 use Prim.Native.Nat.{◌-◌, ◌*◌, ◌≤◌}
 use Rattle.tree_record.proofs.candidate.are_good.Given as goal
 
--- was: invariant-loop words count n i₀ i
 abbrev pub invariant-loop-i : goal.invariant-loop-i
 invariant-loop-i l = (l.i ≤ l.count) × (every l.i (λ j. good (candidate_kinds l.n) l.words (candidate_width * j)) ≡ true)
 
--- was: decreases-loop words count n i₀ i
 abbrev pub decreases-loop-i : goal.decreases-loop-i
 decreases-loop-i l = l.count - l.i
