@@ -38,6 +38,8 @@ import box_edits
 
 INPUTS = 3000
 ERROR = re.compile(r'^\./proofs/(\S+?)\.antt:(\d+):\d+: error: ')
+# what only follows from another refusal
+FOLLOWS = re.compile(r'(was|were) not (admitted|checked)|was rejected')
 # a file of the proof of one function
 OF_FUNCTION = re.compile(r'(.*)/(?:Answers|Invariants|Proof)')
 
@@ -58,7 +60,7 @@ def laws_and_unfit(copy, crate, output):
     laws, unfit = [], re.findall(r'^fn \w+::(\S+): (?:not proved(?!; it calls)|no proof)', output, re.M)
     for text in output.splitlines():
         error = ERROR.search(text)
-        if not error or 'was not admitted' in text and OF_FUNCTION.fullmatch(error[1]): continue
+        if not error or FOLLOWS.search(text) and OF_FUNCTION.fullmatch(error[1]): continue
         proof, at = error[1], int(error[2])
         if OF_FUNCTION.fullmatch(proof):
             unfit.append(OF_FUNCTION.fullmatch(proof)[1].replace('/', '::'))
@@ -66,7 +68,7 @@ def laws_and_unfit(copy, crate, output):
         name, law = next(((name, law) for n, name, law in reversed(declarations(f'{copy}/crates/{crate}/proofs/{proof}.antt')) if n <= at), (proof, None))
         of_laws = proof == 'Laws' or crate.endswith('_laws')
         if of_laws and law: laws.append(law)
-        if not of_laws and 'was not admitted' not in text: unfit.append(f'{crate}: {name}')
+        if not of_laws and not FOLLOWS.search(text): unfit.append(f'{crate}: {name}')
     return list(dict.fromkeys(laws)), list(dict.fromkeys(unfit))
 
 
@@ -138,22 +140,14 @@ def tried(root, copy, again, module, name, crates, edits):
 
 # ---- a box: its laws and rows without the code, then the code
 
-def laws_of_a_box(root):
-    """The statements of oof_box_laws, by the names of their proofs."""
-    texts = [open(os.path.join(root, 'crates/oof_box_laws/specs', f)).read() for f in ('Laws.antt', 'Resolved.antt')]
-    names = re.findall(r'(?m)^abbrev pub (\w+) : Type 0$', ''.join(texts))
-    return {re.sub(r'(?<!^)(?=[A-Z])', '_', n).lower() + end: n for n in names for end in ('', '_lem')}
-
-
-def refused_without_code(root, copy):
+def refused_without_code(copy):
     """The laws and rows that are refused of the definitions in a copy without code; what else went wrong."""
-    names, refused, broken = laws_of_a_box(root), [], []
+    refused, broken = [], []
     for crate in ('oof_box_laws', 'test_oof_box_rows'):
         output = asked(copy, crate)
-        lemmas = [m[1] for m in re.finditer(r'^\./\S+\.antt:\S+ error: `([^`]+)`', output, re.M)]
-        if crate == 'oof_box_laws': refused += [names[n] for n in dict.fromkeys(lemmas) if n in names]
-        else: refused += [r for r in bare.ROWS if r.replace(' ', '_') in lemmas]
-        if not lemmas and 'logic=proved' not in output: broken.append(output.splitlines()[-1])
+        lemmas = re.findall(r'^\./\S+\.antt:\S+ error: `([^`]+)`', output, re.M)
+        refused += laws_and_unfit(copy, crate, output)[0] if crate == 'oof_box_laws' else [r for r in bare.ROWS if r.replace(' ', '_') in lemmas]
+        if not lemmas and not (re.findall(r'^logic=\S+', output, re.M) or [''])[-1] == 'logic=proved': broken.append(output.splitlines()[-1])
     return refused, broken
 
 
@@ -162,12 +156,12 @@ def tried_box(root, copy, bare_copy, name, crates, edits):
     began, files = time.time(), dict.fromkeys(f for f, *_ in edits)
     write(copy, name, edits)
     for file in [f for f in files if '/specs/' in f]: shutil.copy(os.path.join(copy, 'crates', file), os.path.join(bare_copy, 'crates', file))
-    refused, broken = refused_without_code(root, bare_copy)
+    refused, broken = refused_without_code(bare_copy)
     unfit = []
     for crate in crates:
         output = asked(copy, crate)
         unfit += laws_and_unfit(copy, crate, output)[1]
-        if 'error: `size_law`' in output: refused.append('SizeLaw')
+        if re.search(r'error: .*\bsize_law\b', output): refused.append('SizeLaw')
     unfit = [u for u in dict.fromkeys(unfit) if u != 'oof_box: size_law']
     for file in files:
         for to in (copy, bare_copy) if '/specs/' in file else (copy,): shutil.copy(os.path.join(root, 'crates', file), os.path.join(to, 'crates', file))
@@ -215,7 +209,7 @@ def main():
             shutil.copy(os.path.join(root, 'crates.txt'), copy)
         if copies[1:]:
             bare.make_bare(copies[1])
-            if any(refused_without_code(root, copies[1])): sys.exit('edits: refused without an edit')
+            if any(refused_without_code(copies[1])): sys.exit('edits: refused without an edit')
         outcomes = [tried_box(root, *copies, *e[1:]) if e[0] is box else tried(root, copies[0], again, *e) for e in chosen]
     finally:
         for copy in copies: shutil.rmtree(copy)
