@@ -57,7 +57,7 @@ def laws_and_unfit(copy, crate, output):
     """The laws that are refused, at their own lemma or at one below it, and the functions and theorems whose proof no longer fits."""
     # where a library below isn't proved, it is that which was checked
     crate = (re.search(r'^rt: the library (\w+) did not build', output, re.M) or [None, crate])[1]
-    laws, unfit = [], re.findall(r'^fn \w+::(\S+): (?:not proved(?!; it calls)|no proof)', output, re.M)
+    laws, unfit = [], re.findall(r'^fn \w+::(\S+): (?:not proved|no proof)(?![;:] it calls)', output, re.M)
     for text in output.splitlines():
         error = ERROR.search(text)
         if not error or FOLLOWS.search(text) and OF_FUNCTION.fullmatch(error[1]): continue
