@@ -1,4 +1,4 @@
-//! The nine entries of the static library `oof_c`, over words. This is the only module with `unsafe`.
+//! The nine entries of the static library liboof_c.a, over words. This is the only module with `unsafe`.
 //!
 //! Every entry takes any words in any number, and a call that it refuses writes no lent word; [`first_bad_word`] refuses none. So the
 //! functions here are safe: the slices are Rust's, and two of which one may be written don't overlap.

@@ -1,4 +1,4 @@
-//! Places absolutely positioned boxes, by the proved static library `oof_c`.
+//! Places absolutely positioned boxes, by the proved static library liboof_c.a.
 //!
 //! [`compute_oof_layout_for_area`] reads like the function of that name in taffy 0.15.1: it takes an area, a table of styles
 //! and a list of candidates, calls the [`Host`] back to measure and to lay out, and returns where the boxes stand. Under it is
