@@ -65,9 +65,13 @@ def laws_and_unfit(copy, crate, output):
         if OF_FUNCTION.fullmatch(proof):
             unfit.append(OF_FUNCTION.fullmatch(proof)[1].replace('/', '::'))
             continue
-        name, law = next(((name, law) for n, name, law in reversed(declarations(f'{copy}/crates/{crate}/proofs/{proof}.antt')) if n <= at), (proof, None))
+        declared = declarations(f'{copy}/crates/{crate}/proofs/{proof}.antt')
+        name, law = next(((name, law) for n, name, law in reversed(declared) if n <= at), (proof, None))
         of_laws = proof == 'Laws' or crate.endswith('_laws')
         if of_laws and law: laws.append(law)
+        # the line of those that lean on it names them all
+        after = re.sub(r' \(via [^)]*\)', '', text.partition(' not checked: ')[2]).split(', ')
+        if of_laws: laws += [law for _, name, law in declared if law and name in after]
         if not of_laws and not FOLLOWS.search(text): unfit.append(f'{crate}: {name}')
     return list(dict.fromkeys(laws)), list(dict.fromkeys(unfit))
 
