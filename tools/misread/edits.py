@@ -53,6 +53,16 @@ def declarations(file):
     return found
 
 
+def leaning(file, lemma):
+    """The declarations of a proof file that cite a lemma, or one that does."""
+    lines, found = open(file).read().splitlines(), {lemma}
+    own = re.compile(r' *(?:pub )?([a-z][\w\']*) :')
+    starts = [n for n, text in enumerate(lines) if own.match(text)]
+    bodies = [(own.match(lines[n])[1], ' '.join(lines[n:end])) for n, end in zip(starts, [*starts[1:], len(lines)])]
+    while more := {name for name, body in bodies if name not in found and found & set(re.findall(r"[\w']+", body))}: found |= more
+    return found
+
+
 def laws_and_unfit(copy, crate, output):
     """The laws that are refused, at their own lemma or at one below it, and the functions and theorems whose proof no longer fits."""
     # where a library below isn't proved, it is that which was checked
@@ -71,6 +81,7 @@ def laws_and_unfit(copy, crate, output):
         if of_laws and law: laws.append(law)
         # the line of those that lean on it names them all
         after = re.sub(r' \(via [^)]*\)', '', text.partition(' not checked: ')[2]).split(', ')
+        if re.search(r' and \d+ more$', text): after = leaning(f'{copy}/crates/{crate}/proofs/{proof}.antt', re.search(r'depends? on `([^`]+)`', text)[1])
         if of_laws: laws += [law for _, name, law in declared if law and name in after]
         if not of_laws and not FOLLOWS.search(text): unfit.append(f'{crate}: {name}')
     return list(dict.fromkeys(laws)), list(dict.fromkeys(unfit))
