@@ -196,19 +196,20 @@ def pixels():
 
 
 def reach():
-    """The verdict's words by their turn in the lists of a clause for `(Seen x y)` and of one for `Unseen`."""
-    x, y, seen = re.search(r"\(Seen (\w+) (\w+)\).*?= .*?((?:\w+ ∷ )+)\[\]", text(REACH)).groups()
-    unseen = re.search(r"\bUnseen\b.*?= .*?((?:\w+ ∷ )+)\[\]", text(REACH))[1]
+    """The verdict's words by their turn in the lists of a clause for `(Ok (Some o))`, of offsets o, and of one for `(Ok None)`."""
+    o, seen = re.search(r"\(Ok \(Some (\w+)\)\).*?= .*?((?:[\w.]+ ∷ )+)\[\]", text(REACH)).groups()
+    unseen = re.search(r"\(Ok None\).*?= .*?((?:\w+ ∷ )+)\[\]", text(REACH))[1]
     seen, unseen = seen.split(" ∷ ")[:-1], unseen.split(" ∷ ")[:-1]
     assert len(seen) == len(unseen) and set(unseen[1:]) == {"0"}, (seen, unseen)
-    return {"REACH_KIND": 0, "REACH_X": seen.index(x), "REACH_Y": seen.index(y), "REACH_WORDS": len(seen), "SEEN": int(seen[0]), "UNSEEN": int(unseen[0])}
+    x, y = seen.index(o + ".across"), seen.index(o + ".down")
+    return {"REACH_KIND": 0, "REACH_X": x, "REACH_Y": y, "REACH_WORDS": len(seen), "SEEN": int(seen[0]), "UNSEEN": int(unseen[0])}
 
 
 def bad_word():
-    """The two words by their turn in the list of the clause for `(Bad i k)`."""
-    item, word, told = re.search(r"\(Bad (\w+) (\w+)\).*?= .*?found = ((?:count_word \w+ ∷ )+)\[\]", text(FOUND)).groups()
+    """The two words by their turn in the list of the clause for `(Err bad)`."""
+    bad, told = re.search(r"\(Err (\w+)\).*?= .*?found = ((?:count_word [\w.]+ ∷ )+)\[\]", text(FOUND)).groups()
     told = told.replace("count_word ", "").split(" ∷ ")[:-1]
-    return {"FOUND_ITEM": told.index(item), "FOUND_STYLE_WORD": told.index(word), "FOUND_WORDS": len(told)}
+    return {"FOUND_ITEM": told.index(bad + ".item"), "FOUND_STYLE_WORD": told.index(bad + ".word"), "FOUND_WORDS": len(told)}
 
 
 def tags():

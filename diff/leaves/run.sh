@@ -19,8 +19,8 @@ cat > "$work/crates/leaves/src/lib.rt" <<'RATTLE'
 #![tactic(auto)]
 
 use util::eighths::Count;
-use util::math::MaybeF32;
-use util::{bits, eighths, math, sys};
+use util::math::MaybeMath;
+use util::{bits, eighths, sys};
 
 #[unsafe(no_mangle)]
 pub extern "C" fn leaf_max(a: f32, b: f32) -> f32 {
@@ -47,47 +47,30 @@ pub extern "C" fn leaf_to_word(x: f32) -> u32 {
     bits::to_word(x)
 }
 
-fn given(present: bool, x: f32) -> MaybeF32 {
-    if present {
-        return MaybeF32::Some(x);
-    }
-    MaybeF32::None
-}
-
 #[unsafe(no_mangle)]
 pub extern "C" fn leaf_clamp(x: f32, has_min: bool, min: f32, has_max: bool, max: f32) -> f32 {
-    let low = given(has_min, min);
-    let high = given(has_max, max);
-    math::clamp(x, low, high)
+    let low = if has_min { Some(min) } else { None };
+    let high = if has_max { Some(max) } else { None };
+    x.maybe_clamp(low, high)
 }
 
 // 0: not whole; n + 2 ^ 32: n eighths; n + 2 ^ 33: -n eighths.
 #[unsafe(no_mangle)]
 pub extern "C" fn leaf_to_eighths(x: f32) -> u64 {
-    let count = eighths::to_eighths(x);
-    match count {
-        Count::NotWhole => 0,
-        Count::Whole(negative, n) => {
-            if negative {
-                return n | 8589934592;
-            }
-            n | 4294967296
-        }
+    match eighths::to_eighths(x) {
+        None => 0,
+        Some(Count { negative: true, size }) => size | 8589934592,
+        Some(Count { negative: false, size }) => size | 4294967296,
     }
 }
 
 // 2 ^ 32: absent; else the float's word.
 #[unsafe(no_mangle)]
-pub extern "C" fn leaf_from_eighths(negative: bool, n: u64) -> u64 {
-    let float = eighths::from_eighths(negative, n);
-    match float {
-        MaybeF32::None => 4294967296,
-        MaybeF32::Some(x) => wide(bits::to_word(x)),
+pub extern "C" fn leaf_from_eighths(negative: bool, size: u64) -> u64 {
+    match eighths::from_eighths(Count { negative, size }) {
+        None => 4294967296,
+        Some(x) => u64::from(bits::to_word(x)),
     }
-}
-
-fn wide(w: u32) -> u64 {
-    w as u64
 }
 RATTLE
 

@@ -30,7 +30,7 @@ cat > "$work/crates/statics/src/lib.rt" <<'RATTLE'
 use geometry::{Line, Rect, Size};
 use oof_axis::resolve_static_offset;
 use style::alignment::AlignItems;
-use tree::layout::{Aligned, AxisStaticPosition};
+use tree::layout::AxisStaticPosition;
 use tree_record::candidate::{CANDIDATE_WORDS, candidate_at};
 use tree_record::codes::{edge_code, safety_code};
 use util::bits::to_word;
@@ -45,23 +45,15 @@ pub extern "C" fn static_align(
     is_rtl: bool,
     out: &mut [u32; 5],
 ) -> u32 {
-    let area = Line {
-        start: start,
-        end: end,
-    };
-    let aligned = AxisStaticPosition::from_alignment(AlignItems::from_codes(keyword, safety), area, is_rtl);
-    match aligned {
-        Aligned::Refused(refusal) => refusal.number(),
-        Aligned::At(place) => {
-            let align = place.align;
-            let edge = align.keyword;
-            let how = align.safety;
-            let fallback = align.fallback;
+    let area = Line { start, end };
+    match AxisStaticPosition::from_alignment(AlignItems::from_codes(keyword, safety), area, is_rtl) {
+        Err(refusal) => u32::from(refusal),
+        Ok(place) => {
             out[0] = to_word(place.area.start);
             out[1] = to_word(place.area.end);
-            out[2] = edge_code(edge);
-            out[3] = safety_code(how);
-            out[4] = edge_code(fallback);
+            out[2] = edge_code(place.align.keyword);
+            out[3] = safety_code(place.align.safety);
+            out[4] = edge_code(place.align.fallback);
             0
         }
     }
@@ -79,19 +71,14 @@ pub extern "C" fn static_offset(
     bottom: f32,
     out: &mut [u32; 2],
 ) {
-    let c = candidate_at(candidate, 0);
-    let place = c.place;
-    let size = Size {
-        width: width,
-        height: height,
-    };
+    let place = candidate_at(candidate, 0).place;
     let margin = Rect {
-        left: left,
-        right: right,
-        top: top,
-        bottom: bottom,
+        left,
+        right,
+        top,
+        bottom,
     };
-    let at = resolve_static_offset(place, size, margin);
+    let at = resolve_static_offset(place, Size { width, height }, margin);
     out[0] = to_word(at.x);
     out[1] = to_word(at.y);
 }

@@ -24,33 +24,35 @@ HALVES = f'halves free a = cond (lt free 0f && a.inline) {NEGATIVE} {HALF}'
 
 # ---- pieces of the code
 
-def line(start, end, indent): return f'Line {{\n{" " * (indent + 4)}start: {start},\n{" " * (indent + 4)}end: {end},\n{" " * indent}}}'
-def block_line(start, end): return line(start, end, 16)
+def field(name, value): return name if value == name else f'{name}: {value}'
+def line(start, end, indent): return f'Line {{\n{" " * (indent + 4)}{field("start", start)},\n{" " * (indent + 4)}{field("end", end)},\n{" " * indent}}}'
+def block_line(start, end): return line(start, end, 12)
 def arm(name, value): return f'AlignmentSafety::{name} => {value},'
-AT_START, AT_END = 'MaybeF32::None => imcb.start + margin.start,', 'MaybeF32::Some(_) => imcb.end - size - margin.end,'
-AUTO_PLACE = '                    imcb.start + margin.start\n'
-ALIGNED = 'let edge = alignment.physical_edge(self);\n'
-ALIGN_HERE = f'{{\nlet alignment = self.alignment;\n{ALIGNED}self.self_aligned(imcb, outer, edge) + margin.start\n}}'
-TWO, FROM, TO = 'MaybeF32::Some(end) => ' + block_line('start', 'self.size - end'), 'MaybeF32::None => ' + block_line('start', 'self.size'), 'MaybeF32::Some(end) => ' + block_line('0.0', 'self.size - end')
+AT_END = '(None, Some(_)) => imcb.end - size - margin.end,'
+# a lone start inset, and an auto margin between two, have one arm
+AT_BLOCK = '(Some(_), _) => imcb.start + margin.start,'
+def at_start(value): return f'(Some(_), None) => {value},\n            (Some(_), Some(_)) => imcb.start + margin.start,'
+def at_auto(value): return f'(Some(_), None) => imcb.start + margin.start,\n            (Some(_), Some(_)) => {value},'
+TOLD = 'self.alignment.physical_edge(self)'
+ALIGN_HERE = f'self.self_aligned(imcb, outer, {TOLD}) + margin.start'
+ALIGNED = 'self.self_aligned(imcb, outer, edge) + margin.start'
+TWO, FROM, TO = '(Some(start), Some(end)) => ', '(Some(start), None) => ', '(None, Some(end)) => '
+BETWEEN_EDGES, FROM_EDGE, TO_EDGE = f'{TWO}{block_line("start", "self.size - end")}', f'{FROM}{block_line("start", "self.size")}', f'{TO}{block_line("0.0", "self.size - end")}'
+BY_DIRECTION = '(Some(_), Some(_)) | (None, None) => self.reversed,'
 KEPT = '''{
-                if outer <= imcb.end - imcb.start {
-                    return align_in_line(imcb, outer, edge);
+                if outer <= size || self.alignment == OofAlignment::Normal {
+                    align_in_line(imcb, outer, edge)
+                } else {
+                    self.kept_within(self.overflow_limit(imcb), imcb, outer, edge)
                 }
-                if alignment.is_normal() {
-                    return align_in_line(imcb, outer, edge);
-                }
-                let limit = self.overflow_limit(imcb);
-                self.kept_within(limit, imcb, outer, edge)
             }'''
-AT_SAFE = 'return align_in_line(imcb, outer, start);'
-AT_STATIC_SAFE = 'return align_in_line(imcb, outer, start_edge);'
-IF_OVER = 'if outer > imcb.end - imcb.start {\n                    '
-CODE_STATIC = 'align_in_line(area, outer, edge)'
-CODE_STATIC_SAFE = f'{{\n                {IF_OVER}{AT_STATIC_SAFE}\n                }}\n                {CODE_STATIC}\n            }}'
-STATIC_EDGE = 'let edge = align.keyword;\n        let safety'
-LEFTWARDS, RIGHTWARDS, EVEN = line('free', '0.0', 16), line('0.0', 'free', 12), line('free / 2.0', 'free / 2.0', 8)
+AS_TOLD, FLUSH = 'align_in_line(imcb, outer, edge)', 'align_in_line(imcb, outer, self.start_edge())'
+def if_over(size, value): return f'AlignmentSafety::Safe if outer > {size} => {{\n                {value}\n            }}'
+AT_SAFE, AT_STATIC_SAFE = if_over('size', FLUSH), if_over('imcb.end - imcb.start', FLUSH)
+CODE_STATIC = 'align_in_line(self.place.area, outer, self.place.align.keyword)'
+HALVED, LEFTWARDS, RIGHTWARDS = line('free / 2.0', 'free / 2.0', 12), line('free', '0.0', 12), line('0.0', 'free', 12)
 KEPT_WITHIN = 'sys::f32_max(sys::f32_min(start, limit.end - outer), limit.start)'
-LIMIT_LEFT, LIMIT_RIGHT = line('-1.0 / 0.0', 'end', 16), line('start', '1.0 / 0.0', 12)
+LIMIT_LEFT, LIMIT_RIGHT = line('f32::NEG_INFINITY', 'end', 12), line('start', 'f32::INFINITY', 12)
 USED = 'Axis.{from_resolved, '
 
 # a static position's box aligned by another rule, safe or not
@@ -68,7 +70,7 @@ FROM_START = '(record { start = zero_exact; end = widen (omega arith) (dbl_exact
 TO_END = '(record { start = widen (omega arith) (sub_exact hw (dbl_exact rest (omega arith)) (omega arith)); end = widen (omega arith) hw })'
 SPACE = 'span (block a) ⊖ (or_zero a.margin.start ⊕ or_zero a.margin.end)'
 SPACE_N = 'sub_n (span_n (block_n σ α)) (add_n (or_zero_n σ.margin_start α.margin.start) (or_zero_n σ.margin_end α.margin.end))'
-IS_NORMAL = 'OofAlignment::Normal => true,\n            OofAlignment::Stretch => false,\n            '
+UNLIMITED = 'self.alignment == OofAlignment::Normal'
 LIMITED_N = ('limited_n false reversed', 'abbrev pub self_n')
 OPEN = 'cond scrolls (cond reversed (inf true to end) (start to inf false)) (start to end)'
 LIMITED_EXACT = ('  limited_exact false r', '  -- ---- the box in the block')
@@ -76,8 +78,7 @@ LIMITED_EXACT = ('  limited_exact false r', '  -- ---- the box in the block')
 # Of a misreading that only a law on quarters refuses, the integers of an axis, and the proof that they are its numbers, are a third place to be
 # misread alike. What has no part in those laws is taken away before they are asked: the code, once it was held to the definition, and
 # what speaks of mirror images, which many a misreading breaks too.
-NO_CODE = [(CODE, ('// ---- static offsets', None), '')] + [
-    (f'oof_axis/proofs/{n}', None, None) for n in ('OofAlignment', 'OofAxis', 'align_in_line', 'centered_block', 'offset_edge', 'repaired', 'resolve_static_offset', 'resolve_static_offset_axis', 'static_block')]
+NO_CODE = [(CODE, ('// ---- static offsets', None), '')]
 NO_MIRROR = [(f'mirror_axis/proofs/{n}.antt', None, None) for n in ('FlipBlock', 'FlipPlace', 'Offset', 'Facing', 'Examples', 'Opposite')] + [
     ('mirror_axis/proofs/Lib.antt', ('pub mod FlipBlock', None), 'pub mod FlipMargins\npub mod Law\n'),
     ('mirror_axis/proofs/FlipMargins.antt', ('use Rattle.mirror_axis.proofs.FlipBlock', '-- ---- with both insets'), '\n'),
@@ -137,71 +138,69 @@ EDITS = [
     # one inset
     ('lone start inset: the end margin', LAWS, [
         (AXIS, LONE_START + 'l.start ⊕ m.start', LONE_START + 'l.start ⊕ m.end'),
-        (CODE, AT_START, 'MaybeF32::None => imcb.start + margin.end,')]),
+        (CODE, AT_BLOCK, at_start('imcb.start + margin.end'))]),
     ('lone end inset: the start margin', LAWS, [
         (AXIS, LONE_END + 'l.end ⊖ size ⊖ m.end', LONE_END + 'l.end ⊖ size ⊖ m.start'),
-        (CODE, AT_END, 'MaybeF32::Some(_) => imcb.end - size - margin.start,')]),
+        (CODE, AT_END, '(None, Some(_)) => imcb.end - size - margin.start,')]),
     ('lone start inset: margin ignored', LAWS, [
         (AXIS, LONE_START + 'l.start ⊕ m.start', LONE_START + 'l.start'),
-        (CODE, AT_START, 'MaybeF32::None => imcb.start,')]),
+        (CODE, AT_BLOCK, at_start('imcb.start'))]),
     ('lone end inset: margin ignored', LAWS, [
         (AXIS, LONE_END + 'l.end ⊖ size ⊖ m.end', LONE_END + 'l.end ⊖ size'),
-        (CODE, AT_END, 'MaybeF32::Some(_) => imcb.end - size,')]),
+        (CODE, AT_END, '(None, Some(_)) => imcb.end - size,')]),
     ('lone start inset: centered in its block', LAWS, [
         (AXIS, LONE_START + 'l.start ⊕ m.start', LONE_START + f'align_in l {BOX} Center ⊕ m.start'),
-        (CODE, AT_START, 'MaybeF32::None => align_in_line(imcb, outer, AxisStaticEdge::Center) + margin.start,')]),
+        (CODE, AT_BLOCK, at_start('align_in_line(imcb, outer, AxisStaticEdge::Center) + margin.start'))]),
     ('lone start inset: aligned in its block', LAWS, [
         (AXIS, LONE_START + 'l.start ⊕ m.start', LONE_START + BETWEEN),
-        (CODE, AT_START, f'MaybeF32::None => {ALIGN_HERE}')]),
+        (CODE, AT_BLOCK, at_start(ALIGN_HERE))]),
     ('lone end inset: aligned in its block', LAWS, [
         (AXIS, LONE_END + 'l.end ⊖ size ⊖ m.end', LONE_END + BETWEEN),
-        (CODE, AT_END, f'MaybeF32::Some(_) => {ALIGN_HERE}')]),
+        (CODE, AT_END, f'(None, Some(_)) => {ALIGN_HERE},')]),
     ('lone start inset, right-to-left: from the far edge', LAWS, [
         (AXIS, LONE_START + 'l.start ⊕ m.start', LONE_START + 'cond a.reversed (l.end ⊖ size ⊖ m.end) (l.start ⊕ m.start)'),
-        (CODE, AT_START, 'MaybeF32::None => {\nif self.reversed {\nreturn imcb.end - size - margin.end;\n}\nimcb.start + margin.start\n}')]),
+        (CODE, AT_BLOCK, at_start('if self.reversed { imcb.end - size - margin.end } else { imcb.start + margin.start }'))]),
     ('lone end inset: counted from the start edge', LAWS, [
         (AXIS, 'inset_block None (Some end) a = 0f to a.size ⊖ end', 'inset_block None (Some end) a = 0f to end'),
-        (CODE, TO, 'MaybeF32::Some(end) => ' + block_line('0.0', 'end'))]),
+        (CODE, TO_EDGE, TO + block_line('0.0', 'end'))]),
     ('lone start inset: block is the area', LAWS, [
         (AXIS, 'inset_block (Some start) None a = start to a.size', 'inset_block (Some start) None a = 0f to a.size'),
-        (CODE, FROM, 'MaybeF32::None => ' + block_line('0.0', 'self.size'))]),
+        (CODE, FROM_EDGE, '(Some(_), None) => ' + block_line('0.0', 'self.size'))]),
     ('lone end inset: block is the area', LAWS, [
         (AXIS, 'inset_block None (Some end) a = 0f to a.size ⊖ end', 'inset_block None (Some end) a = 0f to a.size'),
-        (CODE, TO, 'MaybeF32::Some(end) => ' + block_line('0.0', 'self.size'))]),
+        (CODE, TO_EDGE, '(None, Some(_)) => ' + block_line('0.0', 'self.size'))]),
     # two insets
     ('two insets: block is the area', LAWS, [
         (AXIS, 'inset_block (Some start) (Some end) a = start to a.size ⊖ end', 'inset_block (Some start) (Some end) a = 0f to a.size'),
-        (CODE, TWO, 'MaybeF32::Some(end) => ' + block_line('0.0', 'self.size'))]),
+        (CODE, BETWEEN_EDGES, '(Some(_), Some(_)) => ' + block_line('0.0', 'self.size'))]),
     ('two insets: end inset as a position', LAWS, [
         (AXIS, 'inset_block (Some start) (Some end) a = start to a.size ⊖ end', 'inset_block (Some start) (Some end) a = start to end'),
-        (CODE, TWO, 'MaybeF32::Some(end) => ' + block_line('start', 'end'))]),
+        (CODE, BETWEEN_EDGES, TWO + block_line('start', 'end'))]),
     ('two insets: exchanged', LAWS, [
         (AXIS, 'inset_block (Some start) (Some end) a = start to a.size ⊖ end', 'inset_block (Some start) (Some end) a = end to a.size ⊖ start'),
-        (CODE, TWO, 'MaybeF32::Some(end) => ' + block_line('end', 'self.size - start'))]),
+        (CODE, BETWEEN_EDGES, TWO + block_line('end', 'self.size - start'))]),
     ('block never repaired', LAWS, [
         (AXIS, BLOCK, 'block a = inset_block a.inset.start a.inset.end a'),
-        (CODE, 'repaired(startweaker, raw)', 'raw')]),
+        (CODE, 'repaired(self.start_is_weaker(), self.inset_block())', 'self.inset_block()')]),
     ('weaker edge: always right', LAWS, [
         (AXIS, 'start_is_weaker (Some start) (Some end) a = a.reversed', 'start_is_weaker (Some start) (Some end) a = false'),
         (AXIS, 'start_is_weaker None (Some end) a = true', 'start_is_weaker None (Some end) a = false'),
         (AXIS, 'start_is_weaker None None a = a.reversed', 'start_is_weaker None None a = false'),
-        (CODE, 'MaybeF32::Some(_) => start_is_end,', 'MaybeF32::Some(_) => false,'),
-        (CODE, 'MaybeF32::Some(_) => true,', 'MaybeF32::Some(_) => false,'),
-        (CODE, 'MaybeF32::None => start_is_end,', 'MaybeF32::None => false,')]),
+        (CODE, '(None, Some(_)) => true,', '(None, Some(_)) => false,'),
+        (CODE, BY_DIRECTION, BY_DIRECTION.replace('self.reversed', 'false'))]),
     ('weaker edge: start by direction', LAWS, [
         (AXIS, '{Bool, true, false, cond, ', '{Bool, true, false, not, cond, '),
         (AXIS, 'start_is_weaker (Some start) (Some end) a = a.reversed', 'start_is_weaker (Some start) (Some end) a = not a.reversed'),
         (AXIS, 'start_is_weaker None None a = a.reversed', 'start_is_weaker None None a = not a.reversed'),
-        (CODE, 'let start_is_end = self.reversed;', 'let start_is_end = !self.reversed;')]),
+        (CODE, BY_DIRECTION, BY_DIRECTION.replace('self', '!self'))]),
     ('weaker edge with one inset: the inset side', LAWS, [
         (AXIS, 'start_is_weaker (Some start) None a = false', 'start_is_weaker (Some start) None a = true'),
         (AXIS, 'start_is_weaker None (Some end) a = true', 'start_is_weaker None (Some end) a = false'),
-        (CODE, 'MaybeF32::Some(_) => true,', 'MaybeF32::Some(_) => false,'),
-        (CODE, 'MaybeF32::None => false,', 'MaybeF32::None => true,')]),
+        (CODE, '(None, Some(_)) => true,', '(None, Some(_)) => false,'),
+        (CODE, '(Some(_), None) => false,', '(Some(_), None) => true,')]),
     ('closed block: in the middle', LAWS, [
         (AXIS, CLOSED, f'(cond startWeaker {MIDDLE} {MIDDLE})'),
-        (CODE, line('raw.end', 'raw.end', 12), line('(raw.start + raw.end) / 2.0', '(raw.start + raw.end) / 2.0', 12)),
-        (CODE, line('raw.start', 'raw.start', 8), line('(raw.start + raw.end) / 2.0', '(raw.start + raw.end) / 2.0', 8))]),
+        (CODE, 'if startweaker { raw.end } else { raw.start }', 'if startweaker { (raw.start + raw.end) / 2.0 } else { (raw.start + raw.end) / 2.0 }')]),
     # alignment
     ('end aligned as start', LAWS, [
         (AXIS, f'align_edge align.End a = {IS_END}', f'align_edge align.End a = {IS_START}'),
@@ -217,18 +216,19 @@ EDITS = [
         (CODE, '{◌≡◌, not, ', '{◌≡◌, false, not, '),
         (CODE, 'result ≡ start_edge self.reversed', 'result ≡ start_edge false'),
         (CODE, 'result ≡ end_edge self.reversed', 'result ≡ end_edge false'),
-        (CODE, 'return AxisStaticEdge::End;', 'return AxisStaticEdge::START;'),
-        (CODE, 'return AxisStaticEdge::Start;', 'return AxisStaticEdge::End;'),
-        (CODE, 'AxisStaticEdge::START', 'AxisStaticEdge::Start'),
-        (CODE, 'let start_is_end = self.reversed;', 'let start_is_end = false;')]),
+        (CODE, 'AxisStaticEdge::start(self.reversed)', 'AxisStaticEdge::start(false)'),
+        (CODE, 'AxisStaticEdge::end(self.reversed)', 'AxisStaticEdge::end(false)'),
+        (CODE, BY_DIRECTION, BY_DIRECTION.replace('self.reversed', 'false'))]),
     ('stretch aligned as center', LAWS, [
         (AXIS, f'align_edge align.Stretch a = {IS_START}', 'align_edge align.Stretch a = Center'),
-        (CODE, 'OofAlignment::Stretch => axis.start_edge(),', 'OofAlignment::Stretch => AxisStaticEdge::Center,')]),
+        (CODE, 'OofAlignment::Normal | OofAlignment::Stretch | OofAlignment::Start => axis.start_edge(),\n            OofAlignment::Center',
+            'OofAlignment::Normal | OofAlignment::Start => axis.start_edge(),\n            OofAlignment::Stretch | OofAlignment::Center')]),
     ('normal aligned as end', LAWS, [
         (AXIS, f'align_edge align.Normal a = {IS_START}', f'align_edge align.Normal a = {IS_END}'),
-        (CODE, 'OofAlignment::Normal => axis.start_edge(),', 'OofAlignment::Normal => axis.end_edge(),')]),
+        (CODE, 'OofAlignment::Normal | OofAlignment::Stretch |', 'OofAlignment::Stretch |'),
+        (CODE, 'OofAlignment::End => axis.end_edge(),', 'OofAlignment::Normal | OofAlignment::End => axis.end_edge(),')]),
     ('center in the area', LAWS, [
-        (AXIS, '-- one inset: at that inset', '''abbrev pub align_line : OofAlignment → OofAxis → Line → Line
+        (AXIS, '-- one inset: at that inset', '''abbrev pub align_line : OofAlignment → OofAxis → Line Float → Line Float
 align_line align.Normal a l = l
 align_line align.Stretch a l = l
 align_line align.Start a l = l
@@ -238,54 +238,50 @@ align_line align.End a l = l
 -- one inset: at that inset'''),
         (AXIS, f'({BETWEEN})', f'(self_aligned a.safety a (align_line a.alignment a l) {BOX} (align_edge a.alignment a) ⊕ m.start)'),
         (CODE, USED, f'{USED}align_line, '),
-        (CODE, '    fn no_auto_margin(self)', '''    fn align_line(self, imcb: Line) -> Line
+        (CODE, '    fn no_auto_margin(self)', '''    fn align_line(self, imcb: Line<f32>) -> Line<f32>
         ensures { result ≡ align_line self.alignment self imcb }
     {
-        let alignment = self.alignment;
-        match alignment {
-            OofAlignment::Normal => imcb,
-            OofAlignment::Stretch => imcb,
-            OofAlignment::Start => imcb,
+        match self.alignment {
+            OofAlignment::Normal | OofAlignment::Stretch | OofAlignment::Start | OofAlignment::End => imcb,
             OofAlignment::Center => Line { start: 0.0, end: self.size },
-            OofAlignment::End => imcb,
         }
     }
 
     fn no_auto_margin(self)'''),
-        (CODE, 'return self.self_aligned(imcb, outer, edge) + margin.start;', 'let line = self.align_line(imcb);\nreturn self.self_aligned(line, outer, edge) + margin.start;')]),
+        (CODE, ALIGNED, 'self.self_aligned(self.align_line(imcb), outer, edge) + margin.start')]),
     ('alignment: border box, margins left out', LAWS, [
         (AXIS, BOX, 'size', 2),
-        (CODE, '        let outer = size + margin.start + margin.end;\n        let inset', '        let outer = size;\n        let inset')]),
+        (CODE, '        let outer = size + margin.start + margin.end;\n        match (self.inset', '        let outer = size;\n        match (self.inset')]),
     ('alignment: start margin counted once more', LAWS, [
         (AXIS, f'({BETWEEN})', f'({BETWEEN} ⊕ m.start)'),
-        (CODE, 'return self.self_aligned(imcb, outer, edge) + margin.start;', 'return self.self_aligned(imcb, outer, edge) + margin.start + margin.start;')]),
+        (CODE, ALIGNED, f'{ALIGNED} + margin.start')]),
     # safety
     ('safe: always at the start', LAWS, [
         (AXIS, SAFE, f'self_aligned Safe a l outer edge = align_in l outer (cond (lt (span l) outer) ({IS_START}) ({IS_START}))'),
-        (CODE, f'{AT_SAFE}\n                }}\n                align_in_line(imcb, outer, edge)', f'{AT_SAFE}\n                }}\n                align_in_line(imcb, outer, start)')]),
+        (CODE, arm('Safe', AS_TOLD), arm('Safe', FLUSH))]),
     ('safe: never at the start', LAWS, [
         (AXIS, SAFE, 'self_aligned Safe a l outer edge = align_in l outer (cond (lt (span l) outer) edge edge)'),
-        (CODE, AT_SAFE, 'return align_in_line(imcb, outer, edge);')]),
+        (CODE, AT_SAFE, if_over('size', AS_TOLD))]),
     ('safe: at the physical start', LAWS, [
         (AXIS, SAFE, 'self_aligned Safe a l outer edge = align_in l outer (cond (lt (span l) outer) Start edge)'),
-        (CODE, AT_SAFE, 'return align_in_line(imcb, outer, AxisStaticEdge::Start);')]),
+        (CODE, AT_SAFE, if_over('size', 'align_in_line(imcb, outer, AxisStaticEdge::Start)'))]),
     ('safe: at the start of the limit', LAWS, [
         (AXIS, SAFE, f'self_aligned Safe a l outer edge = cond (lt (span l) outer) (align_in (smaller l.start 0f to larger l.end a.size) outer ({IS_START})) (align_in l outer edge)'),
-        (CODE, AT_SAFE, 'let bounds = Line {\nstart: sys::f32_min(imcb.start, 0.0),\nend: sys::f32_max(imcb.end, self.size),\n};\nreturn align_in_line(bounds, outer, start);')]),
+        (CODE, AT_SAFE, if_over('size', f'let bounds = {line("sys::f32_min(imcb.start, 0.0)", "sys::f32_max(imcb.end, self.size)", 16)};\n                align_in_line(bounds, outer, self.start_edge())'))]),
     ('unsafe as default', LAWS, [
         (AXIS, 'self_aligned Unsafe a l outer edge = align_in l outer edge', f'self_aligned Unsafe a l outer edge = {DEFAULT}'),
-        (CODE, arm('Unsafe', 'align_in_line(imcb, outer, edge)'), f'AlignmentSafety::Unsafe => {KEPT}')]),
+        (CODE, arm('Unsafe', AS_TOLD), f'AlignmentSafety::Unsafe => {KEPT}')]),
     ('default as unsafe', LAWS, [
         (AXIS, f'self_aligned Default a l outer edge ={DEFAULT}', 'self_aligned Default a l outer edge = align_in l outer edge'),
-        (CODE, f'AlignmentSafety::Default => {KEPT}', arm('Default', 'align_in_line(imcb, outer, edge)'))]),
+        (CODE, f'AlignmentSafety::Default => {KEPT}', arm('Default', AS_TOLD))]),
     # the limit
     ('limit for normal', LAWS, [
         (AXIS, 'is_normal align.Normal = true', 'is_normal align.Normal = false'),
-        (CODE, 'OofAlignment::Normal => true,', 'OofAlignment::Normal => false,')]),
+        (CODE, f' || {UNLIMITED}', '')]),
     ('limit: open at both ends', LAWS, [
         (AXIS, LIMIT, 'cond a.scrolls (cond a.reversed (inf true to inf false) (inf true to inf false)) (start to end)'),
-        (CODE, LIMIT_LEFT, line('-1.0 / 0.0', '1.0 / 0.0', 16)),
-        (CODE, LIMIT_RIGHT, line('-1.0 / 0.0', '1.0 / 0.0', 12))]),
+        (CODE, LIMIT_LEFT, line('f32::NEG_INFINITY', 'f32::INFINITY', 12)),
+        (CODE, LIMIT_RIGHT, line('f32::NEG_INFINITY', 'f32::INFINITY', 12))]),
     ('too large for the limit: as told', LAWS, [
         (AXIS, TOO_LARGE, '(align_in l outer edge)'),
         (CODE, 'align_in_line(limit, outer, self.start_edge())', 'align_in_line(imcb, outer, edge)')]),
@@ -311,12 +307,11 @@ align_line align.End a l = l
         (AXIS, 'static_block End static areaSize = 0f to static.end', 'static_block End static areaSize = static.start to areaSize'),
         (CODE, line('0.0', 'area.end', 8), line('area.start', 'size', 8))]),
     ('static: aligned in the block', LAWS, static_as('align_in l outer a.place.align.keyword') + [
-        (CODE, arm('Default', CODE_STATIC), arm('Default', 'align_in_line(imcb, outer, edge)')),
-        (CODE, arm('Unsafe', CODE_STATIC), arm('Unsafe', 'align_in_line(imcb, outer, edge)')),
-        (CODE, f'{AT_STATIC_SAFE}\n                }}\n                {CODE_STATIC}', 'return align_in_line(imcb, outer, edge);\n                }\n                align_in_line(imcb, outer, edge)')]),
+        (CODE, CODE_STATIC, 'align_in_line(imcb, outer, self.place.align.keyword)'),
+        (CODE, AT_STATIC_SAFE, if_over('imcb.end - imcb.start', 'align_in_line(imcb, outer, self.place.align.keyword)'))]),
     ('static: aligned by justify-self', LAWS, static_as('align_in a.place.area outer (align_edge a.alignment a)') + [
-        (CODE, STATIC_EDGE, f'let alignment = self.alignment;\n{ALIGNED}        let safety'),
-        (CODE, AT_STATIC_SAFE, f'return {CODE_STATIC};')]),
+        (CODE, AT_STATIC_SAFE, if_over('imcb.end - imcb.start', CODE_STATIC)),
+        (CODE, CODE_STATIC, CODE_STATIC.replace('self.place.align.keyword', TOLD), 2)]),
     ('static: edge by direction', LAWS, [
         (AXIS, '-- no insets: the margin box aligned', '''abbrev pub by_direction : AxisStaticEdge → OofAxis → AxisStaticEdge
 by_direction Start a = start_edge a.reversed
@@ -336,62 +331,52 @@ by_direction End a = end_edge a.reversed
     }
 
     fn no_auto_margin(self)'''),
-        (CODE, STATIC_EDGE, 'let said = align.keyword;\nlet edge = self.by_direction(said);\n        let safety'),
-        (CODE, AT_STATIC_SAFE, f'return {CODE_STATIC};')]),
+        (CODE, AT_STATIC_SAFE, if_over('imcb.end - imcb.start', CODE_STATIC)),
+        (CODE, CODE_STATIC, CODE_STATIC.replace('self.place.align.keyword', 'self.by_direction(self.place.align.keyword)'), 2)]),
     ('static: margin ignored', LAWS, [
         (AXIS, f'static_aligned a.place.align.safety a l {BOX} ⊕ m.start', f'static_aligned a.place.align.safety a l {BOX}'),
         (CODE, 'self.static_aligned(imcb, outer) + margin.start', 'self.static_aligned(imcb, outer)')]),
     ('static safe: always at the start', LAWS, [
         (AXIS, STATIC_SAFE, f'cond (lt (span l) outer) ({STATIC_START}) ({STATIC_START})'),
-        (CODE, f'                {CODE_STATIC}\n            }}', '                align_in_line(imcb, outer, start_edge)\n            }')]),
+        (CODE, f'_ => {CODE_STATIC}', f'AlignmentSafety::Safe => {FLUSH},\n            _ => {CODE_STATIC}')]),
     ('static safe: never at the start', LAWS, [
         (AXIS, STATIC_SAFE, f'cond (lt (span l) outer) ({STATIC}) ({STATIC})'),
-        (CODE, AT_STATIC_SAFE, f'return {CODE_STATIC};')]),
+        (CODE, AT_STATIC_SAFE, if_over('imcb.end - imcb.start', CODE_STATIC))]),
     ('static safe: at the physical start', LAWS, [
         (AXIS, STATIC_SAFE, f'cond (lt (span l) outer) (align_in l outer Start) ({STATIC})'),
-        (CODE, AT_STATIC_SAFE, 'return align_in_line(imcb, outer, AxisStaticEdge::Start);')]),
+        (CODE, AT_STATIC_SAFE, if_over('imcb.end - imcb.start', 'align_in_line(imcb, outer, AxisStaticEdge::Start)'))]),
     ('static safe: where it overflows the static area', LAWS, [
         (AXIS, STATIC_SAFE, f'cond (lt (span a.place.area) outer) (align_in a.place.area outer ({IS_START})) ({STATIC})'),
-        (CODE, IF_OVER + AT_STATIC_SAFE, 'if outer > area.end - area.start {\n                    return align_in_line(area, outer, start_edge);')]),
+        (CODE, AT_STATIC_SAFE, if_over('self.place.area.end - self.place.area.start', 'align_in_line(self.place.area, outer, self.start_edge())'))]),
     ('static default as safe', LAWS, [
         (AXIS, f'static_aligned Default a l outer = {STATIC}', f'static_aligned Default a l outer = {STATIC_SAFE}'),
-        (CODE, arm('Default', CODE_STATIC), f'AlignmentSafety::Default => {CODE_STATIC_SAFE}')]),
+        (CODE, AT_STATIC_SAFE, f'{AT_STATIC_SAFE}\n            {AT_STATIC_SAFE.replace("Safety::Safe", "Safety::Default")}')]),
     ('static unsafe as safe', LAWS, [
         (AXIS, f'static_aligned Unsafe a l outer = {STATIC}', f'static_aligned Unsafe a l outer = {STATIC_SAFE}'),
-        (CODE, arm('Unsafe', CODE_STATIC), f'AlignmentSafety::Unsafe => {CODE_STATIC_SAFE}')]),
+        (CODE, AT_STATIC_SAFE, f'{AT_STATIC_SAFE}\n            {AT_STATIC_SAFE.replace("Safety::Safe", "Safety::Unsafe")}')]),
     # margins
     ('negative free space: to the other margin', LAWS, [
         (AXIS, NEGATIVE, '(cond a.reversed (0f to free) (free to 0f))'),
-        (CODE, LEFTWARDS, line('0.0', 'FREE', 16)),
+        (CODE, LEFTWARDS, line('0.0', 'FREE', 12)),
         (CODE, RIGHTWARDS, line('free', '0.0', 12)),
         (CODE, 'FREE', 'free')]),
     ('negative free space: not by direction', LAWS, [
         (AXIS, NEGATIVE, '(cond a.reversed (0f to free) (0f to free))'),
-        (CODE, LEFTWARDS, line('0.0', 'free', 16))]),
+        (CODE, LEFTWARDS, RIGHTWARDS)]),
     ('negative free space: halves in the inline axis', LAWS, [
         (AXIS, NEGATIVE, f'(cond a.reversed {HALF} {HALF})'),
-        (CODE, LEFTWARDS, line('free / 2.0', 'free / 2.0', 16)),
-        (CODE, RIGHTWARDS, line('free / 2.0', 'free / 2.0', 12))]),
+        (CODE, LEFTWARDS, HALVED),
+        (CODE, RIGHTWARDS, HALVED)]),
     ('negative free space: block axis as inline', LAWS, [
         (AXIS, HALVES, f'halves free a = cond (lt free 0f) {NEGATIVE} {HALF}'),
-        (CODE, 'if self.overflows_inline(free) {', 'if free < 0.0 {')]),
+        (CODE, 'if !self.overflows_inline(free) {', 'if !(free < 0.0) {')]),
     ('negative free space: 0 and 0', LAWS, [
         (AXIS, NEGATIVE, '(cond a.reversed (0f to 0f) (0f to 0f))'),
-        (CODE, LEFTWARDS, line('0.0', '0.0', 16)),
+        (CODE, LEFTWARDS, line('0.0', '0.0', 12)),
         (CODE, RIGHTWARDS, line('0.0', '0.0', 12))]),
     ('free space: all to the start margin', LAWS, [
         (AXIS, HALVES, f'halves free a = cond (lt free 0f) (cond a.inline {NEGATIVE} {HALF}) (free to 0f)'),
-        (CODE, ('        if self.overflows_inline(free) {', '    }\n\n    // The margins where both insets are given.'), f'''        if free < 0.0 {{
-            if self.inline {{
-                if end_is_left {{
-                    return {line("free", "0.0", 20)};
-                }}
-                return {line("0.0", "free", 16)};
-            }}
-            return {line("free / 2.0", "free / 2.0", 12)};
-        }}
-        {line("free", "0.0", 8)}
-''')]),
+        (CODE, 'if !self.overflows_inline(free) {\n', f'if !(free < 0.0) {{\n            {line("free", "0.0", 12)}\n        }} else if !self.inline {{\n')]),
     ('lone auto margin: 0', LAWS, [
         (AXIS, 'filled_margins (Some start) None free a = start to free ⊖ start', 'filled_margins (Some start) None free a = start to 0f'),
         (AXIS, 'filled_margins None (Some end) free a = free ⊖ end to end', 'filled_margins None (Some end) free a = 0f to end'),
@@ -406,35 +391,29 @@ by_direction End a = end_edge a.reversed
         (AXIS, 'filled_margins (Some start) None free a = start to free ⊖ start', 'filled_margins (Some start) None free a = start to larger (free ⊖ start) 0f'),
         (CODE, 'end: free - start,', 'end: sys::f32_max(free - start, 0.0),')]),
     ('auto margins also with one inset', LAWS, [
-        (AXIS, 'both_insets a = present a.inset.start && present a.inset.end', 'both_insets a = present a.inset.start || present a.inset.end'),
-        (CODE, 'from.is_some() && to.is_some()', 'from.is_some() || to.is_some()')]),
+        (AXIS, 'both_insets a = is_some a.inset.start && is_some a.inset.end', 'both_insets a = is_some a.inset.start || is_some a.inset.end'),
+        (CODE, 'self.inset.start.is_some() && self.inset.end.is_some()', 'self.inset.start.is_some() || self.inset.end.is_some()')]),
     ('auto margins: aligned in the block all the same', LAWS, [
         (AXIS, '\n    (l.start ⊕ m.start)', '\n    (self_aligned a.safety a l (size ⊕ or_zero a.margin.start ⊕ or_zero a.margin.end) (align_edge a.alignment a) ⊕ or_zero a.margin.start)'),
-        (CODE, AUTO_PLACE, f'''let given = self.margin;
-let before = given.start;
-let after = given.end;
-let left = before.unwrap_or(0.0);
-let alignment = self.alignment;
-{ALIGNED}self.self_aligned(imcb, size + left + after.unwrap_or(0.0), edge) + left
-''')]),
+        (CODE, AT_BLOCK, at_auto(f'''{{
+                let left = self.margin.start.unwrap_or(0.0);
+                self.self_aligned(imcb, size + left + self.margin.end.unwrap_or(0.0), {TOLD}) + left
+            }}'''))]),
     ('auto margins: box at the inset, margin ignored', LAWS, [
         (AXIS, '\n    (l.start ⊕ m.start)', '\n    l.start'),
-        (CODE, AUTO_PLACE, 'imcb.start\n')]),
+        (CODE, AT_BLOCK, at_auto('imcb.start'))]),
     # automatic sizes
     ('stretch-fit: below 0', LAWS, [
         (AXIS, 'larger (span (block a) ⊖ (or_zero a.margin.start ⊕ or_zero a.margin.end)) 0f', 'span (block a) ⊖ (or_zero a.margin.start ⊕ or_zero a.margin.end)'),
         (CODE, 'sys::f32_max(self.inset_modified_containing_block_size() - margins, 0.0)', 'self.inset_modified_containing_block_size() - margins')]),
     ('stretches with one inset', LAWS, [
-        (AXIS, 'stretches a plain = both_insets a && ', 'stretches a plain = (present a.inset.start || present a.inset.end) && '),
-        (CODE, '{◌≡◌, not, ◌&&◌}', '{◌≡◌, not, ◌&&◌, ◌||◌}'),
-        (CODE, 'self.both_insets() && alignment.stretches', 'self.any_inset() && alignment.stretches'),
+        (AXIS, 'stretches a plain = both_insets a && ', 'stretches a plain = (is_some a.inset.start || is_some a.inset.end) && '),
+        (CODE, '{◌≡◌, not, ◌&&◌, ', '{◌≡◌, not, ◌&&◌, ◌||◌, '),
+        (CODE, 'self.both_insets() && self.alignment.stretches', 'self.any_inset() && self.alignment.stretches'),
         (CODE, '    // Whether an auto size is the stretch-fit size.', '''    fn any_inset(self) -> bool
-        ensures { result ≡ present self.inset.start || present self.inset.end }
+        ensures { result ≡ is_some self.inset.start || is_some self.inset.end }
     {
-        let inset = self.inset;
-        let from = inset.start;
-        let to = inset.end;
-        from.is_some() || to.is_some()
+        self.inset.start.is_some() || self.inset.end.is_some()
     }
 
     // Whether an auto size is the stretch-fit size.''')]),
@@ -448,7 +427,7 @@ let alignment = self.alignment;
     ('static center: the farther edge', QUARTERS, [
         (AXIS, f'{NEARER} (0f to 2f ⊗ center) (areaSize ⊖ 2f ⊗ (areaSize ⊖ center) to areaSize)', f'{NEARER} (areaSize ⊖ 2f ⊗ (areaSize ⊖ center) to areaSize) (0f to 2f ⊗ center)'),
         (CODE, line('0.0', '2.0 * center', 8), line('size - 2.0 * REST', 'size', 8)),
-        (CODE, line('size - 2.0 * rest', 'size', 4), line('0.0', '2.0 * center', 4)),
+        (CODE, line('size - 2.0 * rest', 'size', 8), line('0.0', '2.0 * center', 8)),
         (CODE, 'REST', 'rest'),
         (MODEL, AROUND_N, '(sub_n w (dbl_n (sub_n w c)) toN w) (zero_n toN dbl_n c)'),
         (NUMBERS, AROUND, '(sub_n ω (dbl_n (sub_n ω c)) toN ω) (zero_n toN dbl_n c)', 4),
@@ -456,14 +435,14 @@ let alignment = self.alignment;
     ('static center: the block is the area', QUARTERS, [
         (AXIS, f'{NEARER} (0f to 2f ⊗ center) (areaSize ⊖ 2f ⊗ (areaSize ⊖ center) to areaSize)', f'{NEARER} (0f to areaSize) (0f to areaSize)'),
         (CODE, line('0.0', '2.0 * center', 8), line('0.0', 'size', 8)),
-        (CODE, line('size - 2.0 * rest', 'size', 4), line('0.0', 'size', 4)),
+        (CODE, line('size - 2.0 * rest', 'size', 8), line('0.0', 'size', 8)),
         (MODEL, AROUND_N, '(zero_n toN w) (zero_n toN w)'),
         (NUMBERS, AROUND, '(zero_n toN ω) (zero_n toN ω)', 4),
         (BLOCKS, f'{FROM_START}\n      {TO_END}', '(record { start = zero_exact; end = widen (omega arith) hw })\n      (record { start = zero_exact; end = widen (omega arith) hw })')]),
     ('static center: from the center on', ['oof_axis', ('oof_axis_laws', NO_CODE + NO_MIRROR + AROUND_ALONE)], [
         (AXIS, f'{NEARER} (0f to 2f ⊗ center) (areaSize ⊖ 2f ⊗ (areaSize ⊖ center) to areaSize)', f'{NEARER} (center to areaSize) (center to areaSize)'),
         (CODE, line('0.0', '2.0 * center', 8), line('center', 'size', 8)),
-        (CODE, line('size - 2.0 * rest', 'size', 4), line('center', 'size', 4)),
+        (CODE, line('size - 2.0 * rest', 'size', 8), line('center', 'size', 8)),
         (MODEL, AROUND_N, '(c toN w) (c toN w)'),
         (NUMBERS, AROUND, '(c toN ω) (c toN ω)', 4),
         (BLOCKS, 'LineExact 4 b', 'LineExact 2 b', 5),
@@ -489,7 +468,7 @@ let alignment = self.alignment;
     # default overflow
     ('no limit for stretch', QUARTERS, NO_REACH + [
         (AXIS, 'is_normal align.Stretch = false', 'is_normal align.Stretch = true'),
-        (CODE, (IS_NORMAL, 'OofAlignment::Start => false'), IS_NORMAL.replace('false', 'true')),
+        (CODE, UNLIMITED, f'{UNLIMITED} || {UNLIMITED.replace("Normal", "Stretch")}'),
         (OF_FLOATS, '(k ≡ align.Normal → ⊥) → is_normal k ≡ false', '(k ≡ align.Normal → ⊥) → (k ≡ align.Stretch → ⊥) → is_normal k ≡ false'),
         (OF_FLOATS, 'not_normal align.Normal n = absurd (n refl)', 'not_normal align.Normal n s = absurd (n refl)'),
         (OF_FLOATS, 'not_normal align.Stretch n = refl', 'not_normal align.Stretch n s = absurd (s refl)'),
@@ -498,7 +477,7 @@ let alignment = self.alignment;
         (OF_FLOATS, 'not_normal align.End n = refl', 'not_normal align.End n s = refl')]),
     ('default as safe', QUARTERS, NO_REACH + [
         (AXIS, f'self_aligned Default a l outer edge ={DEFAULT}', SAFE.replace('Safe', 'Default')),
-        (CODE, f'AlignmentSafety::Default => {KEPT}', f'AlignmentSafety::Default => {{\n                {IF_OVER}{AT_SAFE}\n                }}\n                align_in_line(imcb, outer, edge)\n            }}'),
+        (CODE, f'AlignmentSafety::Default => {KEPT}', f'{AT_SAFE.replace("Safety::Safe", "Safety::Default")}\n            {arm("Default", AS_TOLD)}'),
         (MODEL, 'self_n Default σ w l box k = cond (le_n box (span_n l) || is_normal σ.alignment) (align_n l box k) (limited_n σ.scrolls σ.reversed w l box k)', 'self_n Default σ w l box k = align_n l box (cond (lt_n (span_n l) box) (start_of σ.reversed) k)'),
         (PLACES, ('  self_exact Default a k h hw b =', '  static_place_exact :'), SELF_EXACT_SAFE),
         (OF_FLOATS, 'fits_aligned Default a l outer k h = rw h refl', 'fits_aligned Default a l outer k h = rw (fits_not_over outer (span l) h) refl'),
@@ -508,14 +487,14 @@ let alignment = self.alignment;
     ('limit: the block only', QUARTERS, NO_REACH + limits('l.start', 'l.end', 'imcb.start', 'imcb.end', 'l.start', 'l.end', 'l.start', 'l.end', 'h.start', 'h.end')),
     ('limit: never open', QUARTERS, NO_REACH + [
         (AXIS, LIMIT, 'start to end'),
-        (CODE, LIMIT_LEFT, line('start', 'end', 16)),
+        (CODE, LIMIT_LEFT, line('start', 'end', 12)),
         (CODE, LIMIT_RIGHT, line('start', 'end', 12)),
         (MODEL, LIMITED_N, 'limited_n s reversed w l box k = kept_n (limit_n w l) reversed l box k\n\n'),
         (PLACES, OPEN, 'start to end'),
         (PLACES, LIMITED_EXACT, '  limited_exact s r a k e h hw b = rw (← e) (within_exact a k (record { start = low_exact h hw; end = high_exact h hw }) h b)\n\n')]),
     ('limit: open to the right in either direction', QUARTERS, NO_REACH + [
         (AXIS, LIMIT, 'cond a.scrolls (cond a.reversed (start to inf false) (start to inf false)) (start to end)'),
-        (CODE, LIMIT_LEFT, line('start', '1.0 / 0.0', 16)),
+        (CODE, LIMIT_LEFT, line('start', 'f32::INFINITY', 12)),
         (MODEL, 'limited_n true true w l box k = min_n (align_n l box k) (sub_n (limit_n w l).end box)', 'limited_n true true w l box k = max_n (align_n l box k) (limit_n w l).start'),
         (PLACES, OPEN, 'cond scrolls (cond reversed (start to inf false) (start to inf false)) (start to end)'),
         (PLACES, 'limited_exact true true a k e h hw b = open_start a k h b (high_exact h hw)', 'limited_exact true true a k e h hw b = open_end a k h b (low_exact h hw)')]),
@@ -532,7 +511,7 @@ let alignment = self.alignment;
         (PLACES, '\n      (start_exact a hl b)', '\n      (start_exact a h b)')]),
     ('overflow: only the start of the limit kept', QUARTERS, NO_REACH + [
         (AXIS, '(larger (smaller (align_in l outer edge) (lim.end ⊖ outer)) lim.start)', '(larger (align_in l outer edge) lim.start)'),
-        (CODE, f'return {KEPT_WITHIN};', 'return sys::f32_max(start, limit.start);'),
+        (CODE, KEPT_WITHIN, 'sys::f32_max(start, limit.start)'),
         (MODEL, '(max_n (min_n (align_n l box k) (sub_n lim.end box)) lim.start)', '(max_n (align_n l box k) lim.start)'),
         (MODEL, 'limited_n true true w l box k = min_n (align_n l box k) (sub_n (limit_n w l).end box)', 'limited_n true true w l box k = align_n l box k'),
         (PLACES, '(larger_exact (smaller_exact (align_exact k h b) (widen (omega arith) (eighths (sub_exact hl.end b (omega arith))))) (widen', '(larger_exact (align_exact k h b) (widen'),
@@ -544,7 +523,7 @@ let alignment = self.alignment;
         (CODE, ('        if outer <= limit.end - limit.start {', '    }\n\n    // The start of the margin box where both'), f'        let bounds = {line("sys::f32_min(imcb.start, 0.0)", "sys::f32_max(imcb.end, self.size)", 8)};\n        align_in_line(bounds, outer, self.start_edge())\n'),
         (MODEL, LIMITED_N, 'limited_n s reversed w l box k = align_n (limit_n w l) box (start_of reversed)\n\n'),
         (PLACES, ('  within_exact :', '  -- the limit, as'), ''),
-        (PLACES, '{l : Line} {m : LineN} {w box : Float} {ω v : N} (scrolls reversed : Bool) (a : OofAxis) (k : AxisStaticEdge) → a.reversed ≡ reversed → InBlock l m → Exact 4 L w ω', '{l : Line} {m : LineN} {box : Float} {ω v : N} (scrolls reversed : Bool) (a : OofAxis) (k : AxisStaticEdge) → a.reversed ≡ reversed → InBlock l m → Exact 4 L a.size ω'),
+        (PLACES, '{l : Line Float} {m : LineN} {w box : Float} {ω v : N} (scrolls reversed : Bool) (a : OofAxis) (k : AxisStaticEdge) → a.reversed ≡ reversed → InBlock l m → Exact 4 L w ω', '{l : Line Float} {m : LineN} {box : Float} {ω v : N} (scrolls reversed : Bool) (a : OofAxis) (k : AxisStaticEdge) → a.reversed ≡ reversed → InBlock l m → Exact 4 L a.size ω'),
         (PLACES, 'kept_within (limit_of scrolls reversed w l) a l box k', 'kept_within (limit_of scrolls reversed a.size l) a l box k'),
         (PLACES, LIMITED_EXACT, '  unfolding kept_within\n  limited_exact s r a k e h hw b = rw (← e) (start_exact a (record { start = low_exact h hw; end = high_exact h hw }) b)\n\n')]),
 ]

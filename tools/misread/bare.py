@@ -11,6 +11,7 @@ def without_functions(text):
     """The types of a source file: no function, and no name of a `use` that only functions need."""
     text = re.sub(r'(?ms)^(?:#\[[^\n]*\]\n)*(pub )?(fn|impl)\b.*?^}\n', '', text)
     text = re.sub(r'(?m)^(ghost use|//).*\n', '', text)
+    text = re.sub(r'(?m)^#!\[tactic\(.*\)\]$', '#![tactic(auto)]', text)
     body = re.sub(r'(?ms)^use .*?;\n', '', text)
     needed = lambda name: re.search(rf'(?<![:\w]){name.split(" as ")[-1].split("::")[-1]}\b', body)
 
@@ -25,7 +26,7 @@ def without_functions(text):
 def make_bare(copy):
     """Takes the code and its proofs from a copy of the repository, and the samples from the rows, which become three tests."""
     for crate in CRATES:
-        shutil.rmtree(os.path.join(copy, 'crates', crate, 'proofs'))
+        shutil.rmtree(os.path.join(copy, 'crates', crate, 'proofs'), ignore_errors=True)
         for folder, _, files in os.walk(os.path.join(copy, 'crates', crate, 'src')):
             for path in [os.path.join(folder, f) for f in files]:
                 types = without_functions(open(path).read())

@@ -1,7 +1,7 @@
 #!/usr/bin/env python3
 """Misreadings written into definition and code alike, and what the checker then refuses. Run at the root of the repository after a check.
 
-    tools/misread/edits.py [--rewrite] [axis|box] [WORD]
+    tools/misread/edits.py [axis|box] [WORD]
     tools/misread/edits.py --applied                          only tries whether the old texts of all entries stand where they should
 
 tries all of both lists, of one of them, or those whose name has WORD, one after another, in a copy of crates/. An entry of axis_edits.py
@@ -16,9 +16,8 @@ a law whose proof merely no longer fits.
   anew, not those above. Half a minute or more.
 
 Prints, for each, what refuses it, first what is false on the model, then the functions whose proof no longer fits: a changed call or operation asks
-for a changed proof file, which refuses nothing. With --rewrite the proof files of such functions of an axis are taken away, and the check says
-whether what Rattle finds without them shows that the code meets the definition again. No stored sample is asked. Fails where nothing refuses an edit that the model says is
-false."""
+for a changed proof file, which refuses nothing. The functions of an axis have none: what fits is what Rattle finds. No stored sample is asked.
+Fails where nothing refuses an edit that the model says is false."""
 import os
 import pathlib
 import re
@@ -124,9 +123,9 @@ def write(copy, name, edits):
         open(path, 'w').write(text.replace(old, new))
 
 
-def tried(root, copy, again, module, name, crates, edits):
-    """Whether a law refuses the entry, one that is false on the model if that has it; and what became of the functions' proofs."""
-    began, laws, unfit, left = time.time(), [], [], []
+def tried(root, copy, module, name, crates, edits):
+    """Whether a law refuses the entry, one that is false on the model if that has it; and whether the functions are proved."""
+    began, laws, unfit = time.time(), [], []
     write(copy, name, edits)
     for crate in crates:
         if isinstance(crate, tuple):
@@ -134,9 +133,6 @@ def tried(root, copy, again, module, name, crates, edits):
             write(copy, name, more)
         output = asked(copy, crate)
         found, other = laws_and_unfit(copy, crate, output)
-        if again and other:
-            for f in other: shutil.rmtree(os.path.join(copy, 'crates', crate, 'proofs', f.replace('::', '/')), ignore_errors=True)
-            left += laws_and_unfit(copy, crate, asked(copy, crate))[1]
         laws += found
         unfit += other
         if laws: break
@@ -147,10 +143,8 @@ def tried(root, copy, again, module, name, crates, edits):
     false = false_on_model(module, changed, laws) if changed else laws
     said = f'refused by {", ".join(false) or "NO LAW THAT IS FALSE"}' + (' (false on the model)' if changed and false else '')
     if laws != false: said += f', and with it {", ".join(l for l in laws if l not in false)}'
-    fits = ", ".join(unfit) or 'none'
-    if again and unfit: fits += ' (written anew: ' + ('all proved' if not left else f'not {", ".join(left)}') + ')'
-    print(f'{name}: {said if laws else "refused by NOTHING"}; proofs of code that no longer fit: {fits}; {time.time() - began:.0f} s', flush=True)
-    return bool(false), not unfit, not left
+    print(f'{name}: {said if laws else "refused by NOTHING"}; proofs of code that no longer fit: {", ".join(unfit) or "none"}; {time.time() - began:.0f} s', flush=True)
+    return bool(false), not unfit
 
 
 # ---- a box: its laws and rows without the code, then the code
@@ -186,7 +180,7 @@ def tried_box(root, copy, bare_copy, name, crates, edits):
     said = f'refused by {", ".join(false) or "NOTHING THAT IS FALSE"}' + (' (false on the model)' if false else '')
     if len(refused) > len(false): said += f', and with it {", ".join(r for r in refused if r not in false)}'
     print(f'{name}: {said}; proofs of code that no longer fit: {", ".join(unfit) or "none"}; {time.time() - began:.0f} s', *broken, flush=True)
-    return bool(false) and not broken, not unfit, not unfit
+    return bool(false) and not broken, not unfit
 
 
 def applied(root):
@@ -212,8 +206,7 @@ def main():
         wrong = applied(root)
         print(*wrong, f'edits: {len(axis_edits.EDITS) + len(box_edits.EDITS)} misreadings, {len(wrong)} of them with an old text that doesn\'t stand', sep='\n')
         sys.exit(bool(wrong))
-    again, lists = '--rewrite' in words, [(axis, axis_edits), (box, box_edits)]
-    words = [w for w in words if w != '--rewrite']
+    lists = [(axis, axis_edits), (box, box_edits)]
     if words and words[0] in ('axis', 'box'): lists, words = [l for l in lists if l[0].__name__ == words[0]], words[1:]
     chosen = [(module, *e) for module, entries in lists for e in entries.EDITS if not words or words[0] in e[0]]
     if not chosen or len(words) > 1: sys.exit('edits: no misreading of that name')
@@ -225,12 +218,12 @@ def main():
         if copies[1:]:
             bare.make_bare(copies[1])
             if any(refused_without_code(copies[1])): sys.exit('edits: refused without an edit')
-        outcomes = [tried_box(root, *copies, *e[1:]) if e[0] is box else tried(root, copies[0], again, *e) for e in chosen]
+        outcomes = [tried_box(root, *copies, *e[1:]) if e[0] is box else tried(root, copies[0], *e) for e in chosen]
     finally:
         for copy in copies: shutil.rmtree(copy)
-    refused, fit, met = [sum(o[i] for o in outcomes) for i in range(3)]
+    refused, fit = [sum(o[i] for o in outcomes) for i in range(2)]
     print(f'{refused} of {len(chosen)} refused by a law or a row that is false on the model')
-    print(f'{fit} leave every proof of the code as it was' + (f', {met} with proofs written anew' if again else '') + f'; {time.time() - began:.0f} s')
+    print(f'{fit} leave every proof of the code as it was; {time.time() - began:.0f} s')
     sys.exit(refused < len(chosen))
 
 

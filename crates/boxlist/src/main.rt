@@ -6,11 +6,11 @@ use boxlist_print::Listing;
 use std::process::ExitCode;
 
 fn main(rt: HostRuntime) -> ExitCode {
-    match screen_program::run(Listing::Boxes, &mut rt.stdin(), &mut rt.stdout()) {
-        Ok(()) => ExitCode::SUCCESS,
-        Err(failure) => {
-            let _ = eprintln!(rt; "boxlist: {failure}");
-            ExitCode::FAILURE
-        }
-    }
+    screen_program::run_named(
+        "boxlist",
+        Listing::Boxes,
+        &mut rt.stdin(),
+        &mut rt.stdout(),
+        &mut rt.stderr(),
+    )
 }

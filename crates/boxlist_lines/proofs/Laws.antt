@@ -1,4 +1,5 @@
 -- Proofs of the statements of `specs/Laws.antt`. Assumes nothing.
+use Rattle.std.specs.Prelude.{Float}
 use Prim.Native.Nat.{ℕ, ◌+◌, ◌*◌}
 use native.Mathlib.Omega.{arith}
 use mathlib.Core.Path.{◌≡◌, refl, ◌∙◌}
@@ -39,7 +40,7 @@ line_bytes none = refl
 line_bytes (some {c} {cs} e r) =
     rw (mathlib.Core.List.append_assoc c (joined cs) (10 ∷ []), length-append c (joined cs ++ (10 ∷ [])), e, line_bytes r) (omega arith)
 
-four : (r : Rect) → Full (sides r)
+four : (r : Rect Float) → Full (sides r)
 four r = some (eighths_length r.left) (some (eighths_length r.right) (some (eighths_length r.top) (some (eighths_length r.bottom) none)))
 
 pub row_bytes : (r : Row) → length (row_text r) ≡ ROW
@@ -55,7 +56,7 @@ unfolding rows_text
 rows_bytes [] = refl
 rows_bytes (r ∷ rs) = length-append (row_text r) (rows_text rs) ∙ rw (row_bytes r, rows_bytes rs) (omega arith)
 
-pub overflow_bytes : (r : Rect) → length (overflow_text r) ≡ OVERFLOW
+pub overflow_bytes : (r : Rect Float) → length (overflow_text r) ≡ OVERFLOW
 unfolding overflow_text word_text
 overflow_bytes r = line_bytes (some refl (four r))
 

@@ -1,4 +1,5 @@
 -- A line of columns, column by column. Assumes nothing.
+use Rattle.std.specs.Prelude.{Float}
 use Prim.Native.Nat.{ℕ, ◌+◌, ◌*◌}
 use native.Mathlib.Omega.{arith}
 use mathlib.Core.Path.{◌≡◌, refl, ◌∙◌}
@@ -36,7 +37,7 @@ module _ (l : List ℕ) (at : ℕ) where
   then_column c cs j e h = rw (append_assoc c (joined cs) (10 ∷ [])) (part_then COLUMN c (joined cs ++ (10 ∷ [])) l at j e h)
 
   -- the four sides of a rectangle, one after another
-  pub then_sides : (r : Rect)
+  pub then_sides : (r : Rect Float)
       → sets l at (joined (sides r))
       ≡ sets (sets (sets (sets l at (eighths_text r.left)) (at + COLUMN) (eighths_text r.right)) (at + 2 * COLUMN) (eighths_text r.top)) (at + 3 * COLUMN) (eighths_text r.bottom)
   unfolding joined
@@ -47,11 +48,11 @@ module _ (l : List ℕ) (at : ℕ) where
       ∙ part_then COLUMN (eighths_text r.bottom) [] _ (at + 3 * COLUMN) (at + 4 * COLUMN) (eighths_length r.bottom) (omega arith)
 
   -- the four sides, and the line feed
-  pub last_sides : (r : Rect) (j : ℕ) → j ≡ at + 4 * COLUMN → sets l at (line_text (sides r)) ≡ set (sets l at (joined (sides r))) j 10
+  pub last_sides : (r : Rect Float) (j : ℕ) → j ≡ at + 4 * COLUMN → sets l at (line_text (sides r)) ≡ set (sets l at (joined (sides r))) j 10
   unfolding line_text joined
   last_sides r j h = part_then (4 * COLUMN) (joined (sides r)) (10 ∷ []) l at j (four r) h
     where
-      four : (r : Rect) → length (joined (sides r)) ≡ 4 * COLUMN
+      four : (r : Rect Float) → length (joined (sides r)) ≡ 4 * COLUMN
       four r =
           length-append (eighths_text r.left) _
           ∙ rw (length-append (eighths_text r.right) _, length-append (eighths_text r.top) _, length-append (eighths_text r.bottom) _)
@@ -73,7 +74,7 @@ row_stores l at r =
 
 module _ (l : List ℕ) (at : ℕ) where
   -- the overflow line, as it is stored: `overflow`, the four sides, the line feed
-  pub overflow_stores : (r : Rect)
+  pub overflow_stores : (r : Rect Float)
       → sets l at (overflow_text r)
       ≡ set (sets (sets l at (111 ∷ 118 ∷ 101 ∷ 114 ∷ 102 ∷ 108 ∷ 111 ∷ 119 ∷ [])) (at + COLUMN) (joined (sides r))) (at + 5 * COLUMN) 10
   unfolding overflow_text word_text

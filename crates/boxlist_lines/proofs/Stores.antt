@@ -1,12 +1,13 @@
 -- Runs of stores, one after another. Assumes nothing.
-use Prim.Native.Nat.{ℕ, suc, ◌+◌, ◌<◌}
+use Prim.Native.Nat.{ℕ, suc, ◌+◌, ◌≤◌}
 use native.Mathlib.Omega.{arith}
 use native.Mathlib.Nat.{add-zero}
-use native.Mathlib.Numerals.{add-one}
-use mathlib.Core.Path.{◌≡◌, refl, ◌∙◌}
-use mathlib.Core.List.{List, [], ◌∷◌, ◌++◌}
-use lib.ListN.{length, set, drop, get_or}
-use lib.Seq.{sets, set_comm, drop-cons}
+use mathlib.Core.Path.{◌≡◌, refl, sym, ◌∙◌}
+use mathlib.Core.List.{List, [], ◌∷◌, ◌++◌, append_assoc}
+use lib.ListN.{length, set, take, drop}
+use lib.Seq.{sets, set_comm, drop-drop}
+use borrow.Rule.Slice.PartMut.{put_mid}
+use Rattle.std.proofs.lemmas.List.Edits.{sets-eq}
 
 pub sets_append : (xs ys l : List ℕ) (i : ℕ) → sets l i (xs ++ ys) ≡ sets (sets l i xs) (i + length xs) ys
 sets_append [] ys l i = rw add-zero refl
@@ -32,10 +33,6 @@ sets_last (x ∷ xs) l i a =
 pub part_then : (w : ℕ) (xs ys l : List ℕ) (i j : ℕ) → length xs ≡ w → j ≡ i + w → sets l i (xs ++ ys) ≡ sets (sets l i xs) j ys
 part_then w xs ys l i j e h = sets_append xs ys l i ∙ rw (e, h) refl
 
--- a copy from a place on: one element more, or none
-module _ (bytes l : List ℕ) (at i : ℕ) where
-  pub copy_more : i < length bytes → sets l (at + i) (drop i bytes) ≡ sets (set l (at + i) (get_or bytes i 0)) (at + (i + 1)) (drop (i + 1) bytes)
-  copy_more h = rw (drop-cons bytes i 0 h, add-one i, along at i) refl
-    where
-      along : (at i : ℕ) → at + suc i ≡ suc (at + i)
-      along at i = omega arith
+-- what was written to a part of a list, element by element
+pub part_sets : (l ys : List ℕ) (i n : ℕ) → length ys ≡ n → i + n ≤ length l → put_mid i n l ys ≡ sets l i ys
+part_sets l ys i n e h = sym (sets-eq ys l i (rw e h) ∙ rw (e, drop-drop n i l) (append_assoc (take i l) ys (drop (i + n) l)))

@@ -1,7 +1,6 @@
 -- A number right-justified in a column: from the right its digits, a sign if it is negative, then blanks. Assumes nothing.
-use Rattle.std.specs.Prelude.{ℕ, zero, suc, ◌+◌, ◌/◌, ◌%◌, false, cond, List, [], ◌∷◌, ◌++◌, leb, Float}
+use Rattle.std.specs.Prelude.{ℕ, zero, suc, ◌+◌, ◌/◌, ◌%◌, false, cond, List, [], ◌∷◌, ◌++◌, leb, Float, Option, None, Some}
 use Rattle.util.specs.declared.eighths.Count.{Count}
-use Rattle.util.specs.declared.eighths.Count.TheVariants.{NotWhole, Whole}
 use Rattle.util.specs.Eighths.{count_of}
 use Rattle.boxlist_lines.specs.declared.Ink.{Ink}
 use Rattle.boxlist_lines.specs.declared.Ink.TheVariants.{Digits, Sign, Star, Blank}
@@ -31,9 +30,9 @@ abbrev pub COLUMN : ℕ
 COLUMN = 8
 
 -- `*` for no whole eighth, or above 9,999,999 in size
-unfoldable pub count_ink : Count → Ink
-count_ink NotWhole = Star
-count_ink (Whole s n) = Digits s n
+unfoldable pub count_ink : Option Count → Ink
+count_ink None = Star
+count_ink (Some c) = Digits c.negative c.size
 
 unfoldable pub code_ink : ℕ → Ink
 code_ink n = cond (leb n 9999999) (Digits false n) Star

@@ -1,6 +1,6 @@
 -- The printed list, in ASCII: a line of names, a row for each box in hoisted order, the overflow rectangle; or one line for a refusal.
 -- Assumes nothing.
-use Rattle.std.specs.Prelude.{ℕ, ◌+◌, ◌*◌, ◌-◌, List, [], ◌∷◌, ◌++◌, length, replicate}
+use Rattle.std.specs.Prelude.{ℕ, ◌+◌, ◌*◌, ◌-◌, List, [], ◌∷◌, ◌++◌, length, replicate, Float}
 use Rattle.geometry.specs.declared.Rect.{Rect}
 use Rattle.boxlist_lines.specs.declared.list.Row.{Row}
 use Rattle.boxlist_lines.specs.Column.{COLUMN, eighths_text, code_text}
@@ -42,7 +42,7 @@ header_text =
     ∷ [])
 
 -- left, right, top, bottom
-abbrev pub sides : Rect → List (List ℕ)
+abbrev pub sides : Rect Float → List (List ℕ)
 sides r = eighths_text r.left ∷ eighths_text r.right ∷ eighths_text r.top ∷ eighths_text r.bottom ∷ []
 
 -- a box
@@ -61,11 +61,11 @@ rows_text [] = []
 rows_text (r ∷ rs) = row_text r ++ rows_text rs
 
 -- `overflow`, then the rectangle
-unfoldable pub overflow_text : Rect → List ℕ
+unfoldable pub overflow_text : Rect Float → List ℕ
 overflow_text overflow = line_text (word_text (111 ∷ 118 ∷ 101 ∷ 114 ∷ 102 ∷ 108 ∷ 111 ∷ 119 ∷ []) ∷ sides overflow)
 
 -- a run that finished: its boxes in hoisted order, and its overflow rectangle
-unfoldable pub list_text : List Row → Rect → List ℕ
+unfoldable pub list_text : List Row → Rect Float → List ℕ
 list_text rows overflow = header_text ++ rows_text rows ++ overflow_text overflow
 
 -- `refused`, then the number

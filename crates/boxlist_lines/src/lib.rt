@@ -16,25 +16,19 @@ pub const COLUMN: usize = 8;
 // What is still to be written of a column, from its right end.
 #[derive(Clone, Copy)]
 pub enum Ink {
-    Digits(bool, u64),
+    Digits { negative: bool, size: u64 },
     Sign,
     Star,
     Blank,
 }
 
-fn digit(n: u64) -> u8
-    requires { n ≤ 9 }
-    ensures { result ≡ 48 + n }
-{
-    48 + (n as u8)
-}
-
 // The rightmost cell.
+#[tactic(auto, unfolding(crate::specs::Column::cell_of))]
 fn cell(ink: Ink) -> u8
     ensures { result ≡ cell_of ink }
 {
     match ink {
-        Ink::Digits(_, n) => digit(n % 10),
+        Ink::Digits { size, .. } => b'0' + (size % 10) as u8,
         Ink::Sign => b'-',
         Ink::Star => b'*',
         Ink::Blank => b' ',
@@ -42,61 +36,63 @@ fn cell(ink: Ink) -> u8
 }
 
 // What stands left of it: the digits before, then the sign, then blanks.
+#[tactic(auto, unfolding(crate::specs::Column::left_of))]
 fn left_of(ink: Ink) -> Ink
     ensures { result ≡ left_of ink }
 {
     match ink {
-        Ink::Digits(negative, n) => {
-            if 10 <= n {
-                return Ink::Digits(negative, n / 10);
-            }
-            if negative {
-                return Ink::Sign;
-            }
-            Ink::Blank
-        }
-        Ink::Sign => Ink::Blank,
-        Ink::Star => Ink::Blank,
-        Ink::Blank => Ink::Blank,
+        Ink::Digits { negative, size } if 10 <= size => Ink::Digits {
+            negative,
+            size: size / 10,
+        },
+        Ink::Digits { negative: true, .. } => Ink::Sign,
+        _ => Ink::Blank,
     }
 }
 
 // Writes a column of a width, from its right end.
+// By hand, since a `write!` of `{:>8}` promises its bytes only where it ends well, and no promise of std's says that it does.
+#[tactic(auto, using(crate::proofs::Cells::no_cells))]
 pub fn put(out: &mut [u8], at: usize, width: usize, ink: Ink)
     requires { at + width ≤ length out.old }
     ensures { out.new ≡ sets out.old at (cells width ink) }
 {
-    let mut i = width;
     let mut rest = ink;
-    while 0 < i {
-        i -= 1;
+    for i in (0..width).rev() {
         out[at + i] = cell(rest);
         rest = left_of(rest);
     }
 }
 
 // A count of eighths: its number, or a star where a float is no whole count.
-pub fn count_ink(count: Count) -> Ink
+#[tactic(auto, unfolding(crate::specs::Column::count_ink))]
+pub fn count_ink(count: Option<Count>) -> Ink
     ensures { result ≡ count_ink count }
 {
     match count {
-        Count::NotWhole => Ink::Star,
-        Count::Whole(negative, n) => Ink::Digits(negative, n),
+        None => Ink::Star,
+        Some(Count { negative, size }) => Ink::Digits { negative, size },
     }
 }
 
 // A code of the printed list: its number, or a star above 9,999,999.
+#[tactic(auto, unfolding(crate::specs::Column::code_ink))]
 pub fn code_ink(code: u32) -> Ink
     ensures { result ≡ code_ink code }
 {
-    let n = code as u64;
-    if n <= eighths::LARGEST {
-        return Ink::Digits(false, n);
+    let size = u64::from(code);
+    if size <= eighths::LARGEST {
+        Ink::Digits {
+            negative: false,
+            size,
+        }
+    } else {
+        Ink::Star
     }
-    Ink::Star
 }
 
 // A float's eighths in a column of the list.
+#[tactic(auto, unfolding(crate::specs::Column::eighths_text))]
 pub fn put_eighths(out: &mut [u8], at: usize, x: f32)
     requires { at + COLUMN ≤ length out.old }
     ensures { out.new ≡ sets out.old at (eighths_text x) }
@@ -105,6 +101,7 @@ pub fn put_eighths(out: &mut [u8], at: usize, x: f32)
 }
 
 // A code in a column of the list.
+#[tactic(auto, unfolding(crate::specs::Column::code_text))]
 pub fn put_code(out: &mut [u8], at: usize, code: u32)
     requires { at + COLUMN ≤ length out.old }
     ensures { out.new ≡ sets out.old at (code_text code) }

@@ -11,9 +11,9 @@ use geometry::{Point, Rect, Size};
 #[derive(Clone, Copy)]
 pub struct Row {
     pub node: u32,
-    pub location: Point,
-    pub size: Size,
-    pub margin: Rect,
+    pub location: Point<f32>,
+    pub size: Size<f32>,
+    pub margin: Rect<f32>,
 }
 
 // How many bytes the lines have: nine columns, five and two, and a line feed each.
@@ -24,19 +24,18 @@ pub const OVERFLOW: usize = 5 * COLUMN + 1;
 pub const REFUSAL: usize = 2 * COLUMN + 1;
 
 // Bytes as they are.
+// The place stands beside the slice, here and below: of a part `&mut out[at..]` each caller would have to prove again what it leaves of the rest.
+#[tactic(auto, using(crate::proofs::Stores::part_sets))]
 pub fn put_bytes(out: &mut [u8], at: usize, bytes: &[u8])
     requires { at + length bytes.now ≤ length out.old }
     ensures { out.new ≡ sets out.old at bytes.now }
 {
-    let mut i: usize = 0;
-    while i < bytes.len() {
-        out[at + i] = bytes[i];
-        i += 1;
-    }
+    out[at..at + bytes.len()].copy_from_slice(bytes);
 }
 
 // The four sides in four columns.
-fn put_rect(out: &mut [u8], at: usize, rect: Rect)
+#[tactic(auto, using(crate::proofs::Lines::then_sides))]
+fn put_rect(out: &mut [u8], at: usize, rect: Rect<f32>)
     requires { at + 4 * COLUMN ≤ length out.old }
     ensures { out.new ≡ sets out.old at (joined (sides rect)) }
 {
@@ -47,6 +46,7 @@ fn put_rect(out: &mut [u8], at: usize, rect: Rect)
 }
 
 // The names of the columns.
+#[tactic(auto, unfolding(crate::specs::Lines::header_text, crate::specs::Lines::line_text, crate::specs::Lines::joined, crate::specs::Lines::word_text))]
 pub fn put_header(out: &mut [u8], at: usize)
     requires { at + ROW ≤ length out.old }
     ensures { out.new ≡ sets out.old at header_text }
@@ -59,6 +59,7 @@ pub fn put_header(out: &mut [u8], at: usize)
 }
 
 // A box.
+#[tactic(auto, using(crate::proofs::Lines::row_stores))]
 pub fn put_row(out: &mut [u8], at: usize, row: Row)
     requires { at + ROW ≤ length out.old }
     ensures { out.new ≡ sets out.old at (row_text row) }
@@ -68,13 +69,13 @@ pub fn put_row(out: &mut [u8], at: usize, row: Row)
     put_eighths(out, at + 2 * COLUMN, row.location.y);
     put_eighths(out, at + 3 * COLUMN, row.size.width);
     put_eighths(out, at + 4 * COLUMN, row.size.height);
-    let margin = row.margin;
-    put_rect(out, at + 5 * COLUMN, margin);
+    put_rect(out, at + 5 * COLUMN, row.margin);
     out[at + 9 * COLUMN] = b'\n';
 }
 
 // The overflow rectangle of the run.
-pub fn put_overflow(out: &mut [u8], at: usize, overflow: Rect)
+#[tactic(auto, using(crate::proofs::Lines::overflow_stores))]
+pub fn put_overflow(out: &mut [u8], at: usize, overflow: Rect<f32>)
     requires { at + OVERFLOW ≤ length out.old }
     ensures { out.new ≡ sets out.old at (overflow_text overflow) }
 {
@@ -84,6 +85,7 @@ pub fn put_overflow(out: &mut [u8], at: usize, overflow: Rect)
 }
 
 // A refusal, by its number.
+#[tactic(auto, using(crate::proofs::Lines::refusal_stores))]
 pub fn put_refusal(out: &mut [u8], at: usize, number: u32)
     requires { at + REFUSAL ≤ length out.old }
     ensures { out.new ≡ sets out.old at (refusal_text number) }

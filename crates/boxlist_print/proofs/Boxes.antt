@@ -1,4 +1,5 @@
 -- Rows, word by word and one after another. Assumes nothing.
+use Rattle.std.specs.Prelude.{Float}
 use Prim.Native.Nat.{ℕ, zero, suc, ◌+◌, ◌-◌, ◌*◌, ◌<◌, ◌≤◌}
 use native.Mathlib.Omega.{arith}
 use native.Mathlib.Nat.{add-zero}
@@ -47,8 +48,8 @@ node_at : (ws : List ℕ) (w : ℕ) → (candidate_of (take candidate_width (dro
 unfolding candidate_of
 node_at ws w = get_or-take candidate_width (drop w ws) 0 0 (lit< tt) ∙ get_or-drop w ws 0 0 ∙ ap (λ (k : ℕ). get_or ws k 0) (add-zero w)
 
-module _ (working layouts : List ℕ) (w i n : ℕ) where
-  pub rows_none : n ≤ i → rows_text (rows_at (drop w working) (n - i) layouts) ≡ []
+module _ (working layouts : List ℕ) (i n : ℕ) where
+  pub rows_none : n ≤ i → rows_text (rows_at (drop (candidate_width * i) working) (n - i) layouts) ≡ []
   unfolding rows_text rows_at first_candidates records
   rows_none h = rw (done i n h) refl
     where
@@ -56,20 +57,24 @@ module _ (working layouts : List ℕ) (w i n : ℕ) where
       done i n h = omega arith
 
   rows_more : i < n
-      → rows_at (drop w working) (n - i) layouts ≡ row_of layouts (get_or working w 0) ∷ rows_at (drop (w + candidate_width) working) (n - (i + 1)) layouts
+      → rows_at (drop (candidate_width * i) working) (n - i) layouts
+      ≡ row_of layouts (get_or working (candidate_width * i) 0) ∷ rows_at (drop (candidate_width * (i + 1)) working) (n - (i + 1)) layouts
   unfolding rows_at first_candidates records
-  rows_more h = rw (turn i n h, node_at working w, drop-drop candidate_width w working) refl
+  rows_more h = rw (turn i n h, node_at working (candidate_width * i), drop-drop candidate_width (candidate_width * i) working, next i) refl
     where
       turn : (i n : ℕ) → i < n → n - i ≡ suc (n - (i + 1))
       turn i n h = omega arith
 
-  pub rows_stored : i < n → (out : List ℕ) (p : ℕ)
-      → sets out p (rows_text (rows_at (drop w working) (n - i) layouts))
-      ≡ sets (sets out p (row_text (row_of layouts (get_or working w 0)))) (p + ROW) (rows_text (rows_at (drop (w + candidate_width) working) (n - (i + 1)) layouts))
+      next : (i : ℕ) → candidate_width * i + candidate_width ≡ candidate_width * (i + 1)
+      next i = omega arith
+
+  pub rows_stored : i < n → (out : List ℕ) (at : ℕ)
+      → sets out (at + i * ROW) (rows_text (rows_at (drop (candidate_width * i) working) (n - i) layouts))
+      ≡ sets (sets out (at + i * ROW) (row_text (row_of layouts (get_or working (candidate_width * i) 0)))) (at + (i + 1) * ROW) (rows_text (rows_at (drop (candidate_width * (i + 1)) working) (n - (i + 1)) layouts))
   unfolding rows_text
-  rows_stored h out p =
+  rows_stored h out at =
       rw (rows_more h)
-      (part_then ROW (row_text (row_of layouts (get_or working w 0))) _ out p (p + ROW) (row_bytes (row_of layouts (get_or working w 0))) refl)
+      (part_then ROW (row_text (row_of layouts (get_or working (candidate_width * i) 0))) _ out (at + i * ROW) (at + (i + 1) * ROW) (row_bytes (row_of layouts (get_or working (candidate_width * i) 0))) (omega arith))
 
 -- ---- the whole list
 
@@ -78,7 +83,7 @@ unfolding rows_at first_candidates records
 rows_count working zero layouts = refl
 rows_count working (suc n) layouts = ap suc (rows_count (drop candidate_width working) n layouts)
 
-module _ (working : List ℕ) (n : ℕ) (layouts : List ℕ) (overflow : Rect) where
+module _ (working : List ℕ) (n : ℕ) (layouts : List ℕ) (overflow : Rect Float) where
   pub list_size : ROW + n * ROW + OVERFLOW ≡ length (list_text (rows_at working n layouts) overflow)
   list_size = sym (list_bytes (rows_at working n layouts) overflow ∙ rw (rows_count working n layouts) (omega arith))
 

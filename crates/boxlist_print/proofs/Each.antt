@@ -5,11 +5,13 @@ use mathlib.Core.Path.{◌≡◌, refl, sym, ◌∙◌}
 use mathlib.Core.List.{List, [], ◌++◌}
 use lib.ListN.{length, get_or, length-append}
 use lib.Seq.{sets}
+use Rattle.std.specs.Prelude.{Option, Result}
+use Rattle.refusal.specs.declared.Refusal.{Refusal}
+use Rattle.reach.specs.declared.Offsets.{Offsets}
 use Rattle.tree_record.specs.Candidate.{candidate_width}
 use Rattle.run.specs.Call.{Lent}
 use Rattle.run.specs.declared.State.{State}
 use Rattle.finished.proofs.There.{node_is}
-use Rattle.reach.specs.declared.Reached.{Reached}
 use Rattle.reach.specs.Reach.{reached}
 use Rattle.boxlist_lines.proofs.Stores.{part_then}
 use Rattle.boxreach_lines.specs.Lines.{VERDICT_ROW, verdict_names, verdict_row}
@@ -18,7 +20,7 @@ use Rattle.boxlist_print.specs.Verdicts.{verdict_at, verdicts_from, verdicts_tex
 
 module _ (s : State) (lent : Lent) where
   -- a row, as the code has it: its node is the first word of its record
-  pub verdict_row_lem : (place node : ℕ) (r : Reached) → node ≡ get_or lent.working (candidate_width * place) 0 → r ≡ reached place s lent
+  pub verdict_row_lem : (place node : ℕ) (r : Result (Option Offsets) Refusal) → node ≡ get_or lent.working (candidate_width * place) 0 → r ≡ reached place s lent
       → verdict_row place node r ≡ verdict_at s lent place
   unfolding verdict_at
   verdict_row_lem place node r n e = rw (n ∙ sym (node_is lent.working place), e) refl
@@ -44,9 +46,11 @@ module _ (s : State) (lent : Lent) where
       next : (i : ℕ) → i + 1 ≡ suc i
       next i = omega arith
 
-  pub row_stored : (i n : ℕ) → i < n → (out : List ℕ) (p : ℕ)
-      → sets out p (verdicts_from s lent i (n - i)) ≡ sets (sets out p (verdict_at s lent i)) (p + VERDICT_ROW) (verdicts_from s lent (i + 1) (n - (i + 1)))
-  row_stored i n h out p = rw (one_more i n h) (part_then VERDICT_ROW (verdict_at s lent i) _ out p (p + VERDICT_ROW) (verdict_bytes i) refl)
+  pub row_stored : (i n : ℕ) → i < n → (out : List ℕ) (at : ℕ)
+      → sets out (at + i * VERDICT_ROW) (verdicts_from s lent i (n - i))
+      ≡ sets (sets out (at + i * VERDICT_ROW) (verdict_at s lent i)) (at + (i + 1) * VERDICT_ROW) (verdicts_from s lent (i + 1) (n - (i + 1)))
+  row_stored i n h out at =
+      rw (one_more i n h) (part_then VERDICT_ROW (verdict_at s lent i) _ out (at + i * VERDICT_ROW) (at + (i + 1) * VERDICT_ROW) (verdict_bytes i) (omega arith))
 
   pub rows_length : (i n : ℕ) → length (verdicts_from s lent i n) ≡ n * VERDICT_ROW
   unfolding verdicts_from

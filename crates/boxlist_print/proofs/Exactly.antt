@@ -1,4 +1,5 @@
 -- A refusal is printed exactly under the first of document 01's conditions that holds, a list exactly where none does. Assumes nothing.
+use Rattle.std.specs.Prelude.{Float}
 use Prim.Native.Nat.{ℕ, ◌-◌}
 use native.Mathlib.Omega.{arith}
 use mathlib.Core.Logic.Iff
@@ -50,7 +51,7 @@ program_says text =
 -- ---- no list is a refusal's line, and no two refusals have the same
 
 -- `n` of `node` and `r` of `refused` stand in other columns: byte 1 tells a list
-list_byte : (rows : List Row) (overflow : Rect) → get_or (list_text rows overflow) 1 0 ≡ 32
+list_byte : (rows : List Row) (overflow : Rect Float) → get_or (list_text rows overflow) 1 0 ≡ 32
 unfolding list_text header_text line_text joined word_text
 list_byte rows overflow = refl
 
@@ -70,7 +71,7 @@ no_list_is_a_line Boxes text n l e = apart _ n (list_byte l.0 l.1) (sym l.2 ∙ 
 no_list_is_a_line Verdicts text n l e = apart _ n (verdicts_byte l.0 l.1) (sym l.2 ∙ e)
 
 -- byte 3 tells a list of verdicts: `place` has a letter more than `node`
-boxes_third : (rows : List Row) (overflow : Rect) → get_or (list_text rows overflow) 3 0 ≡ 32
+boxes_third : (rows : List Row) (overflow : Rect Float) → get_or (list_text rows overflow) 3 0 ≡ 32
 unfolding list_text header_text line_text joined word_text
 boxes_third rows overflow = refl
 

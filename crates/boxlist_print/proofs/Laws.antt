@@ -1,4 +1,5 @@
 -- Proofs of the statements of `specs/Laws.antt`. Assumes nothing.
+use Rattle.std.specs.Prelude.{Float}
 use Prim.Native.Nat.{ℕ, ◌+◌, ◌<◌, ◌≤◌}
 use native.Mathlib.Omega.{arith}
 use mathlib.Core.Path.{◌≡◌, refl, sym, ap, ◌∙◌}
@@ -38,7 +39,7 @@ few_rows : (o : Opening) (replies candidates styles : List ℕ) (n : ℕ)
     → (played_out o replies candidates (lent_for styles n)).step.state.counts.filled.working ≤ MAX_CANDIDATES
 few_rows o replies candidates styles n = room_kept o replies candidates (lent_for styles n)
 
-finished_fits : (listing : Listing) (s : State) (overflow : Rect) (lent : Lent) → s.counts.filled.working ≤ MAX_CANDIDATES
+finished_fits : (listing : Listing) (s : State) (overflow : Rect Float) (lent : Lent) → s.counts.filled.working ≤ MAX_CANDIDATES
     → length (finished_text listing s overflow lent) ≤ LIST_BYTES
 finished_fits Boxes s overflow lent h = rw (list_bytes, rows_count) (omega arith)
 finished_fits Verdicts s overflow lent h = rw (verdicts_bytes s lent) (omega arith)

@@ -6,6 +6,8 @@ use mathlib.Core.Path.{◌≡◌, refl, ◌∙◌}
 use mathlib.Core.Bool.{Bool, true, false, cond}
 use mathlib.Core.List.{List}
 use borrow.Author.Tests.{lt-leb}
+use Rattle.std.specs.Prelude.{Option, Ok, Err, IsOk, Result, Float}
+use Rattle.refusal.specs.declared.Refusal.{Refusal}
 use Rattle.util.proofs.Floats.{no}
 use Rattle.geometry.specs.declared.Rect.{Rect}
 use Rattle.refusal.specs.declared.Refusal.TheVariants.{NotInEighths}
@@ -22,11 +24,7 @@ use Rattle.run.specs.Conditions.{NoneHolds}
 use Rattle.run.specs.Refusals.{◌when◌else◌}
 use Rattle.run.proofs.Decides.{accepted_none}
 use Rattle.finished.specs.Finished.{finished_verdict}
-use Rattle.reach.specs.declared.Offset.{Offset}
-use Rattle.reach.specs.declared.Offset.TheVariants.{Nowhere, At}
-use Rattle.reach.specs.declared.Reached.{Reached}
-use Rattle.reach.specs.declared.Reached.TheVariants as told
-use Rattle.reach.specs.Laws.{IsAnswer}
+use Rattle.reach.specs.declared.Offsets.{Offsets}
 use Rattle.reach.specs.Reach.{across, down, least, numbers_of, pair_of, box_reached, reached}
 use Rattle.script.specs.Theorems.{is_finish}
 use Rattle.script.proofs.Finishes.{Passes, opened_passes}
@@ -66,18 +64,16 @@ run_is_listed listing text none = go (run_of text).step.answer refl (passes text
 
 -- ---- a row
 
-abbrev AnswerOrNine : Reached → Type 0
-AnswerOrNine r = IsAnswer r ⊎ (r ≡ told.Refused NotInEighths)
+abbrev AnswerOrNine : Result (Option Offsets) Refusal → Type 0
+AnswerOrNine r = IsOk r ⊎ (r ≡ Err NotInEighths)
 
-box_or_nine : (c : ContainingBlock) (overflow : Rect) (box : Layout) → AnswerOrNine (box_reached c overflow box)
+box_or_nine : (c : ContainingBlock) (overflow : Rect Float) (box : Layout) → AnswerOrNine (box_reached c overflow box)
 unfolding box_reached
-box_or_nine c overflow box = go (all_accepted (numbers_of c.area overflow box)) (least (across c overflow box)) (least (down c overflow box))
+box_or_nine c overflow box = go (all_accepted (numbers_of c.area overflow box)) (pair_of (least (across c overflow box)) (least (down c overflow box)))
   where
-    go : (b : Bool) (x y : Offset) → AnswerOrNine (cond b (pair_of x y) (told.Refused NotInEighths))
-    go true Nowhere y = inl tt
-    go true (At x) Nowhere = inl tt
-    go true (At x) (At y) = inl tt
-    go false x y = inr refl
+    go : (b : Bool) (answer : Option Offsets) → AnswerOrNine (cond b (Ok answer) (Err NotInEighths))
+    go true answer = inl refl
+    go false answer = inr refl
 
 pub only_nine_in_rows : OnlyNineInRows
 unfolding reached finished_verdict ◌when◌else◌

@@ -1,4 +1,5 @@
 -- The claimed records of a scripted run fit its working list: nothing is surfaced, so they are those of the opening. Assumes nothing.
+use Rattle.std.specs.Prelude.{Float}
 use Prim.Native.Nat.{ℕ, zero, suc, ◌*◌, ◌/◌, ◌≤◌}
 use native.Mathlib.Omega.{arith}
 use native.Mathlib.Nat.{add-zero, zero-add}
@@ -26,7 +27,7 @@ filled : Outcome → ℕ
 filled o = o.step.state.counts.filled.working
 
 -- going on keeps the count
-proceed_filled : (styles working : List ℕ) (run : Opened) (counts : Counts) (overflow : Rect)
+proceed_filled : (styles working : List ℕ) (run : Opened) (counts : Counts) (overflow : Rect Float)
     → (proceeding styles working run counts overflow).state.counts.filled.working ≡ counts.filled.working
 unfolding asking finishing
 proceed_filled styles working run counts overflow = go (next_way styles working run counts overflow)

@@ -8,6 +8,7 @@ use mathlib.Core.Bool.{Bool, true, false, cond}
 use mathlib.Core.List.{List, [], ◌∷◌}
 use lib.ListN.{length, drop, replicate, length-replicate}
 use borrow.Author.Tests.{le-leb, le-ltb, eq-eqb}
+use Rattle.std.specs.Prelude.{Ok, Err, Float}
 use Rattle.util.proofs.Floats.{no}
 use Rattle.refusal.specs.declared.Refusal.{Refusal}
 use Rattle.refusal.specs.declared.Refusal.TheVariants.{BadScreenLine}
@@ -117,7 +118,7 @@ module _ (text : List ℕ) (e : is_screen text ≡ true) where
       refl
 
 -- the first box, or the finish, is no refusal
-unrefused : (styles working : List ℕ) (run : Opened) (counts : Counts) (overflow : Rect) → is_refused (proceeding styles working run counts overflow).answer ≡ false
+unrefused : (styles working : List ℕ) (run : Opened) (counts : Counts) (overflow : Rect Float) → is_refused (proceeding styles working run counts overflow).answer ≡ false
 unfolding asking finishing
 unrefused styles working run counts overflow = go (next_way styles working run counts overflow)
   where
@@ -156,8 +157,8 @@ module _ (listing : Listing) (o : Opening) (replies candidates styles : List ℕ
   finished (Refused r) e h = no h refl
 
   shown : (v : Verdict) → opening_verdict o candidates (lent_for styles n) ≡ v → Shows listing v (list_of listing styles (played_out o replies candidates (lent_for styles n)))
-  shown accepted e = finished _ refl (opened_finishes o replies candidates (lent_for styles n) (begins_unrefused e))
-  shown (refused r) e = turned_down r e
+  shown (Ok tt) e = finished _ refl (opened_finishes o replies candidates (lent_for styles n) (begins_unrefused e))
+  shown (Err r) e = turned_down r e
 
 pub list_or_refusal : ListOrRefusal
 list_or_refusal listing text = go (is_screen text) refl

@@ -4,15 +4,16 @@ use native.Mathlib.Omega.{arith}
 use native.Mathlib.Nat.{zero-add, le_of_suc-le-suc, mul-le-mul_right}
 use mathlib.Core.Path.{◌≡◌, refl, ap, ◌∙◌, subst}
 use mathlib.Core.Bool.{false}
-use mathlib.Core.List.{List, ◌∷◌, ◌++◌, append-nil}
-use lib.ListN.{length, take, drop, replicate, length-replicate, drop_of_length-le}
+use mathlib.Core.List.{List, ◌∷◌}
+use lib.ListN.{length, take, drop, replicate, length-replicate}
 use lib.Seq.{sets, sets-eq, take_at}
 use Rattle.refusal.specs.Refusal.{number_of}
 use Rattle.refusal.specs.declared.Refusal.TheVariants.{BadScreenLine}
 use Rattle.boxlist_lines.specs.Lines.{refusal_text}
 use Rattle.screen_fields.specs.Format.{first_fields, MAX_ITEMS, MAX_CANDIDATES, reply_width}
-use Rattle.screen.specs.Screen.{is_screen, header_of, styles_of, replies_of, candidates_of, written}
-use Rattle.screen.proofs.Lines.{words_length}
+use Rattle.screen.specs.Screen.{is_screen, item_count, candidate_count, header_of, styles_of, replies_of, candidates_of, written}
+use Rattle.screen.specs.declared.LineCounts.{LineCounts}
+use Rattle.screen.proofs.Lines.{words_length, sets_all}
 use Rattle.screen.proofs.Laws.{screen_words}
 use Rattle.screen.proofs.Whole.{Told}
 use Rattle.style_record.specs.Record.{style_words}
@@ -40,45 +41,47 @@ header_length : (text : List ℕ) → length (header_of text) ≡ 10
 unfolding header_of first_fields
 header_length text = words_length first_fields text
 
-full : (vs l : List ℕ) → length vs ≡ length l → sets l 0 vs ≡ vs
-full vs l e =
-    sets-eq vs l 0 (rw (zero-add, e) (omega arith)) ∙ ap (λ (r : List ℕ). vs ++ r) (drop_of_length-le l {i = 0 + length vs} (rw (zero-add, e) (omega arith))) ∙ append-nil vs
-
 module _ (listing : Listing) (text : List ℕ) {r : ℕ} {before after : List ℕ} where
   pub printed_bad : is_screen text ≡ false → Prints r before after (refusal_text (number_of BadScreenLine)) → Prints r before after (printed listing text)
   unfolding printed
   printed_bad e p = rw e p
 
-  pub printed_read : (n m : ℕ) → Told text n m → (header styles replies candidates : List ℕ)
+  pub printed_read : (counts : LineCounts) → Told text counts → (header styles replies candidates : List ℕ)
       → header ≡ written (is_screen text) (replicate 10 0) (header_of text)
       → styles ≡ written (is_screen text) (replicate (MAX_ITEMS * style_words) 0) (styles_of text)
       → replies ≡ written (is_screen text) (replicate (MAX_ITEMS * reply_width) 0) (replies_of text)
       → candidates ≡ written (is_screen text) (replicate (MAX_CANDIDATES * candidate_width) 0) (candidates_of text)
-      → Prints r before after (list_from listing header (take (n * style_words) styles) n (take (n * reply_width) replies) (take (m * candidate_width) candidates))
+      → Prints r before after (list_from listing header (take (counts.items * style_words) styles) counts.items (take (counts.items * reply_width) replies) (take (counts.candidates * candidate_width) candidates))
       → Prints r before after (printed listing text)
   unfolding printed written
-  printed_read n m t header styles replies candidates h s q c p =
+  printed_read counts t header styles replies candidates h s q c p =
       rw t.good
-      (rw (← t.items)
-      (subst (λ (x : List ℕ). Prints r before after (list_from listing x (styles_of text) n (replies_of text) (candidates_of text))) header_read
-      (subst (λ (x : List ℕ). Prints r before after (list_from listing header x n (replies_of text) (candidates_of text))) styles_read
-      (subst (λ (x : List ℕ). Prints r before after (list_from listing header (take (n * style_words) styles) n x (candidates_of text))) replies_read
-      (subst (λ (x : List ℕ). Prints r before after (list_from listing header (take (n * style_words) styles) n (take (n * reply_width) replies) x)) candidates_read p)))))
+      (rw (← items_told)
+      (subst (λ (x : List ℕ). Prints r before after (list_from listing x (styles_of text) counts.items (replies_of text) (candidates_of text))) header_read
+      (subst (λ (x : List ℕ). Prints r before after (list_from listing header x counts.items (replies_of text) (candidates_of text))) styles_read
+      (subst (λ (x : List ℕ). Prints r before after (list_from listing header (take (counts.items * style_words) styles) counts.items x (candidates_of text))) replies_read
+      (subst (λ (x : List ℕ). Prints r before after (list_from listing header (take (counts.items * style_words) styles) counts.items (take (counts.items * reply_width) replies) x)) candidates_read p)))))
     where
+      items_told : counts.items ≡ item_count text
+      items_told = ap (λ (c : LineCounts). c.items) t.counted
+
+      candidates_told : counts.candidates ≡ candidate_count text
+      candidates_told = ap (λ (c : LineCounts). c.candidates) t.counted
+
       header_read : header ≡ header_of text
-      header_read = h ∙ rw t.good (full (header_of text) (replicate 10 0) (header_length text))
+      header_read = h ∙ rw t.good (sets_all (replicate 10 0) (header_of text) (header_length text))
 
-      styles_read : take (n * style_words) styles ≡ styles_of text
+      styles_read : take (counts.items * style_words) styles ≡ styles_of text
       styles_read =
-          ap (take (n * style_words)) (s ∙ rw t.good refl)
-          ∙ front (styles_of text) (MAX_ITEMS * style_words) (n * style_words) ((screen_words text).0 ∙ rw t.items refl) (mul-le-mul_right style_words t.few_items)
+          ap (take (counts.items * style_words)) (s ∙ rw t.good refl)
+          ∙ front (styles_of text) (MAX_ITEMS * style_words) (counts.items * style_words) ((screen_words text).0 ∙ rw items_told refl) (mul-le-mul_right style_words t.few_items)
 
-      replies_read : take (n * reply_width) replies ≡ replies_of text
+      replies_read : take (counts.items * reply_width) replies ≡ replies_of text
       replies_read =
-          ap (take (n * reply_width)) (q ∙ rw t.good refl)
-          ∙ front (replies_of text) (MAX_ITEMS * reply_width) (n * reply_width) ((screen_words text).1 ∙ rw t.items refl) (mul-le-mul_right reply_width t.few_items)
+          ap (take (counts.items * reply_width)) (q ∙ rw t.good refl)
+          ∙ front (replies_of text) (MAX_ITEMS * reply_width) (counts.items * reply_width) ((screen_words text).1 ∙ rw items_told refl) (mul-le-mul_right reply_width t.few_items)
 
-      candidates_read : take (m * candidate_width) candidates ≡ candidates_of text
+      candidates_read : take (counts.candidates * candidate_width) candidates ≡ candidates_of text
       candidates_read =
-          ap (take (m * candidate_width)) (c ∙ rw t.good refl)
-          ∙ front (candidates_of text) (MAX_CANDIDATES * candidate_width) (m * candidate_width) ((screen_words text).2 ∙ rw t.candidates refl) (mul-le-mul_right candidate_width t.few_candidates)
+          ap (take (counts.candidates * candidate_width)) (c ∙ rw t.good refl)
+          ∙ front (candidates_of text) (MAX_CANDIDATES * candidate_width) (counts.candidates * candidate_width) ((screen_words text).2 ∙ rw candidates_told refl) (mul-le-mul_right candidate_width t.few_candidates)

@@ -1,5 +1,5 @@
 -- What `printed` means, as statements. `proofs/` proves each, under its name in small letters. Assumes nothing.
-use Rattle.std.specs.Prelude.{ℕ, ◌+◌, ◌<◌, ◌≤◌, ◌↔◌, ◌⊎◌, ◌≢◌, ◌≡◌, not, List, [], ◌∷◌, length, take}
+use Rattle.std.specs.Prelude.{ℕ, ◌+◌, ◌<◌, ◌≤◌, ◌↔◌, ◌⊎◌, ◌≢◌, ◌≡◌, not, List, [], ◌∷◌, length, take, Err, IsOk, Float}
 use Rattle.geometry.specs.declared.Rect.{Rect}
 use Rattle.refusal.specs.declared.Refusal.{Refusal}
 use Rattle.refusal.specs.declared.Refusal.TheVariants.{BadArea, BadStyle, BadCandidate, BadScreenLine, NotInEighths}
@@ -15,8 +15,6 @@ use Rattle.run.specs.Call.{Lent, lent}
 use Rattle.run.specs.declared.State.{State}
 use Rattle.run.specs.declared.Answer.TheVariants as answer
 use Rattle.run.specs.declared.Finish.{Finish}
-use Rattle.reach.specs.declared.Reached.TheVariants.{Refused}
-use Rattle.reach.specs.Laws.{IsAnswer}
 use Rattle.reach.specs.Reach.{reached}
 use Rattle.boxlist_print.specs.declared.Listing.{Listing}
 use Rattle.boxlist_print.specs.declared.Listing.TheVariants.{Boxes, Verdicts}
@@ -35,7 +33,7 @@ verdict_of text =
     accepted
 
 pub data Shows : Listing → Verdict → List ℕ → Type 0 where
-  list : (rows : List Row) (overflow : Rect) → length rows ≤ MAX_CANDIDATES → Shows Boxes accepted (list_text rows overflow)
+  list : (rows : List Row) (overflow : Rect Float) → length rows ≤ MAX_CANDIDATES → Shows Boxes accepted (list_text rows overflow)
   verdicts : (s : State) (lent : Lent) → s.counts.filled.working ≤ MAX_CANDIDATES → Shows Verdicts accepted (verdicts_text s lent)
   line : {listing : Listing} (r : Refusal) → Shows listing (refused r) (refusal_text (number_of r))
 
@@ -58,7 +56,7 @@ RefusedExactly =
 
 -- and a list exactly where none holds
 abbrev pub IsList : Listing → List ℕ → Type 0
-IsList Boxes text = (rows : List Row) × (overflow : Rect) × (text ≡ list_text rows overflow)
+IsList Boxes text = (rows : List Row) × (overflow : Rect Float) × (text ≡ list_text rows overflow)
 IsList Verdicts text = (s : State) × (lent : Lent) × (text ≡ verdicts_text s lent)
 
 abbrev pub ListedExactly : Type 0
@@ -78,11 +76,11 @@ OnlyNineInRows =
     (text : List ℕ) (place : ℕ) → NoneHolds (program_tests text)
     → let o = run_of text in
     let verdict = reached place o.step.state (lent (styles_of text) o.layouts o.working o.unclaimed) in
-    place < o.step.state.counts.filled.working → IsAnswer verdict ⊎ (verdict ≡ Refused NotInEighths)
+    place < o.step.state.counts.filled.working → IsOk verdict ⊎ (verdict ≡ Err NotInEighths)
 
 -- a text tells which it is: no list of verdicts is one of boxes, and neither is a refusal's line, whatever its number
 abbrev pub ListsDiffer : Type 0
-ListsDiffer = (s : State) (lent : Lent) (rows : List Row) (overflow : Rect) → verdicts_text s lent ≢ list_text rows overflow
+ListsDiffer = (s : State) (lent : Lent) (rows : List Row) (overflow : Rect Float) → verdicts_text s lent ≢ list_text rows overflow
 
 abbrev pub NoListIsALine : Type 0
 NoListIsALine = (listing : Listing) (text : List ℕ) (number : ℕ) → IsList listing text → text ≢ refusal_text number

@@ -1,6 +1,6 @@
 -- What `boxlist` prints (document 01, "Program `boxlist`") and what `boxreach` prints (request #102): `printed`, the last definition, of any
 -- text. Assumes nothing.
-use Rattle.std.specs.Prelude.{ℕ, ◌+◌, ◌*◌, cond, List, [], get_or, replicate}
+use Rattle.std.specs.Prelude.{ℕ, ◌+◌, ◌*◌, cond, List, [], get_or, replicate, Float}
 use Rattle.geometry.specs.declared.Rect.{Rect}
 use Rattle.refusal.specs.Refusal.{number_of}
 use Rattle.refusal.specs.declared.Refusal.TheVariants.{BadScreenLine}
@@ -27,7 +27,7 @@ LIST_BYTES = (1 + MAX_CANDIDATES) * ROW + OVERFLOW
 -- ---- from a run to its list
 
 -- a finished run: its boxes and its overflow rectangle, the claimed records being the filled ones of the working list; or its verdicts
-abbrev pub finished_text : Listing → State → Rect → Lent → List ℕ
+abbrev pub finished_text : Listing → State → Rect Float → Lent → List ℕ
 finished_text Boxes s overflow lent = list_text (rows_at lent.working s.counts.filled.working lent.layouts) overflow
 finished_text Verdicts s overflow lent = verdicts_text s lent
 

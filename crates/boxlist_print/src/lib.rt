@@ -3,10 +3,10 @@
 #![tactic(auto)]
 
 ghost use Rattle.std.specs.Prelude.{◌≡◌, ◌*◌, ◌≤◌, length, take};
-ghost use Rattle.screen_fields.specs.Format.{MAX_ITEMS, MAX_CANDIDATES, reply_width};
+ghost use Rattle.screen_fields.specs.Format.{MAX_CANDIDATES, reply_width};
+ghost use Rattle.screen.specs.Screen.{FewLines};
 ghost use Rattle.style_record.specs.Record.{style_words};
 ghost use Rattle.tree_record.specs.Candidate.{candidate_width};
-ghost use Rattle.tree_record.specs.Layout.{layout_width};
 ghost use Rattle.run.specs.Call.{lent};
 ghost use Rattle.script.specs.Script.{played_out};
 ghost use Rattle.boxlist_print.specs.Rows.{Prints};
@@ -14,10 +14,9 @@ ghost use Rattle.boxlist_print.specs.Printed.{LIST_BYTES, finished_text, list_of
 
 use boxlist_lines::list;
 use geometry::{Point, Rect, Size};
-use refusal::Refusal;
 use rows::{float_at, word_at};
 use run::{Answer, Opening, State};
-use screen::Screen;
+use screen::{LineCounts, ScreenLists};
 use screen_fields::format;
 use style_record::words::STYLE_WORDS;
 use tree::layout::OofPositioningArea;
@@ -28,6 +27,7 @@ mod rows;
 mod verdicts;
 
 // What is listed of each box: its place, size and margins, or whether scrolling brings it up.
+// A choice of two, and no closure that prints: the laws say what is printed for each, and a closure's promise would have to say it of both.
 #[derive(Clone, Copy)]
 pub enum Listing {
     Boxes,
@@ -43,23 +43,21 @@ const LIST_WORDS: usize = format::MAX_CANDIDATES * CANDIDATE_WORDS;
 const ALL_LAYOUTS: usize = format::MAX_ITEMS * LAYOUT_WORDS;
 
 // What the first line opens.
+#[tactic(auto, unfolding(crate::specs::Printed::opening_of))]
 fn opening_of(header: &[u32]) -> Opening
     ensures { result ≡ opening_of header.now }
 {
-    let size = Size {
-        width: float_at(header, 0),
-        height: float_at(header, 1),
-    };
-    let offset = Point {
-        x: float_at(header, 2),
-        y: float_at(header, 3),
-    };
-    let area = OofPositioningArea {
-        size: size,
-        offset: offset,
-    };
     Opening {
-        area: area,
+        area: OofPositioningArea {
+            size: Size {
+                width: float_at(header, 0),
+                height: float_at(header, 1),
+            },
+            offset: Point {
+                x: float_at(header, 2),
+                y: float_at(header, 3),
+            },
+        },
         direction: word_at(header, 4),
         claims: word_at(header, 5),
         overflowx: word_at(header, 6),
@@ -72,7 +70,7 @@ fn put_finished(
     listing: Listing,
     out: &mut [u8],
     s: State,
-    overflow: Rect,
+    overflow: Rect<f32>,
     styles: &[u32],
     layouts: &[u32],
     working: &[u32],
@@ -123,71 +121,30 @@ fn list_run(
                 &unclaimed[..],
             )
         }
-        Answer::Refused(refusal) => rows::put_refused(out, refusal.number()),
+        Answer::Refused(refusal) => rows::put_refused(out, u32::from(refusal)),
     }
-}
-
-// The same of the front of each slice: n items and m candidates.
-fn list_parts(
-    listing: Listing,
-    n: usize,
-    m: usize,
-    header: &[u32],
-    styles: &[u32],
-    replies: &[u32],
-    candidates: &[u32],
-    layouts: &mut [u32],
-    working: &mut [u32],
-    unclaimed: &mut [u32],
-    out: &mut [u8],
-) -> usize
-    requires style_words_in_bounds { (n * style_words ≤ length styles.now) × (n * reply_width ≤ length replies.now) × (m * candidate_width ≤ length candidates.now) × (n * layout_width ≤ length layouts.old) }
-    requires working_len { (length working.old ≡ list_words) × (LIST_BYTES ≤ length out.old) }
-    ensures { Prints result out.old out.new (list_of listing (take (n * style_words) styles.now) (played_out (opening_of header.now) (take (n * reply_width) replies.now) (take (m * candidate_width) candidates.now) (lent (take (n * style_words) styles.now) (take (n * layout_width) layouts.old) working.old unclaimed.old))) }
-{
-    let styles_end = n * STYLE_WORDS;
-    let replies_end = n * format::REPLY_WORDS;
-    let candidates_end = m * CANDIDATE_WORDS;
-    let layouts_end = n * LAYOUT_WORDS;
-    list_run(
-        listing,
-        opening_of(header),
-        &replies[..replies_end],
-        &styles[..styles_end],
-        &candidates[..candidates_end],
-        &mut layouts[..layouts_end],
-        working,
-        unclaimed,
-        out,
-    )
 }
 
 // Prints the list of a screen's words, with zeros to write layouts and lists into.
 fn list_words(
     listing: Listing,
-    n: usize,
-    m: usize,
-    header: &[u32; format::HEADER_WORDS],
-    styles: &[u32; format::MAX_ITEMS * STYLE_WORDS],
-    replies: &[u32; format::MAX_ITEMS * format::REPLY_WORDS],
-    candidates: &[u32; format::MAX_CANDIDATES * CANDIDATE_WORDS],
+    counts: LineCounts,
+    lists: &ScreenLists,
     out: &mut [u8; LIST_BYTES],
 ) -> usize
-    requires { (n ≤ MAX_ITEMS) × (m ≤ MAX_CANDIDATES) }
-    ensures { Prints result out.old out.new (list_from listing header.now (take (n * style_words) styles.now) n (take (n * reply_width) replies.now) (take (m * candidate_width) candidates.now)) }
+    requires { FewLines counts }
+    ensures { Prints result out.old out.new (list_from listing lists.now.header (take (counts.items * style_words) lists.now.styles) counts.items (take (counts.items * reply_width) lists.now.replies) (take (counts.candidates * candidate_width) lists.now.candidates)) }
 {
     let mut layouts = [0u32; ALL_LAYOUTS];
     let mut working = [0u32; LIST_WORDS];
     let mut unclaimed = [0u32; LIST_WORDS];
-    list_parts(
+    list_run(
         listing,
-        n,
-        m,
-        header,
-        styles,
-        replies,
-        candidates,
-        &mut layouts,
+        opening_of(&lists.header),
+        &lists.replies[..counts.items * format::REPLY_WORDS],
+        &lists.styles[..counts.items * STYLE_WORDS],
+        &lists.candidates[..counts.candidates * CANDIDATE_WORDS],
+        &mut layouts[..counts.items * LAYOUT_WORDS],
         &mut working,
         &mut unclaimed,
         out,
@@ -198,28 +155,9 @@ fn list_words(
 pub fn list_screen(listing: Listing, text: &[u8], out: &mut [u8; LIST_BYTES]) -> usize
     ensures { Prints result out.old out.new (printed listing text.now) }
 {
-    let mut header = [0u32; format::HEADER_WORDS];
-    let mut styles = [0u32; format::MAX_ITEMS * STYLE_WORDS];
-    let mut replies = [0u32; format::MAX_ITEMS * format::REPLY_WORDS];
-    let mut candidates = [0u32; format::MAX_CANDIDATES * CANDIDATE_WORDS];
-    let answer = screen::read_screen(
-        text,
-        &mut header,
-        &mut styles,
-        &mut replies,
-        &mut candidates,
-    );
-    match answer {
-        Screen::BadLine => rows::put_refused(out, Refusal::BadScreenLine.number()),
-        Screen::Read(n, m) => list_words(
-            listing,
-            n,
-            m,
-            &header,
-            &styles,
-            &replies,
-            &candidates,
-            out,
-        ),
+    let mut lists = ScreenLists::filled(0);
+    match screen::read_screen(text, &mut lists) {
+        Ok(counts) => list_words(listing, counts, &lists, out),
+        Err(refusal) => rows::put_refused(out, u32::from(refusal)),
     }
 }

@@ -13,21 +13,11 @@ use tree_record::candidate::CANDIDATE_WORDS;
 use tree_record::layout;
 use util::bits;
 
-// A node as an index.
-fn index(node: u32) -> usize
-    ensures { result ≡ node }
-{
-    node as usize
-}
-
 // A word; 0 beyond the end.
 pub(crate) fn word_at(words: &[u32], k: usize) -> u32
     ensures { result ≡ get_or words.now k 0 }
 {
-    if k < words.len() {
-        return words[k];
-    }
-    0
+    words.get(k).copied().unwrap_or(0)
 }
 
 // The float of a word.
@@ -38,63 +28,50 @@ pub(crate) fn float_at(words: &[u32], k: usize) -> f32
 }
 
 // The row of a node: place, size and margins of the layout that stands at its place.
+#[tactic(auto, using(crate::proofs::Boxes::row_words))]
 fn row_of(layouts: &[u32], node: u32) -> Row
     ensures { result ≡ row_of layouts.now node }
 {
-    let at = layout::LAYOUT_WORDS * index(node);
-    let size = Size {
-        width: float_at(layouts, at + layout::WIDTH),
-        height: float_at(layouts, at + layout::HEIGHT),
-    };
-    let location = Point {
-        x: float_at(layouts, at + layout::X),
-        y: float_at(layouts, at + layout::Y),
-    };
-    let margin = Rect {
-        left: float_at(layouts, at + layout::MARGIN_LEFT),
-        right: float_at(layouts, at + layout::MARGIN_RIGHT),
-        top: float_at(layouts, at + layout::MARGIN_TOP),
-        bottom: float_at(layouts, at + layout::MARGIN_BOTTOM),
-    };
+    let at = layout::LAYOUT_WORDS * node as usize;
     Row {
-        node: node,
-        location: location,
-        size: size,
-        margin: margin,
+        node,
+        location: Point {
+            x: float_at(layouts, at + layout::X),
+            y: float_at(layouts, at + layout::Y),
+        },
+        size: Size {
+            width: float_at(layouts, at + layout::WIDTH),
+            height: float_at(layouts, at + layout::HEIGHT),
+        },
+        margin: Rect {
+            left: float_at(layouts, at + layout::MARGIN_LEFT),
+            right: float_at(layouts, at + layout::MARGIN_RIGHT),
+            top: float_at(layouts, at + layout::MARGIN_TOP),
+            bottom: float_at(layouts, at + layout::MARGIN_BOTTOM),
+        },
     }
 }
 
-// The row of the box whose record stands at a place of the working list.
-fn put_box(out: &mut [u8], at: usize, working: &[u32], word: usize, layouts: &[u32])
-    requires { at + ROW ≤ length out.old }
-    ensures { out.new ≡ sets out.old at (row_text (row_of layouts.now (get_or working.now word 0))) }
-{
-    list::put_row(out, at, row_of(layouts, word_at(working, word)));
-}
-
 // The rows of the first n records of the working list.
+#[tactic(auto, using(crate::proofs::Boxes::rows_none, crate::proofs::Boxes::rows_stored))]
 fn put_rows(out: &mut [u8], at: usize, working: &[u32], n: usize, layouts: &[u32])
     requires { at + n * ROW ≤ length out.old }
     ensures { out.new ≡ sets out.old at (rows_text (rows_at working.now n layouts.now)) }
 {
-    let mut p = at;
-    let mut word: usize = 0;
-    let mut i: usize = 0;
-    while i < n {
-        put_box(out, p, working, word, layouts);
-        p += ROW;
-        word += CANDIDATE_WORDS;
-        i += 1;
+    for i in 0..n {
+        let node = word_at(working, CANDIDATE_WORDS * i);
+        list::put_row(out, at + i * ROW, row_of(layouts, node));
     }
 }
 
 // The list of a finished run: the names, its rows, its overflow rectangle. Answers how many bytes it has.
+#[tactic(auto, using(crate::proofs::Boxes::list_size, crate::proofs::Boxes::list_stored))]
 pub(crate) fn put_list(
     out: &mut [u8],
     working: &[u32],
     n: usize,
     layouts: &[u32],
-    overflow: Rect,
+    overflow: Rect<f32>,
 ) -> usize
     requires { (1 + n) * ROW + OVERFLOW ≤ length out.old }
     ensures { Prints result out.old out.new (list_text (rows_at working.now n layouts.now) overflow) }
@@ -107,6 +84,7 @@ pub(crate) fn put_list(
 }
 
 // A refusal's line. Answers how many bytes it has.
+#[tactic(auto, using(boxlist_lines::proofs::Laws::refusal_bytes))]
 pub(crate) fn put_refused(out: &mut [u8], number: u32) -> usize
     requires { REFUSAL ≤ length out.old }
     ensures { Prints result out.old out.new (refusal_text number) }

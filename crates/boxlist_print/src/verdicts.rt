@@ -12,15 +12,8 @@ use boxreach_lines::VERDICT_ROW;
 use run::State;
 use tree_record::candidate::CANDIDATE_WORDS;
 
-// A place as it is printed.
-fn number(place: usize) -> u32
-    requires { place ≤ MAX_CANDIDATES }
-    ensures { result ≡ place }
-{
-    place as u32
-}
-
 // The row of the box at a place.
+#[tactic(auto, using(crate::proofs::Each::verdict_row_lem))]
 fn put_verdict(
     out: &mut [u8],
     at: usize,
@@ -37,10 +30,11 @@ fn put_verdict(
 {
     let node = word_at(working, CANDIDATE_WORDS * place);
     let reached = reach::reach(place, s, styles, layouts, working, unclaimed);
-    boxreach_lines::put_row(out, at, number(place), node, reached);
+    boxreach_lines::put_row(out, at, place as u32, node, reached);
 }
 
 // The rows of the first n boxes.
+#[tactic(auto, using(crate::proofs::Each::none_left, crate::proofs::Each::row_stored))]
 fn put_each(
     out: &mut [u8],
     at: usize,
@@ -55,16 +49,14 @@ fn put_each(
     requires n_in_bounds { at + n * VERDICT_ROW ≤ length out.old }
     ensures { out.new ≡ sets out.old at (verdicts_from s (lent styles.now layouts.now working.now unclaimed.now) 0 n) }
 {
-    let mut p = at;
-    let mut i: usize = 0;
-    while i < n {
-        put_verdict(out, p, i, s, styles, layouts, working, unclaimed);
-        p += VERDICT_ROW;
-        i += 1;
+    for i in 0..n {
+        let row = at + i * VERDICT_ROW;
+        put_verdict(out, row, i, s, styles, layouts, working, unclaimed);
     }
 }
 
 // The names, and a row for each box. Answers how many bytes they have.
+#[tactic(auto, using(crate::proofs::Each::verdicts_bytes, crate::proofs::Each::verdicts_stored))]
 pub(crate) fn put_verdicts(
     out: &mut [u8],
     s: State,

@@ -10,12 +10,14 @@ ghost use Rattle.boxreach_lines.specs.Lines.{VERDICT_ROW, verdict_names, seen_co
 
 use boxlist_lines::list::put_bytes;
 use boxlist_lines::{COLUMN, put_code};
-use reach::Reached;
+use reach::Offsets;
+use refusal::Refusal;
 
 // How many bytes a line has: five columns and a line feed.
 pub const VERDICT_ROW: usize = 5 * COLUMN + 1;
 
 // The names of the columns.
+#[tactic(auto, unfolding(crate::specs::Lines::verdict_names, boxlist_lines::specs::Lines::line_text, boxlist_lines::specs::Lines::joined, boxlist_lines::specs::Lines::word_text))]
 pub fn put_names(out: &mut [u8], at: usize)
     requires { at + VERDICT_ROW ≤ length out.old }
     ensures { out.new ≡ sets out.old at verdict_names }
@@ -24,15 +26,17 @@ pub fn put_names(out: &mut [u8], at: usize)
 }
 
 // `seen`, and the offsets.
-fn put_seen(out: &mut [u8], at: usize, x: u32, y: u32)
+#[tactic(auto, using(crate::proofs::Lines::seen_stores))]
+fn put_seen(out: &mut [u8], at: usize, offsets: Offsets)
     requires { at + 3 * COLUMN ≤ length out.old }
-    ensures { out.new ≡ sets out.old at (joined (seen_columns x y)) }
+    ensures { out.new ≡ sets out.old at (joined (seen_columns offsets)) }
 {
     put_bytes(out, at, b"    seen");
-    put_code(out, at + COLUMN, x);
-    put_code(out, at + 2 * COLUMN, y);
+    put_code(out, at + COLUMN, offsets.across);
+    put_code(out, at + 2 * COLUMN, offsets.down);
 }
 
+#[tactic(auto, unfolding(boxlist_lines::specs::Lines::joined, boxlist_lines::specs::Lines::word_text))]
 fn put_unseen(out: &mut [u8], at: usize)
     requires { at + 3 * COLUMN ≤ length out.old }
     ensures { out.new ≡ sets out.old at (joined unseen_columns) }
@@ -41,6 +45,7 @@ fn put_unseen(out: &mut [u8], at: usize)
 }
 
 // `refused`, and the number.
+#[tactic(auto, using(crate::proofs::Lines::refused_stores))]
 fn put_refused(out: &mut [u8], at: usize, number: u32)
     requires { at + 3 * COLUMN ≤ length out.old }
     ensures { out.new ≡ sets out.old at (joined (refused_columns number)) }
@@ -51,19 +56,26 @@ fn put_refused(out: &mut [u8], at: usize, number: u32)
 }
 
 // The three columns of a verdict.
-fn put_verdict(out: &mut [u8], at: usize, reached: Reached)
+fn put_verdict(out: &mut [u8], at: usize, reached: Result<Option<Offsets>, Refusal>)
     requires { at + 3 * COLUMN ≤ length out.old }
     ensures { out.new ≡ sets out.old at (joined (verdict_columns reached)) }
 {
     match reached {
-        Reached::Seen(x, y) => put_seen(out, at, x, y),
-        Reached::Unseen => put_unseen(out, at),
-        Reached::Refused(refusal) => put_refused(out, at, refusal.number()),
+        Ok(Some(offsets)) => put_seen(out, at, offsets),
+        Ok(None) => put_unseen(out, at),
+        Err(refusal) => put_refused(out, at, u32::from(refusal)),
     }
 }
 
 // A box: its place, its node, its verdict.
-pub fn put_row(out: &mut [u8], at: usize, place: u32, node: u32, reached: Reached)
+#[tactic(auto, using(crate::proofs::Lines::row_stores))]
+pub fn put_row(
+    out: &mut [u8],
+    at: usize,
+    place: u32,
+    node: u32,
+    reached: Result<Option<Offsets>, Refusal>,
+)
     requires { at + VERDICT_ROW ≤ length out.old }
     ensures { out.new ≡ sets out.old at (verdict_row place node reached) }
 {

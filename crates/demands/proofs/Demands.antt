@@ -10,20 +10,23 @@ use mathlib.Core.List.{List, [], ◌∷◌, ◌++◌, foldl, foldl-append, appen
 use lib.Dec.{eqb}
 use lib.ListN.{length}
 use borrow.Author.Tests.{eq-eqb}
+use Rattle.reach.specs.declared.Offsets.{Offsets}
 use Rattle.util.proofs.Floats.{no}
 use Rattle.geometry.specs.declared.Line.{Line}
 use Rattle.geometry.specs.declared.Point.{Point}
 use Rattle.geometry.specs.declared.Rect.{Rect}
 use Rattle.style.specs.declared.alignment.AlignItems.{AlignItems}
 use Rattle.tree.specs.Static.{from_alignment}
-use Rattle.tree.specs.declared.layout.Aligned.{Aligned}
+use Rattle.tree.specs.declared.layout.AxisStaticPosition.{AxisStaticPosition}
 use Rattle.tree.specs.declared.layout.Layout.{Layout}
+use Rattle.std.specs.Prelude.{Result, IsOk, Option, Float, ℤ}
 use Rattle.pixels.specs.Pixels.{pixel_edges}
-use Rattle.pixels.specs.declared.Pixels.{Pixels}
+use Rattle.refusal.specs.declared.Refusal.{Refusal}
 use Rattle.refusal.specs.declared.Refusal.TheVariants.{BadStyle}
 use Rattle.style_record.specs.Check.{checked}
 use Rattle.style_record.specs.Decode.{style_at}
-use Rattle.style_record.specs.declared.check.TableCheck.{TableCheck}
+use Rattle.style_record.specs.declared.check.BadWord.{BadWord}
+use Rattle.std.specs.Prelude.{Result, ⊤}
 use Rattle.sweep.specs.Sweep.{layers_of, claimed}
 use Rattle.oof_box.specs.declared.question.Reply.{Reply}
 use Rattle.oof_box.specs.declared.question.Reply.TheVariants.{LaidOut}
@@ -43,7 +46,6 @@ use Rattle.run.proofs.Refusals.{refused_reply_keeps, refused_opening_keeps, sayi
 use Rattle.run.proofs.Exactly.{opening_refused_exactly, opening_accepted_exactly, reply_refused_exactly, reply_accepted_exactly, unresolved_exactly}
 use Rattle.run.proofs.Named.{named_exactly, nothing_exactly, named_where_bad}
 use Rattle.boxlist_print.proofs.Exactly.{refused_exactly, listed_exactly}
-use Rattle.reach.specs.Laws.{IsAnswer}
 use Rattle.reach.specs.Reach.{reached}
 use Rattle.reach_laws.specs.Laws.{told_of}
 use Rattle.reach_laws.proofs.Runs.{mirrored_verdict}
@@ -53,7 +55,6 @@ use Rattle.drawing_laws.proofs.Finished.{finished_is_drawn as run-is-drawn}
 use Rattle.drawing_laws.proofs.Runs.{run_reads_no_layer}
 use Rattle.drawing_laws.proofs.Mirrored.{mirrored_drawing as images-drawn}
 use Rattle.reach_laws.proofs.Answered.{quarters_are_answered as all_answered}
-use Rattle.reach.specs.declared.Reached.{Reached}
 use Rattle.reach.proofs.Exactly as reach
 use Rattle.drawing.specs.Drawing.{drawing_order, Drawn, drawn}
 use Rattle.drawing.proofs.Exactly as drawing
@@ -88,14 +89,14 @@ opening_demands o candidates lent c =
       kept = refused_opening_keeps o candidates lent;
     })
 
-pub alignment_demands : (a : AlignItems) (area : Line) (rtl : Bool) {r : Aligned} → r ≡ from_alignment a area rtl → AlignmentDemands a area rtl r
+pub alignment_demands : (a : AlignItems) (area : Line Float) (rtl : Bool) {r : Result AxisStaticPosition Refusal} → r ≡ from_alignment a area rtl → AlignmentDemands a area rtl r
 alignment_demands a area rtl c = subst (AlignmentDemands a area rtl) (sym c) (record { call = refl; refused = unresolved_exactly a area rtl })
 
-pub pixels_demands : (layout : Layout) (offset : Point) {r : Pixels} → r ≡ pixel_edges layout offset → PixelsDemands layout offset r
+pub pixels_demands : (layout : Layout) (offset : Point Float) {r : Result (Rect ℤ) Refusal} → r ≡ pixel_edges layout offset → PixelsDemands layout offset r
 pixels_demands layout offset c =
     subst (PixelsDemands layout offset) (sym c) (record { call = refl; refused = refused_first layout offset; accepted = edges_first layout offset })
 
-pub reach_demands : (place : ℕ) (s : State) (lent : Lent) {r : Reached} → r ≡ reached place s lent → ReachDemands place s lent r
+pub reach_demands : (place : ℕ) (s : State) (lent : Lent) {r : Result (Option Offsets) Refusal} → r ≡ reached place s lent → ReachDemands place s lent r
 reach_demands place s lent c =
     subst (ReachDemands place s lent) (sym c)
     (record { call = refl; refused = reach.refused_exactly place s lent; answered = reach.answered_exactly place s lent })
@@ -111,7 +112,7 @@ drawing_demands s lent before c =
       in_order = drawing.drawn_in_order s lent before;
     })
 
-pub check_demands : (styles : List ℕ) {r : TableCheck} → r ≡ checked styles → CheckDemands styles r
+pub check_demands : (styles : List ℕ) {r : Result ⊤ BadWord} → r ≡ checked styles → CheckDemands styles r
 check_demands styles c =
     subst (CheckDemands styles) (sym c)
     (record { call = refl; named = named_exactly styles; nothing = nothing_exactly styles; some = named_where_bad styles })
@@ -218,7 +219,7 @@ quarters_have_edges o candidates lent turns has area table quarter calls heard =
 pub quarters_are_answered : QuartersAreAnswered
 quarters_are_answered o candidates lent turns has area table quarter calls heard =
     subst
-    (λ (x : Outcome). x.step.state.progress ≡ Finished → (place : ℕ) → place < x.step.state.counts.filled.working → IsAnswer (told_of place lent.styles x))
+    (λ (x : Outcome). x.step.state.progress ≡ Finished → (place : ℕ) → place < x.step.state.counts.filled.working → IsOk (told_of place lent.styles x))
     (sym (run_is o candidates lent calls))
     (λ finished place filled. all_answered o candidates lent turns place area table quarter (run_opened o candidates lent calls) (run_lends o candidates lent calls) heard finished filled)
 
@@ -246,7 +247,7 @@ placement_reads_no_layer o candidates candidates' lent lent' turns turns' has ha
 
 -- ---- the size law
 
-sized : (s : State) (overflow : Rect) (surfaced : List ℕ) (lent : Lent) → SizedLayout s lent (laid_out s overflow surfaced lent).layouts
+sized : (s : State) (overflow : Rect Float) (surfaced : List ℕ) (lent : Lent) → SizedLayout s lent (laid_out s overflow surfaced lent).layouts
 unfolding laid_out
 sized s overflow surfaced lent =
     let box = box_at_hand lent.working s.counts in

@@ -5,7 +5,8 @@
 -- What document 01 leaves free is fixed by the definition all the same: what is asked and written where words were rewritten between calls or
 -- a state was forged (oof_box/specs/Cut.antt), and the numbers of a refused opening's state, which are zeros.
 -- Assumes nothing.
-use Rattle.std.specs.Prelude.{ℕ, ◌*◌, ◌≤◌, ◌<◌, ◌↔◌, ◌≡◌, Bool, false, List, [], ◌∷◌, length, take}
+use Rattle.std.specs.Prelude.{ℕ, ◌*◌, ◌≤◌, ◌<◌, ◌↔◌, ◌≡◌, Bool, false, List, [], ◌∷◌, length, take, Result, Err, All, IsOk, Option, Float, ℤ}
+use Rattle.reach.specs.declared.Offsets.{Offsets}
 use Rattle.util.specs.Laws.{AtOrAbove}
 use Rattle.geometry.specs.Geometry.{sums, rect_sum}
 use Rattle.geometry.specs.declared.Line.{Line}
@@ -15,22 +16,17 @@ use Rattle.refusal.specs.declared.Refusal.{Refusal}
 use Rattle.refusal.specs.declared.Refusal.TheVariants.{BadStyle}
 use Rattle.refusal.specs.Refusal.{number_of}
 use Rattle.style.specs.declared.alignment.AlignItems.{AlignItems}
-use Rattle.style_record.specs.Check.{checked}
-use Rattle.style_record.specs.declared.check.TableCheck.{TableCheck}
-use Rattle.style_record.specs.declared.check.TableCheck.TheVariants as check
+use Rattle.style_record.specs.Check.{bad_at, checked}
+use Rattle.style_record.specs.declared.check.BadWord.{BadWord}
+use Rattle.std.specs.Prelude.{Result, Ok, ⊤}
 use Rattle.tree.specs.Static.{from_alignment}
-use Rattle.tree.specs.declared.layout.Aligned.{Aligned}
-use Rattle.tree.specs.declared.layout.Aligned.TheVariants as aligned
+use Rattle.tree.specs.declared.layout.AxisStaticPosition.{AxisStaticPosition}
 use Rattle.tree.specs.declared.layout.Layout.{Layout}
 use Rattle.records.specs.Records.{written}
 use Rattle.tree_record.specs.Layout.{layout_width, layout_words}
 use Rattle.sweep.specs.Sweep.{layers_of, claimed}
 use Rattle.pixels.specs.Conditions.{pixel_tests}
 use Rattle.pixels.specs.Pixels.{pixel_edges}
-use Rattle.pixels.specs.declared.PixelRect.{PixelRect}
-use Rattle.pixels.specs.declared.Pixels.{Pixels}
-use Rattle.pixels.specs.declared.Pixels.TheVariants.{Edges}
-use Rattle.pixels.specs.declared.Pixels.TheVariants as pixels
 use Rattle.oof_box.specs.declared.question.LayoutInput.{LayoutInput}
 use Rattle.oof_box.specs.declared.question.Question.TheVariants.{LayOut}
 use Rattle.oof_box.specs.declared.question.Reply.{Reply}
@@ -47,15 +43,12 @@ use Rattle.run.specs.Theorems.{Names, is_refused, own, StageTellsKind, WroteSize
 use Rattle.mirror_run.specs.Image.{image_styles}
 use Rattle.mirror_run.specs.Quarter.{AreaInQuarters, QuarterArea, QuarterTable, QuarterCandidates}
 use Rattle.mirror_run.specs.Runs.{Message, MirroredRuns, unclaimed_at_opening, layout_of_box}
-use Rattle.pixels_laws.specs.Laws.{HasEdges, All, QuarterHeard}
+use Rattle.pixels_laws.specs.Laws.{HasEdges, QuarterHeard}
 use Rattle.boxlist_lines.specs.Lines.{refusal_text}
 use Rattle.reach_laws.specs.Laws.{told_of}
 use Rattle.drawing_laws.specs.Laws.{all_came, KeepsLayers, SameCandidates, SameSlices, SameOutcomes, SameTurns, drawn_of}
 use Rattle.reach.specs.Conditions.{reach_tests}
-use Rattle.reach.specs.Laws.{IsAnswer}
 use Rattle.reach.specs.Reach.{reached}
-use Rattle.reach.specs.declared.Reached.{Reached}
-use Rattle.reach.specs.declared.Reached.TheVariants as reach
 use Rattle.drawing.specs.Conditions.{drawing_tests}
 use Rattle.drawing.specs.Drawing.{drawing_order, box_layers, Drawn, drawn}
 use Rattle.drawing.specs.Laws.{EachOnce, InOrder}
@@ -88,7 +81,7 @@ pub record SizedLayout (s : State) (lent : Lent) (layouts : List ℕ) : Type 0 w
   pub height : AtOrAbove (sums (rect_sum layout.padding layout.border)).height layout.size.height
 
 abbrev pub SizeLaw : State → Reply → Lent → Outcome → Type 0
-SizeLaw s reply lent has = (overflow : Rect) → reply ≡ LaidOut overflow → is_refused has.step.answer ≡ false → SizedLayout s lent has.layouts
+SizeLaw s reply lent has = (overflow : Rect Float) → reply ≡ LaidOut overflow → is_refused has.step.answer ≡ false → SizedLayout s lent has.layouts
 
 -- a reply, whatever the state that is given with it
 pub record ReplyDemands (s : State) (reply : Reply) (surfaced : List ℕ) (lent : Lent) (has : Outcome) : Type 0 where
@@ -99,21 +92,21 @@ pub record ReplyDemands (s : State) (reply : Reply) (surfaced : List ℕ) (lent 
   pub size : SizeLaw s reply lent has
 
 -- `from_alignment`: 7
-pub record AlignmentDemands (a : AlignItems) (area : Line) (rtl : Bool) (r : Aligned) : Type 0 where
+pub record AlignmentDemands (a : AlignItems) (area : Line Float) (rtl : Bool) (r : Result AxisStaticPosition Refusal) : Type 0 where
   pub call : r ≡ from_alignment a area rtl
-  pub refused : (q : Refusal) → (r ≡ aligned.Refused q) ↔ FirstIs ((7, SideIsUnresolved a) ∷ []) (number_of q)
+  pub refused : (q : Refusal) → (r ≡ Err q) ↔ FirstIs ((7, SideIsUnresolved a) ∷ []) (number_of q)
 
 -- `pixel_edges`: 9
-pub record PixelsDemands (layout : Layout) (offset : Point) (r : Pixels) : Type 0 where
+pub record PixelsDemands (layout : Layout) (offset : Point Float) (r : Result (Rect ℤ) Refusal) : Type 0 where
   pub call : r ≡ pixel_edges layout offset
-  pub refused : (q : Refusal) → (r ≡ pixels.Refused q) ↔ FirstIs (pixel_tests layout offset) (number_of q)
-  pub accepted : ((edges : PixelRect) × (r ≡ Edges edges)) ↔ NoneHolds (pixel_tests layout offset)
+  pub refused : (q : Refusal) → (r ≡ Err q) ↔ FirstIs (pixel_tests layout offset) (number_of q)
+  pub accepted : IsOk r ↔ NoneHolds (pixel_tests layout offset)
 
 -- `reach`: 2, 6, 4, 9. It is lent slices that it can't write, and returns no state
-pub record ReachDemands (place : ℕ) (s : State) (lent : Lent) (r : Reached) : Type 0 where
+pub record ReachDemands (place : ℕ) (s : State) (lent : Lent) (r : Result (Option Offsets) Refusal) : Type 0 where
   pub call : r ≡ reached place s lent
-  pub refused : (q : Refusal) → (r ≡ reach.Refused q) ↔ FirstIs (reach_tests place s lent) (number_of q)
-  pub answered : IsAnswer r ↔ NoneHolds (reach_tests place s lent)
+  pub refused : (q : Refusal) → (r ≡ Err q) ↔ FirstIs (reach_tests place s lent) (number_of q)
+  pub answered : IsOk r ↔ NoneHolds (reach_tests place s lent)
 
 -- `drawing_order`: 2, 6, 4. It can write one slice, that of the order: refused, its words stay; accepted, each box's place stands there once,
 -- lower layers first, and within one layer in the hoisted order
@@ -127,10 +120,10 @@ pub record DrawingDemands (s : State) (lent : Lent) (before : List ℕ) (has : D
 -- request #103. `check_styles` refuses nothing: "it names that item and the first of its words, in record order from 0, that breaks one, or
 -- nothing exactly when no word of the table does". The rules are refusal 3's, and it names a word exactly where 3's condition holds. The table
 -- is its whole records, however many: a part of one behind them is no item, and an opening or a reply that lends it is refused before 3
-pub record CheckDemands (styles : List ℕ) (r : TableCheck) : Type 0 where
+pub record CheckDemands (styles : List ℕ) (r : Result ⊤ BadWord) : Type 0 where
   pub call : r ≡ checked styles
-  pub named : (i k : ℕ) → (r ≡ check.Bad i k) ↔ FirstNotAllowed styles i k
-  pub nothing : (r ≡ check.Good) ↔ AllAllowed styles
+  pub named : (i k : ℕ) → (r ≡ bad_at i k) ↔ FirstNotAllowed styles i k
+  pub nothing : (r ≡ Ok tt) ↔ AllAllowed styles
   pub some : Names r ↔ StyleIsBad styles
 
 -- the programs: 8, then 1, 3 and 4 of the run that the screen scripts. Each prints the refusal's line, or its list: of boxes or of verdicts
@@ -182,7 +175,7 @@ LaidOutAsAsked =
     → Run o candidates lent turns asked
     → (input : LayoutInput) → asked.step.answer ≡ Ask (LayOut input)
     → RefusedSince lent.styles asked before
-    → (overflow : Rect) (surfaced : List ℕ) → Takes lent.styles before (record { reply = LaidOut overflow; surfaced = surfaced }) own has
+    → (overflow : Rect Float) (surfaced : List ℕ) → Takes lent.styles before (record { reply = LaidOut overflow; surfaced = surfaced }) own has
     → is_refused has.step.answer ≡ false
     → WroteSize input asked.layouts has.layouts
 
@@ -266,7 +259,7 @@ QuartersAreAnswered =
     → Run o candidates lent turns has
     → All (QuarterHeard (claims_of o)) (heeded_in o candidates lent turns)
     → has.step.state.progress ≡ Finished
-    → (place : ℕ) → place < has.step.state.counts.filled.working → IsAnswer (told_of place lent.styles has)
+    → (place : ℕ) → place < has.step.state.counts.filled.working → IsOk (told_of place lent.styles has)
 
 -- ---- What is demanded of runs, and the theorems beyond: the function `demanded` of src/lib.rt ensures these, so that a crate without a proof of each is not proved.
 

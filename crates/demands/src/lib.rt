@@ -6,19 +6,17 @@
 ghost use Rattle.std.specs.Prelude.{◌≡◌};
 ghost use Rattle.oof_axis.specs.StaticOffset.{static_offset};
 ghost use Rattle.run.specs.Call.{lent, outcome};
-ghost use Rattle.placer_check.specs.Verdict.{verdict_of};
 ghost use Rattle.demands.specs.Demands.{OpeningDemands, ReplyDemands, AlignmentDemands, PixelsDemands, ReachDemands, DrawingDemands, CheckDemands, ScreenDemands, Demanded};
 
 use boxlist_print::{LIST_BYTES, Listing};
 use geometry::{Line, Point, Rect, Size};
 use oof_box::question::Reply;
-use pixels::Pixels;
-use placer_check::Verdict;
-use reach::Reached;
+use reach::Offsets;
+use refusal::Refusal;
 use run::{Opening, State, Step};
 use style::alignment::AlignItems;
-use style_record::check::TableCheck;
-use tree::layout::{Aligned, AxisStaticPosition, Layout, StaticPosition};
+use style_record::check::BadWord;
+use tree::layout::{AxisStaticPosition, Layout};
 
 pub fn open(
     o: Opening,
@@ -47,13 +45,17 @@ pub fn reply(
     placer::reply(s, reply, surfaced, styles, layouts, working, unclaimed)
 }
 
-pub fn from_alignment(alignment: AlignItems, area: Line, rtl: bool) -> Aligned
+pub fn from_alignment(
+    alignment: AlignItems,
+    area: Line<f32>,
+    rtl: bool,
+) -> Result<AxisStaticPosition, Refusal>
     ensures { AlignmentDemands alignment area rtl result }
 {
     AxisStaticPosition::from_alignment(alignment, area, rtl)
 }
 
-pub fn pixel_edges(layout: Layout, offset: Point) -> Pixels
+pub fn pixel_edges(layout: Layout, offset: Point<f32>) -> Result<Rect<i32>, Refusal>
     ensures { PixelsDemands layout offset result }
 {
     pixels::pixel_edges(layout, offset)
@@ -66,7 +68,7 @@ pub fn reach(
     layouts: &[u32],
     working: &[u32],
     unclaimed: &[u32],
-) -> Reached
+) -> Result<Option<Offsets>, Refusal>
     ensures { ReachDemands place s (lent styles.now layouts.now working.now unclaimed.now) result }
 {
     reach::reach(place, s, styles, layouts, working, unclaimed)
@@ -79,20 +81,24 @@ pub fn drawing_order(
     working: &[u32],
     unclaimed: &[u32],
     order: &mut [u32],
-) -> Verdict
-    ensures { DrawingDemands s (lent styles.now layouts.now working.now unclaimed.now) order.old (record { verdict = verdict_of result; order = order.new }) }
+) -> Result<(), Refusal>
+    ensures { DrawingDemands s (lent styles.now layouts.now working.now unclaimed.now) order.old (record { verdict = result; order = order.new }) }
 {
     drawing::drawing_order(s, styles, layouts, working, unclaimed, order)
 }
 
 // These two refuse nothing.
-pub fn check_styles(styles: &[u32]) -> TableCheck
+pub fn check_styles(styles: &[u32]) -> Result<(), BadWord>
     ensures { CheckDemands styles.now result }
 {
     style_record::check::check_styles(styles)
 }
 
-pub fn resolve_static_offset(place: StaticPosition, size: Size, margin: Rect) -> Point
+pub fn resolve_static_offset(
+    place: Point<AxisStaticPosition>,
+    size: Size<f32>,
+    margin: Rect<f32>,
+) -> Point<f32>
     ensures { result ≡ static_offset place size margin }
 {
     oof_axis::resolve_static_offset(place, size, margin)

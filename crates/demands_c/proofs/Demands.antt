@@ -9,20 +9,18 @@ use lib.Dec.{eqb}
 use lib.IntN.{ℤ}
 use lib.ListN.{length}
 use borrow.Author.Tests.{ne_eqb, eq-eqb}
+use Rattle.reach.specs.declared.Offsets.{Offsets}
 use Rattle.util.proofs.Floats.{no}
 use Rattle.geometry.specs.declared.Point.{Point}
 use Rattle.refusal.specs.Refusal.{number_of}
 use Rattle.refusal.specs.declared.Refusal.{Refusal}
 use Rattle.style_record.specs.Check.{checked}
-use Rattle.style_record.specs.declared.check.TableCheck.{TableCheck}
-use Rattle.style_record.specs.declared.check.TableCheck.TheVariants.{Good, Bad}
+use Rattle.style_record.specs.declared.check.BadWord.{BadWord}
 use Rattle.tree_record.specs.Layout.{layout_of}
+use Rattle.std.specs.Prelude.{Result, Some, None, Ok, Err, IsOk, Option, ⊤, Float}
 use Rattle.pixels.specs.Conditions.{pixel_tests}
 use Rattle.pixels.specs.Pixels.{pixel_edges}
-use Rattle.pixels.specs.declared.PixelRect.{PixelRect}
-use Rattle.pixels.specs.declared.Pixels.{Pixels}
-use Rattle.pixels.specs.declared.Pixels.TheVariants.{Edges}
-use Rattle.pixels.specs.declared.Pixels.TheVariants as pixels
+use Rattle.geometry.specs.declared.Rect.{Rect}
 use Rattle.oof_box.specs.declared.question.Question.{Question}
 use Rattle.oof_box.specs.declared.question.Question.TheVariants.{MeasureBoth, MeasureWidth, MeasureHeight, LayOut}
 use Rattle.oof_box.specs.declared.question.Reply.{Reply}
@@ -55,11 +53,8 @@ use Rattle.oof_c_words.proofs.Kept.{opening_is_kept, reply_is_kept}
 use Rattle.pixels_laws.proofs.Run.{run_has_edges}
 use Rattle.pixels_laws.proofs.Tests.{refused_first, edges_first}
 use Rattle.reach.specs.Conditions.{reach_tests}
-use Rattle.reach.specs.Laws.{IsAnswer}
 use Rattle.reach.specs.Reach.{reached}
 use Rattle.reach.specs.Told.{ReachReturned, verdict_told}
-use Rattle.reach.specs.declared.Reached.{Reached}
-use Rattle.reach.specs.declared.Reached.TheVariants as reach
 use Rattle.reach.proofs.Exactly as exactly
 use Rattle.reach_laws.proofs.Answered.{quarters_are_answered as all_answered}
 use Rattle.oof_c_words.specs.CheckWords.{CheckReturned, check_told, check_in_words}
@@ -107,11 +102,11 @@ module _ (tests : List (ℕ × Type 0)) where
   answer_by (Finish x) f g = none_holds (g.0 refl)
   answer_by (Refused r) f g = first_holds r ((f r).0 refl)
 
-  edges_by : (p : Pixels) (before : List ℤ) → ((r : Refusal) → (p ≡ pixels.Refused r) ↔ FirstIs tests (number_of r)) → ((q : PixelRect) × (p ≡ Edges q)) ↔ NoneHolds tests
+  edges_by : (p : Result (Rect ℤ) Refusal) (before : List ℤ) → ((r : Refusal) → (p ≡ Err r) ↔ FirstIs tests (number_of r)) → IsOk p ↔ NoneHolds tests
       → ResultBy tests (edges_told p before).result
   unfolding edges_told
-  edges_by (Edges q) before f g = none_holds (g.0 (q, refl))
-  edges_by (pixels.Refused r) before f g = first_holds r ((f r).0 refl)
+  edges_by (Ok q) before f g = none_holds (g.0 refl)
+  edges_by (Err r) before f g = first_holds r ((f r).0 refl)
 
 pub opening_demands :
     (o : Opening) (candidates styles : List ℕ) (before : Words) {has : Returned} → Opens o candidates styles before has
@@ -155,18 +150,23 @@ reply_demands reply surfaced styles before c =
     by = answer_by (reply_tests s reply surfaced l) (replied s reply surfaced l).step.answer (reply_refused_exactly s reply surfaced l) (reply_accepted_exactly s reply surfaced l)
 
 module _ (before : List ℤ) where
-  edges_kept : (p : Pixels) → (edges_told p before).result ≢ 0 → (edges_told p before).edges ≡ before
+  edges_kept : (p : Result (Rect ℤ) Refusal) → (edges_told p before).result ≢ 0 → (edges_told p before).edges ≡ before
   unfolding edges_told
-  edges_kept (Edges edges) h = absurd (h refl)
-  edges_kept (pixels.Refused r) h = refl
+  edges_kept (Ok edges) h = absurd (h refl)
+  edges_kept (Err r) h = refl
 
-  edges_written : (p : Pixels) → (edges_told p before).result ≡ 0 → (q : PixelRect) × (p ≡ Edges q) × ((edges_told p before).edges ≡ q.left ∷ q.right ∷ q.top ∷ q.bottom ∷ [])
+  edges_written : (p : Result (Rect ℤ) Refusal) → (edges_told p before).result ≡ 0 → (q : Rect ℤ) × (p ≡ Ok q) × ((edges_told p before).edges ≡ q.left ∷ q.right ∷ q.top ∷ q.bottom ∷ [])
   unfolding edges_told
-  edges_written (Edges q) h = (q, refl, refl)
-  edges_written (pixels.Refused r) h = absurd (refused_is_not r h)
+  edges_written (Ok q) h = (q, refl, refl)
+  edges_written (Err r) h = absurd (refused_is_not r h)
+
+  edges_are_zero : (p : Result (Rect ℤ) Refusal) → IsOk p → (edges_told p before).result ≡ 0
+  unfolding edges_told
+  edges_are_zero (Ok q) h = refl
+  edges_are_zero (Err r) h = absurd cc
 
 pub pixels_demands :
-    (layout : List ℕ) (offset : Point) (before : List ℤ) {has : PixelsReturned} → has ≡ pixels_in_words layout offset before
+    (layout : List ℕ) (offset : Point Float) (before : List ℤ) {has : PixelsReturned} → has ≡ pixels_in_words layout offset before
     → PixelsDemands layout offset before has
 unfolding pixels_in_words
 pixels_demands layout offset before c =
@@ -179,30 +179,30 @@ pixels_demands layout offset before c =
 -- ---- what is told of reaching a box
 
 module _ (before : List ℕ) where
-  verdict_by : (tests : List (ℕ × Type 0)) (v : Reached) → ((r : Refusal) → (v ≡ reach.Refused r) ↔ FirstIs tests (number_of r)) → IsAnswer v ↔ NoneHolds tests
+  verdict_by : (tests : List (ℕ × Type 0)) (v : Result (Option Offsets) Refusal) → ((r : Refusal) → (v ≡ Err r) ↔ FirstIs tests (number_of r)) → IsOk v ↔ NoneHolds tests
       → ResultBy tests (verdict_told v before).result
   unfolding verdict_told
-  verdict_by tests (reach.Seen x y) f g = none_holds (g.0 tt)
-  verdict_by tests reach.Unseen f g = none_holds (g.0 tt)
-  verdict_by tests (reach.Refused r) f g = first_holds r ((f r).0 refl)
+  verdict_by tests (Ok (Some o)) f g = none_holds (g.0 refl)
+  verdict_by tests (Ok None) f g = none_holds (g.0 refl)
+  verdict_by tests (Err r) f g = first_holds r ((f r).0 refl)
 
-  verdict_kept : (v : Reached) → (verdict_told v before).result ≢ 0 → (verdict_told v before).verdict ≡ before
+  verdict_kept : (v : Result (Option Offsets) Refusal) → (verdict_told v before).result ≢ 0 → (verdict_told v before).verdict ≡ before
   unfolding verdict_told
-  verdict_kept (reach.Seen x y) h = absurd (h refl)
-  verdict_kept reach.Unseen h = absurd (h refl)
-  verdict_kept (reach.Refused r) h = refl
+  verdict_kept (Ok (Some o)) h = absurd (h refl)
+  verdict_kept (Ok None) h = absurd (h refl)
+  verdict_kept (Err r) h = refl
 
-  verdict_written : (v : Reached) → (verdict_told v before).result ≡ 0 → VerdictIn v (verdict_told v before).verdict
+  verdict_written : (v : Result (Option Offsets) Refusal) → (verdict_told v before).result ≡ 0 → VerdictIn v (verdict_told v before).verdict
   unfolding verdict_told
-  verdict_written (reach.Seen x y) h = refl
-  verdict_written reach.Unseen h = refl
-  verdict_written (reach.Refused r) h = absurd (refused_is_not r h)
+  verdict_written (Ok (Some o)) h = refl
+  verdict_written (Ok None) h = refl
+  verdict_written (Err r) h = absurd (refused_is_not r h)
 
-  answer_is_zero : (v : Reached) → IsAnswer v → (verdict_told v before).result ≡ 0
+  answer_is_zero : (v : Result (Option Offsets) Refusal) → IsOk v → (verdict_told v before).result ≡ 0
   unfolding verdict_told
-  answer_is_zero (reach.Seen x y) h = refl
-  answer_is_zero reach.Unseen h = refl
-  answer_is_zero (reach.Refused r) h = absurd h
+  answer_is_zero (Ok (Some o)) h = refl
+  answer_is_zero (Ok None) h = refl
+  answer_is_zero (Err r) h = absurd cc
 
 pub reach_demands :
     (place : ℕ) (lent : Lent) (state before : List ℕ) {has : ReachReturned} → has ≡ reach_in_words place lent state before
@@ -219,17 +219,17 @@ reach_demands place lent state before c =
 
 order_by : (tests : List (ℕ × Type 0)) (v : Verdict) → ((r : Refusal) → (v ≡ refused r) ↔ FirstIs tests (number_of r)) → (v ≡ accepted) ↔ NoneHolds tests
     → ResultBy tests (verdict_number v)
-order_by tests accepted f g = none_holds (g.0 refl)
-order_by tests (refused r) f g = first_holds r ((f r).0 refl)
+order_by tests (Ok tt) f g = none_holds (g.0 refl)
+order_by tests (Err r) f g = first_holds r ((f r).0 refl)
 
 -- a verdict by its number
 zero_accepted : (v : Verdict) → verdict_number v ≡ 0 → v ≡ accepted
-zero_accepted accepted e = refl
-zero_accepted (refused r) e = absurd (refused_is_not r e)
+zero_accepted (Ok tt) e = refl
+zero_accepted (Err r) e = absurd (refused_is_not r e)
 
 other_refused : (v : Verdict) → verdict_number v ≢ 0 → (r : Refusal) × (v ≡ refused r)
-other_refused accepted h = absurd (h refl)
-other_refused (refused r) h = (r, refl)
+other_refused (Ok tt) h = absurd (h refl)
+other_refused (Err r) h = (r, refl)
 
 pub drawing_demands :
     (lent : Lent) (state before : List ℕ) {has : DrawingReturned} → has ≡ drawing_in_words lent state before → DrawingDemands lent state before has
@@ -261,21 +261,23 @@ pub bad_word_demands : (styles before : List ℕ) {has : CheckReturned} → has 
 unfolding check_in_words check_told
 bad_word_demands styles before c = subst (BadWordDemands styles before) (sym c) (go (checked styles) refl)
   where
-    go : (found : TableCheck) → checked styles ≡ found → BadWordDemands styles before (check_told found before)
-    go Good e =
+    go : (found : Result ⊤ BadWord) → checked styles ≡ found → BadWordDemands styles before (check_told found before)
+    go (Ok _) e =
         let all = (nothing_exactly styles).0 e in
         record {
-          call = ap (λ (x : TableCheck). check_told x before) (sym e);
+          call = ap (λ (x : Result ⊤ BadWord). check_told x before) (sym e);
           told = inr refl;
           some = (not_one, λ s. absurd (s.4 (all s.0 s.2 s.1 s.3)));
           nothing = (λ z. all, λ a. refl);
           written = not_one;
           kept = λ z. refl;
         }
-    go (Bad i k) e =
+    go (Err bad) e =
+        let i = bad.item in
+        let k = bad.word in
         let f = (named_exactly styles i k).0 e in
         record {
-          call = ap (λ (x : TableCheck). check_told x before) (sym e);
+          call = ap (λ (x : Result ⊤ BadWord). check_told x before) (sym e);
           told = inl refl;
           some = (λ o. (i, k, f.item_there, f.word_there, f.not_allowed), λ s. refl);
           nothing = (λ z. not_one (sym z), λ a. absurd (f.not_allowed (a i f.item_there k f.word_there)));
@@ -572,11 +574,11 @@ equals_straight_run o candidates styles before turns has calls =
 -- ---- whole quarter pixels
 
 pub quarters_have_edges : QuartersHaveEdges
-unfolding pixels_in_words edges_told
+unfolding pixels_in_words
 quarters_have_edges o candidates styles before turns has area table quarter calls heard i h edges =
     let r = ran o candidates styles before calls in
     let e = run_has_edges o candidates (lent_in styles before) turns area table quarter r.accepted r.lent heard i (subst (λ (s : State). i < laid_count s.progress s.counts.begun) r.now.state h) in
-    rw (r.now.layouts, r.now.working, e.1) refl
+    rw (r.now.layouts, r.now.working) (edges_are_zero edges _ e)
 
 pub quarters_are_answered : QuartersAreAnswered
 unfolding reach_in_words

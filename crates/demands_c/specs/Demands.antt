@@ -1,14 +1,15 @@
 -- Demands 1 and 2, of the C entries. No entry asks anything of its caller, so each contract, and with it each of these, holds for any bits
 -- in any number and slices of any length. `proofs/Demands.antt` proves each, under its name in small letters. Assumes nothing.
-use Rattle.std.specs.Prelude.{ℕ, ◌%◌, ◌≤◌, ◌<◌, List, [], ◌∷◌, ◌⊎◌, ◌≢◌, ◌↔◌, ◌≡◌, ℤ, length}
+use Rattle.std.specs.Prelude.{ℕ, ◌%◌, ◌≤◌, ◌<◌, List, [], ◌∷◌, ◌⊎◌, ◌≢◌, ◌↔◌, ◌≡◌, ℤ, length, Some, None, Ok, Err, All, Option, Result, Float}
+use Rattle.refusal.specs.declared.Refusal.{Refusal}
+use Rattle.reach.specs.declared.Offsets.{Offsets}
 use Rattle.geometry.specs.declared.Point.{Point}
 use Rattle.records.specs.Records.{record_at}
 use Rattle.tree_record.specs.Candidate.{candidate_width, candidate_of}
 use Rattle.tree_record.specs.Layout.{layout_width, layout_of}
 use Rattle.pixels.specs.Conditions.{pixel_tests}
 use Rattle.pixels.specs.Pixels.{pixel_edges}
-use Rattle.pixels.specs.declared.PixelRect.{PixelRect}
-use Rattle.pixels.specs.declared.Pixels.TheVariants.{Edges}
+use Rattle.geometry.specs.declared.Rect.{Rect}
 use Rattle.oof_box.specs.declared.question.Reply.{Reply}
 use Rattle.run.specs.Call.{Lent, outcome}
 use Rattle.run.specs.Conditions.{StyleIsBad, FirstNotAllowed, AllAllowed, FirstIs, NoneHolds, opening_tests, reply_tests}
@@ -18,15 +19,13 @@ use Rattle.run.specs.Theorems.{Turn, Stands, said_after, heeded_in, course_of, l
 use Rattle.run.specs.declared.Opening.{Opening}
 use Rattle.run.specs.declared.Progress.TheVariants.{Finished}
 use Rattle.mirror_run.specs.Quarter.{AreaInQuarters, QuarterTable, QuarterCandidates}
-use Rattle.pixels_laws.specs.Laws.{All, QuarterHeard}
+use Rattle.pixels_laws.specs.Laws.{QuarterHeard}
 use Rattle.oof_c_words.specs.StateWords.{at, state_of, state_words}
 use Rattle.oof_c_words.specs.Entry.{Words, words, Returned, lent_in, answer_left}
 use Rattle.pixels.specs.Told.{PixelsReturned}
 use Rattle.reach.specs.Conditions.{reach_tests}
 use Rattle.reach.specs.Reach.{reached}
 use Rattle.reach.specs.Told.{ReachReturned}
-use Rattle.reach.specs.declared.Reached.{Reached}
-use Rattle.reach.specs.declared.Reached.TheVariants.{Seen, Unseen, Refused}
 use Rattle.oof_c_words.specs.CheckWords.{CheckReturned, check_in_words}
 use Rattle.drawing.specs.Conditions.{drawing_tests}
 use Rattle.drawing.specs.Drawing.{box_layers}
@@ -42,10 +41,10 @@ use Rattle.demands_c.specs.Calls.{Opens, RepliesTo, AnyCalls, Run}
 -- finished/specs and reach/specs, that of #104 in drawing/specs.
 
 -- the words of a verdict
-abbrev pub VerdictIn : Reached → List ℕ → Type 0
-VerdictIn (Seen x y) words = words ≡ 1 ∷ x ∷ y ∷ []
-VerdictIn Unseen words = words ≡ 0 ∷ 0 ∷ 0 ∷ []
-VerdictIn (Refused r) words = ⊥
+abbrev pub VerdictIn : Result (Option Offsets) Refusal → List ℕ → Type 0
+VerdictIn (Ok (Some o)) words = words ≡ 1 ∷ o.across ∷ o.down ∷ []
+VerdictIn (Ok None) words = words ≡ 0 ∷ 0 ∷ 0 ∷ []
+VerdictIn (Err r) words = ⊥
 
 -- an opening. It has no state that came: refused, it returns that of a finished run with all counts 0
 pub record OpeningDemands (o : Opening) (candidates styles : List ℕ) (before : Words) (has : Returned) : Type 0 where
@@ -65,12 +64,12 @@ pub record ReplyDemands (reply : Reply) (surfaced styles : List ℕ) (before : W
   pub kept : has.result ≢ 0 → has.words ≡ before
 
 -- `oof_pixels`, whatever words stand for its layout
-pub record PixelsDemands (layout : List ℕ) (offset : Point) (before : List ℤ) (has : PixelsReturned) : Type 0 where
+pub record PixelsDemands (layout : List ℕ) (offset : Point Float) (before : List ℤ) (has : PixelsReturned) : Type 0 where
   pub call : has ≡ pixels_in_words layout offset before
   pub refused : (n : ℕ) → n ≢ 0 → (has.result ≡ n) ↔ FirstIs (pixel_tests (layout_of layout) offset) n
   pub accepted : (has.result ≡ 0) ↔ NoneHolds (pixel_tests (layout_of layout) offset)
   pub kept : has.result ≢ 0 → has.edges ≡ before
-  pub written : has.result ≡ 0 → (p : PixelRect) × (pixel_edges (layout_of layout) offset ≡ Edges p) × (has.edges ≡ p.left ∷ p.right ∷ p.top ∷ p.bottom ∷ [])
+  pub written : has.result ≡ 0 → (p : Rect ℤ) × (pixel_edges (layout_of layout) offset ≡ Ok p) × (has.edges ≡ p.left ∷ p.right ∷ p.top ∷ p.bottom ∷ [])
 
 -- `oof_reach`, whatever words stand for its state: 2, 6, 4, 9. The slices and the state are lent to be read only; the state's words are 27 and
 -- the verdict's 3, by the entry's types

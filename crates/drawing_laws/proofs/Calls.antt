@@ -1,10 +1,12 @@
 -- Two calls whose records differ in layers only leave the same but for layers. Assumes nothing.
+use Rattle.std.specs.Prelude.{Option, None, Some, Float}
 use Prim.Native.Nat.{ℕ, ◌+◌, ◌-◌, ◌*◌, ◌/◌}
 use mathlib.Core.Path.{◌≡◌, refl, sym, ap, ◌∙◌, subst, subst₂}
 use mathlib.Core.Bool.{Bool, true, false, cond}
 use mathlib.Core.List.{List, map}
 use lib.Dec.{ltb}
 use lib.ListN.{length}
+use Rattle.std.specs.Prelude.{Some, Ok, Err}
 use Rattle.geometry.specs.Geometry.{union_of}
 use Rattle.geometry.specs.declared.Rect.{Rect}
 use Rattle.refusal.specs.declared.Refusal.{Refusal}
@@ -17,14 +19,13 @@ use Rattle.tree_record.specs.Layout.{layout_width, layout_words}
 use Rattle.style_record.specs.Decode.{style_at}
 use Rattle.sweep.specs.Sweep.{candidates_in, moved, keep, Lists, swept_into}
 use Rattle.sweep.specs.declared.Filled.{Filled}
-use Rattle.sweep.specs.declared.Shift.TheVariants.{By}
 use Rattle.oof_place.specs.declared.OofBoxLayout.{OofBoxLayout}
 use Rattle.oof_box.specs.Cut.{no_replies, asked_after, layout_after}
 use Rattle.oof_box.specs.declared.question.Asked.{Asked}
 use Rattle.oof_box.specs.declared.question.Replies.{Replies}
 use Rattle.oof_box.specs.declared.question.Reply.{Reply}
 use Rattle.oof_box.specs.declared.question.Taken.{Taken}
-use Rattle.oof_box.specs.declared.question.Taken.TheVariants.{Wrong, Kept, Laid}
+use Rattle.oof_box.specs.declared.question.Taken.TheVariants.{Kept, Laid}
 use Rattle.run.specs.declared.Answer.TheVariants.{Ask}
 use Rattle.run.specs.declared.Counts.{Counts}
 use Rattle.run.specs.declared.Opened.{Opened}
@@ -33,7 +34,7 @@ use Rattle.run.specs.declared.Progress.TheVariants.{Asking}
 use Rattle.run.specs.declared.State.{State}
 use Rattle.run.specs.declared.Step.{Step}
 use Rattle.run.specs.Call.{Lent, Outcome, lent}
-use Rattle.run.specs.Refusals.{Verdict, accepted, refused, lent_by, bad_candidate, bad_candidates}
+use Rattle.run.specs.Refusals.{Verdict, lent_by, bad_candidate, bad_candidates}
 use Rattle.run.specs.Run.{box_at_hand, asking, finishing, proceeding, claims_of, extents_of, none_filled, opening_verdict, closed, begun, opened_by, opened, taken_by, reply_verdict, measured_on, laid_out, refusing, replied_by, replied}
 use Rattle.mirror_run.specs.Runs.{Each}
 use Rattle.mirror_run.proofs.Lists.{each_length, each_kept}
@@ -45,7 +46,7 @@ use Rattle.drawing_laws.proofs.Words.{Alike, same_position, each_moved, record_a
 
 -- ---- the next question
 
-module _ (styles : List ℕ) (run : Opened) (overflow : Rect) where
+module _ (styles : List ℕ) (run : Opened) (overflow : Rect Float) where
   -- of the box at hand
   abbrev asking_of : Counts → Replies → OofCandidate → Step
   asking_of counts replies box =
@@ -143,12 +144,12 @@ module _ (styles layouts w w' u u' : List ℕ) (sw : SameButLayers w w') (su : S
       opened_same = subst (λ (v : Verdict). SameOutcomes (opened o cs l) (opened_by v o cs' l')) same_opening (go (opening_verdict o cs l))
         where
           go : (v : Verdict) → SameOutcomes (opened_by v o cs l) (opened_by v o cs' l')
-          go accepted = begun_same
-          go (refused r) = record { step = rw long refl; layouts = refl; working = sw; unclaimed = su }
+          go (Ok tt) = begun_same
+          go (Err r) = record { step = rw long refl; layouts = refl; working = sw; unclaimed = su }
 
     -- ---- the box at hand, laid out
 
-    module _ (s : State) (overflow : Rect) where
+    module _ (s : State) (overflow : Rect Float) where
       abbrev box : OofCandidate
       box = candidate_of (record_at candidate_width w (s.counts.begun - 1))
 
@@ -161,7 +162,7 @@ module _ (styles layouts w w' u u' : List ℕ) (sw : SameButLayers w w') (su : S
       -- what is left, by its node and where it was placed
       abbrev laying : ℕ → OofBoxLayout → List ℕ → Lent → Outcome
       laying node placed surfaced lent =
-          let after = swept_into s.opened.claims (map (moved (By placed.layout.location)) (candidates_in surfaced)) lent.working lent.unclaimed s.counts.filled in
+          let after = swept_into s.opened.claims (map (moved (Some placed.layout.location)) (candidates_in surfaced)) lent.working lent.unclaimed s.counts.filled in
           record {
             step =
                 proceeding styles after.working s.opened (record { filled = after.filled; begun = s.counts.begun; answered = s.counts.answered + 1 })
@@ -173,7 +174,7 @@ module _ (styles layouts w w' u u' : List ℕ) (sw : SameButLayers w w') (su : S
 
       laying_same : (node : ℕ) (placed : OofBoxLayout) → SameOutcomes (laying node placed cs l) (laying node placed cs' l')
       laying_same node placed =
-          let lists = swept_same s.opened.claims (each_moved (By placed.layout.location) alike) w w' u u' s.counts.filled sw su in
+          let lists = swept_same s.opened.claims (each_moved (Some placed.layout.location) alike) w w' u u' s.counts.filled sw su in
           record {
             step = proceeding_same styles _ _ _ _ _ lists.working ∙ rw lists.filled refl;
             layouts = refl;
@@ -216,11 +217,11 @@ module _ (styles layouts w w' u u' : List ℕ) (sw : SameButLayers w w') (su : S
         refusing_same : (r : Refusal) → SameOutcomes (refusing s l r) (refusing s l' r)
         refusing_same r = record { step = refl; layouts = refl; working = sw; unclaimed = su }
 
-        go : (v : Verdict) (t : Taken) → taken_by s reply ≡ t → SameOutcomes (replied_by v t s surfaced l) (replied_by v t s surfaced' l')
-        go (refused r) t e = refusing_same r
-        go accepted Wrong e = refusing_same WrongReply
-        go accepted (Kept replies) e = measured_same replies
-        go accepted (Laid overflow) e =
+        go : (v : Verdict) (t : Option Taken) → taken_by s reply ≡ t → SameOutcomes (replied_by v t s surfaced l) (replied_by v t s surfaced' l')
+        go (Err r) t e = refusing_same r
+        go (Ok tt) None e = refusing_same WrongReply
+        go (Ok tt) (Some (Kept replies)) e = measured_same replies
+        go (Ok tt) (Some (Laid overflow)) e =
             laid_same surfaced surfaced' (subst₂ SameCandidates (taken_all s reply surfaced e) (taken_all s reply surfaced' e) came) s overflow
 
 -- ---- any

@@ -7,7 +7,9 @@ use mathlib.Core.List.{List, [], ◌∷◌, ◌++◌, map, foldl}
 use lib.Dec.{eqb}
 use lib.ListN.{length, length-append}
 use borrow.Author.Tests.{not-false, eq-eqb}
+use Rattle.std.specs.Prelude.{Option, Float}
 use Rattle.util.proofs.Floats.{no}
+use Rattle.geometry.specs.declared.Point.{Point}
 use Rattle.geometry.specs.declared.Rect.{Rect}
 use Rattle.style_record.specs.Record.{items}
 use Rattle.tree.specs.declared.layout.OofCandidate.{OofCandidate}
@@ -15,7 +17,6 @@ use Rattle.records.specs.Records.{good_records}
 use Rattle.tree_record.specs.Candidate.{candidate_width, candidate_kinds}
 use Rattle.sweep.specs.Sweep.{candidates_in, moved, claimed, appended}
 use Rattle.sweep.specs.declared.Filled.{Filled}
-use Rattle.sweep.specs.declared.Shift.{Shift}
 use Rattle.sweep.proofs.Listed.{AllBelow, listed_good}
 use Rattle.sweep.proofs.Steps.{kept_moved, appended_twice, appended_length}
 use Rattle.oof_box.specs.declared.question.Reply.{Reply}
@@ -76,7 +77,7 @@ module _ (styles w : List ℕ) where
     kept_good y working filled = record { cs = g.cs; working = working ∙ g.working; filled = filled ∙ g.filled; room = g.room; below = g.below }
 
     -- with what a box surfaced behind them
-    swept_good : (shift : Shift) (surfaced : List ℕ) → AllBelow (items styles) (candidates_in surfaced)
+    swept_good : (shift : Option (Point Float)) (surfaced : List ℕ) → AllBelow (items styles) (candidates_in surfaced)
         → candidate_width * (s.counts.filled.working + length (claimed s.opened.claims (candidates_in surfaced))) ≤ length x.working
         → (y : Outcome)
         → let more = claimed s.opened.claims (map (moved shift) (candidates_in surfaced)) in
@@ -101,7 +102,7 @@ module _ (styles w : List ℕ) where
           below = both_below (items styles) g.cs more g.below (keep_below (items styles) by true _ (moved_below (items styles) shift (candidates_in surfaced) below));
         }
 
-    laid_good : (overflow : Rect) (surfaced : List ℕ) → AllBelow (items styles) (candidates_in surfaced)
+    laid_good : (overflow : Rect Float) (surfaced : List ℕ) → AllBelow (items styles) (candidates_in surfaced)
         → candidate_width * (s.counts.filled.working + length (claimed s.opened.claims (candidates_in surfaced))) ≤ length x.working
         → Good (laid_out s overflow surfaced lent)
     unfolding laid_out

@@ -1,11 +1,14 @@
 -- A run keeps the layers of its candidates: through a call, and so over any list of them. Assumes nothing.
+use Rattle.std.specs.Prelude.{Some, Float}
 use Prim.Native.Nat.{ℕ}
 use mathlib.Core.Path.{◌≡◌, refl, sym, ap, ◌∙◌, subst}
 use mathlib.Core.Bool.{Bool, true, false, cond}
 use mathlib.Core.List.{List, [], ◌∷◌, ◌++◌, map, foldl, append-nil, append_assoc, map-append}
 use lib.ListN.{length}
 use borrow.Author.Tests.{not-false}
+use Rattle.std.specs.Prelude.{Option, None, Ok}
 use Rattle.util.proofs.Floats.{no}
+use Rattle.geometry.specs.declared.Point.{Point}
 use Rattle.geometry.specs.declared.Rect.{Rect}
 use Rattle.style.specs.declared.ContainingBlockClaims.{ContainingBlockClaims}
 use Rattle.tree.specs.declared.layout.OofCandidate.{OofCandidate}
@@ -14,9 +17,6 @@ use Rattle.tree_record.specs.Candidate.{candidate_width}
 use Rattle.sweep.specs.Laws.{HasLayers}
 use Rattle.sweep.specs.Sweep.{first_candidates, candidates_in, layers_of, moved, keep, claimed, others, Lists, swept_into, Outcome as Swept, swept}
 use Rattle.sweep.specs.declared.Filled.{Filled}
-use Rattle.sweep.specs.declared.Shift.{Shift}
-use Rattle.sweep.specs.declared.Shift.TheVariants.{Unmoved}
-use Rattle.sweep.specs.declared.Swept.TheVariants.{Into}
 use Rattle.sweep.proofs.Layers.{layers_kept}
 use Rattle.sweep.proofs.Steps.{keep_first, kept_moved}
 use Rattle.oof_box.specs.declared.question.Replies.{Replies}
@@ -52,16 +52,16 @@ keep_append by list (x ∷ xs) ys =
 
 -- ---- one sweep that has room
 
-abbrev swept_by : ContainingBlockClaims → Shift → List ℕ → Lent → Filled → Lists
+abbrev swept_by : ContainingBlockClaims → Option (Point Float) → List ℕ → Lent → Filled → Lists
 swept_by by s slice lent f = swept_into by (map (moved s) (candidates_in slice)) lent.working lent.unclaimed f
 
-module _ (by : ContainingBlockClaims) (s : Shift) (slice : List ℕ) (lent : Lent) (f : Filled) (full : list_full by lent f slice ≡ false) where
+module _ (by : ContainingBlockClaims) (s : Option (Point Float)) (slice : List ℕ) (lent : Lent) (f : Filled) (full : list_full by lent f slice ≡ false) where
   abbrev cs : List OofCandidate
   cs = map (moved s) (candidates_in slice)
 
   -- there is
   settled : swept by cs lent.working lent.unclaimed f
-      ≡ record { answer = Into (swept_by by s slice lent f).filled; working = (swept_by by s slice lent f).working; unclaimed = (swept_by by s slice lent f).unclaimed }
+      ≡ record { answer = Ok (swept_by by s slice lent f).filled; working = (swept_by by s slice lent f).working; unclaimed = (swept_by by s slice lent f).unclaimed }
   unfolding swept list_full
   settled =
       let b = neither _ _ full in
@@ -93,7 +93,7 @@ pub record Keeps (run : Opened) (counts : Counts) (step : Step) : Type 0 where
   pub filled : step.state.counts.filled ≡ counts.filled
   pub opened : step.state.opened ≡ run
 
-pub proceeding_keeps : (styles working : List ℕ) (run : Opened) (counts : Counts) (overflow : Rect) → Keeps run counts (proceeding styles working run counts overflow)
+pub proceeding_keeps : (styles working : List ℕ) (run : Opened) (counts : Counts) (overflow : Rect Float) → Keeps run counts (proceeding styles working run counts overflow)
 unfolding asking finishing
 proceeding_keeps styles working run counts overflow = go (next_way styles working run counts overflow)
   where
@@ -113,7 +113,7 @@ pub opening_layers : (o : Opening) (candidates : List ℕ) (lent : Lent) → ope
     HasLayers after.filled.working after.working 0 lent.working (claimed (claims_of o) (candidates_in candidates))
     × HasLayers after.filled.unclaimed after.unclaimed 0 lent.unclaimed (others (claims_of o) (candidates_in candidates))
 opening_layers o candidates lent v =
-    rw (unmoved (candidates_in candidates)) at (swept_layers (claims_of o) Unmoved candidates lent none_filled (opening_room o candidates lent v))
+    rw (unmoved (candidates_in candidates)) at (swept_layers (claims_of o) None candidates lent none_filled (opening_room o candidates lent v))
 
 begun_has : (o : Opening) (candidates : List ℕ) (lent : Lent) → opening_verdict o candidates lent ≡ accepted
     → Has (claims_of o) (begun o candidates lent) (candidates_in candidates)
@@ -140,7 +140,7 @@ more by list came new e =
     ∙ ap layers_of (sym (keep_append by list came new))
 
 -- a measure reply brings none
-none_came : (s : State) (given : Reply) (surfaced : List ℕ) {replies : Replies} → taken_by s given ≡ Kept replies → candidates_in (lent_by given surfaced) ≡ []
+none_came : (s : State) (given : Reply) (surfaced : List ℕ) {replies : Replies} → taken_by s given ≡ Some (Kept replies) → candidates_in (lent_by given surfaced) ≡ []
 unfolding candidates_in first_candidates records
 none_came s (reply.Both size) surfaced t = refl
 none_came s (reply.Width width) surfaced t = refl
@@ -159,7 +159,7 @@ module _ (by : ContainingBlockClaims) (styles : List ℕ) (x : Outcome) (came : 
   measured_has replies = record { claims = has.claims; layers = record { working = has.layers.working; unclaimed = has.layers.unclaimed } }
 
   -- after a sweep, whatever the step
-  swept_has : (shift : Shift) (surfaced layouts : List ℕ) (counts : Counts) (step : Step) → list_full s.opened.claims lent s.counts.filled surfaced ≡ false
+  swept_has : (shift : Option (Point Float)) (surfaced layouts : List ℕ) (counts : Counts) (step : Step) → list_full s.opened.claims lent s.counts.filled surfaced ≡ false
       → let after = swept_by s.opened.claims shift surfaced lent s.counts.filled in
       counts.filled ≡ after.filled
       → Keeps s.opened counts step
@@ -184,7 +184,7 @@ module _ (by : ContainingBlockClaims) (styles : List ℕ) (x : Outcome) (came : 
             };
       }
 
-  laid_has : (overflow : Rect) (surfaced : List ℕ) → list_full s.opened.claims lent s.counts.filled surfaced ≡ false
+  laid_has : (overflow : Rect Float) (surfaced : List ℕ) → list_full s.opened.claims lent s.counts.filled surfaced ≡ false
       → Has by (laid_out s overflow surfaced lent) (came ++ candidates_in surfaced)
   unfolding laid_out
   laid_has overflow surfaced full = swept_has _ surfaced _ _ _ full refl (proceeding_keeps styles _ s.opened _ _)
@@ -228,7 +228,7 @@ turns_have by styles x came (t ∷ ts) lends has =
         one : (l : Loan) → is_refused (next_with styles x t.heard l).step.answer ≡ false → Lends l (next_with styles x t.heard l).step.answer
             → Has by (next_with styles x t.heard l) (came ++ candidates_in (lent_by t.heard.reply t.heard.surfaced))
         one own e l = accepted_has by styles x came has t.heard e
-        one (other lent) e l = no l e
+        one (other slices) e l = no l e
 
 pub layers_of_a_run : LayersOfARun
 layers_of_a_run o candidates lent turns n lends =

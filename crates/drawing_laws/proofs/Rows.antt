@@ -1,6 +1,7 @@
 -- The rows of `specs/Rows.antt`, computed. Assumes nothing.
+use Rattle.std.specs.Prelude.{is_some, option_map}
 use mathlib.Core.Path.{refl}
-use Rattle.util.specs.Maybe.{present, map, map_add, map_clamped}
+use Rattle.util.specs.Maybe.{map_add, map_clamped}
 use Rattle.geometry.specs.Geometry.{both_present, added_size, clamped_size, with_ratio}
 use Rattle.style.specs.Codes.{safety_code, safety_of}
 use Rattle.style.specs.Resolve.{by_tag, resolved, takes, maybe_resolved, resolved_size}
@@ -29,5 +30,5 @@ unfolding by_tag resolved takes record_at records room written every wrong break
 layer_rows = (refl, refl, refl, refl, refl, refl, refl, refl, refl, refl)
 
 pub drawn_rows : DrawnRows
-unfolding present map map_add map_clamped both_present added_size clamped_size with_ratio safety_code safety_of by_tag resolved takes maybe_resolved resolved_size record_at records room written every wrong breaks good good_records length_field length_kinds code_kinds kind_of items safety_breaks breaks_as breaks_rule breaks' first_from first_broken or_rest checked_from checked length_at size_at ratio_at style_of style_at translated shifted_axis position_of position_code edge_of edge_code axis_of candidate_of candidate_words layout_words first_candidates candidates_in moved side keep list_words keyword_of if_absent keywords_of style_size resolved_box size_keywords stretched widened heightened taken known_by stretched_by keyword_asked size_asked asked_of asked_after ◌when◌else◌ bad_area bad_table bad_list bad_slices other_lengths bad_style bad_candidate list_full wrong_counts box_at_hand asking finishing proceeding opening_verdict begun opened taken_by reply_verdict laid_out replied next finished_verdict places_of places_from drawing_order draw_verdict drawn
+unfolding map_add map_clamped both_present added_size clamped_size with_ratio safety_code safety_of by_tag resolved takes maybe_resolved resolved_size record_at records room written every wrong breaks good good_records length_field length_kinds code_kinds kind_of items safety_breaks breaks_as breaks_rule breaks' first_from first_broken or_rest checked_from checked length_at size_at ratio_at style_of style_at translated shifted_axis position_of position_code edge_of edge_code axis_of candidate_of candidate_words layout_words first_candidates candidates_in moved side keep list_words keyword_of if_absent keywords_of style_size resolved_box size_keywords stretched widened heightened taken known_by stretched_by keyword_asked size_asked asked_of asked_after ◌when◌else◌ bad_area bad_table bad_list bad_slices other_lengths bad_style bad_candidate list_full wrong_counts box_at_hand asking finishing proceeding opening_verdict begun opened taken_by reply_verdict laid_out replied next finished_verdict places_of places_from drawing_order draw_verdict drawn
 drawn_rows = (refl, refl)

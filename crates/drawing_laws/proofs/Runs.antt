@@ -1,4 +1,5 @@
 -- Two runs whose records differ in layers only go the same way. Assumes nothing.
+use Rattle.std.specs.Prelude.{Float}
 use Prim.Native.Nat.{ℕ, zero, suc, ◌+◌, ◌*◌, ◌/◌, ◌<◌}
 use native.Mathlib.Omega.{arith}
 use native.Mathlib.Nat.{not-suc-le-zero, le_of_suc-le-suc}
@@ -103,7 +104,7 @@ opened_allowed o candidates lent came = go (opening_way o candidates lent)
         (allowed_after after.filled.working after.working 0 lent.working (claims_of o) candidates (opening_layers o candidates lent v).0 (λ i h. absurd (not-suc-le-zero h)) came))
 
 module _ (s : State) (surfaced : List ℕ) (lent : Lent) (held : LayersAllowed s.counts.filled.working lent.working) where
-  laid_allowed : LayersAllowed (length surfaced / candidate_width) surfaced → (overflow : Rect) → list_full s.opened.claims lent s.counts.filled surfaced ≡ false → FilledAllowed (laid_out s overflow surfaced lent)
+  laid_allowed : LayersAllowed (length surfaced / candidate_width) surfaced → (overflow : Rect Float) → list_full s.opened.claims lent s.counts.filled surfaced ≡ false → FilledAllowed (laid_out s overflow surfaced lent)
   unfolding laid_out
   laid_allowed came overflow full =
       subst (λ (f : Filled). LayersAllowed f.working (laid_out s overflow surfaced lent).working) (sym (proceeding_keeps lent.styles _ _ _ _).filled)

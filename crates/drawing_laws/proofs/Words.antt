@@ -9,6 +9,8 @@ use lib.Dec.{ltb, eqb, lit<}
 use lib.ListN.{length, get_or, set, length-set}
 use lib.Seq.{get_or-set_same, get_or-set_other, set_out}
 use borrow.Author.Tests.{ltb-true, ltb-false, eqb-true, eqb-false, lt-leb}
+use Rattle.std.specs.Prelude.{Option, Some, None, Float}
+use Rattle.geometry.specs.declared.Point.{Point}
 use Rattle.tree.specs.declared.layout.OofCandidate.{OofCandidate}
 use Rattle.tree.specs.Static.{translated}
 use Rattle.records.specs.Records.{record_at, written, whole, wrong, breaks, good_records}
@@ -16,8 +18,6 @@ use Rattle.records.proofs.Laws.{word_of_record, good_is_unbroken, written_twice}
 use Rattle.tree_record.specs.Codes.{position_code}
 use Rattle.tree_record.specs.Candidate.{candidate_width, layer_word, layer_count, candidate_kinds, axis_of, candidate_of, axis_words, candidate_words}
 use Rattle.sweep.specs.Sweep.{candidates_in, moved, appended}
-use Rattle.sweep.specs.declared.Shift.{Shift}
-use Rattle.sweep.specs.declared.Shift.TheVariants.{Unmoved, By}
 use Rattle.sweep.proofs.Steps.{appended_none, appended_one, appended_twice}
 use Rattle.run.specs.Refusals.{bad_candidate}
 use Rattle.mirror_run.specs.Runs.{Each, none, one}
@@ -50,15 +50,15 @@ decoded r r' e =
     )
     refl
 
-moved_alike : (s : Shift) (c c' : OofCandidate) → Alike c c' → Alike (moved s c) (moved s c')
+moved_alike : (s : Option (Point Float)) (c c' : OofCandidate) → Alike c c' → Alike (moved s c) (moved s c')
 unfolding moved translated
 moved_alike s c c' e = subst (λ (d : OofCandidate). Alike (moved s c) (moved s d)) e (on s c'.layer)
   where
-    on : (s : Shift) (v : ℕ) → Alike (moved s c) (moved s (on_layer v c))
-    on Unmoved v = refl
-    on (By location) v = refl
+    on : (s : Option (Point Float)) (v : ℕ) → Alike (moved s c) (moved s (on_layer v c))
+    on None v = refl
+    on (Some location) v = refl
 
-pub each_moved : (s : Shift) {cs cs' : List OofCandidate} → Each Alike cs cs' → Each Alike (map (moved s) cs) (map (moved s) cs')
+pub each_moved : (s : Option (Point Float)) {cs cs' : List OofCandidate} → Each Alike cs cs' → Each Alike (map (moved s) cs) (map (moved s) cs')
 each_moved s none = none
 each_moved s (one {c = c} {c' = c'} a e) = one (moved_alike s c c' a) (each_moved s e)
 

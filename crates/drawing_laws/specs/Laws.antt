@@ -1,7 +1,7 @@
 -- Request #104: layers over runs. A run keeps the layers of its candidates, and finished it is drawn by them; placement doesn't read them;
 -- under what `Mirror` asks (mirror_run), the mirror image of a run is drawn in the same order. As statements: `proofs/` proves each, under its
 -- name in small letters. Assumes nothing.
-use Rattle.std.specs.Prelude.{ℕ, ◌+◌, ◌*◌, ◌/◌, ◌<◌, false, ◌≡◌, length, get_or}
+use Rattle.std.specs.Prelude.{ℕ, ◌+◌, ◌*◌, ◌/◌, ◌<◌, false, ◌≡◌, length, get_or, Float}
 use mathlib.Core.List.{List, [], ◌∷◌, ◌++◌, foldl}
 use Rattle.geometry.specs.declared.Rect.{Rect}
 use Rattle.style.specs.declared.ContainingBlockClaims.{ContainingBlockClaims}
@@ -87,7 +87,7 @@ abbrev pub CutReadsNoLayer : Type 0
 CutReadsNoLayer =
     (container : ContainingBlock) (style : Style) (c : OofCandidate) (v : ℕ) (replies : Replies)
     → (asked_after container style (on_layer v c) replies ≡ asked_after container style c replies)
-    × ((overflow : Rect) → layout_after container style (on_layer v c) replies overflow ≡ layout_after container style c replies overflow)
+    × ((overflow : Rect Float) → layout_after container style (on_layer v c) replies overflow ≡ layout_after container style c replies overflow)
 
 -- ---- and a run: two of them whose records differ in layers only, all of them allowed, go the same way
 

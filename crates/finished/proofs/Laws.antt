@@ -5,6 +5,7 @@ use mathlib.Core.Bool.{Bool, true, false, cond, ◌||◌}
 use mathlib.Core.List.{List, []}
 use mathlib.Core.Logic.{inl, inr, ◌≢◌}
 use mathlib.Core.Path.{◌≡◌, refl, ap}
+use Rattle.std.specs.Prelude.{Ok, Err}
 use Rattle.util.proofs.Floats.{no}
 use Rattle.refusal.specs.declared.Refusal.TheVariants.{BadExtent, WrongReply, BadCandidate}
 use Rattle.run.specs.Call.{Lent}
@@ -53,8 +54,8 @@ tested_says s lent d rest =
 
 -- a verdict, and what comes after it
 abbrev pub after : Verdict → Verdict → Verdict
-after accepted own = own
-after (refused r) own = refused r
+after (Ok tt) own = own
+after (Err r) own = refused r
 
 pub tested_after : (s : State) (lent : Lent) (other : Bool) (own : Verdict) → after (finished_verdict s lent other) own ≡ tested_then s lent other own
 unfolding finished_verdict ◌when◌else◌

@@ -9,10 +9,9 @@ ghost use Rattle.tree_record.specs.Layout.{layout_width};
 ghost use Rattle.run.specs.Call.{lent};
 ghost use Rattle.run.specs.Refusals.{above_lists};
 ghost use Rattle.run.specs.Run.{layout_at};
-ghost use Rattle.placer_check.specs.Verdict.{verdict_of};
 ghost use Rattle.finished.specs.Finished.{is_open, finished_verdict};
 
-use placer_check::{Verdict, lent};
+use placer_check::{lent, refuse_if};
 use refusal::Refusal;
 use run::{Progress, State};
 use sweep::Filled;
@@ -33,22 +32,15 @@ fn is_open(progress: Progress) -> bool
 fn are_above_lists(filled: Filled, working: &[u32], unclaimed: &[u32]) -> bool
     ensures { result ≡ above_lists working.now unclaimed.now filled }
 {
-    if working.len() / CANDIDATE_WORDS < filled.working {
-        return true;
-    }
-    unclaimed.len() / CANDIDATE_WORDS < filled.unclaimed
+    working.len() / CANDIDATE_WORDS < filled.working
+        || unclaimed.len() / CANDIDATE_WORDS < filled.unclaimed
 }
 
 // Refusal 6: an unfinished run, or counts above the lists. Boxes begun and questions answered aren't looked at.
 fn is_unfinished(s: State, working: &[u32], unclaimed: &[u32]) -> bool
     ensures { result ≡ (is_open s.progress || above_lists working.now unclaimed.now s.counts.filled) }
 {
-    let progress = s.progress;
-    let filled = s.counts.filled;
-    if is_open(progress) {
-        return true;
-    }
-    are_above_lists(filled, working, unclaimed)
+    is_open(s.progress) || are_above_lists(s.counts.filled, working, unclaimed)
 }
 
 // Tests 2, 6, 4, in that order. `other` is what the part itself calls a bad extent.
@@ -59,31 +51,19 @@ pub fn check_finished(
     layouts: &[u32],
     working: &[u32],
     unclaimed: &[u32],
-) -> Verdict
-    ensures { verdict_of result ≡ finished_verdict s (lent styles.now layouts.now working.now unclaimed.now) other }
+) -> Result<(), Refusal>
+    ensures { result ≡ finished_verdict s (lent styles.now layouts.now working.now unclaimed.now) other }
 {
-    let extents = s.opened.extents;
-    let filled = s.counts.filled.working;
-    if lent::is_lent_bad(extents, styles, layouts, working, unclaimed) {
-        return Verdict::Refused(Refusal::BadExtent);
-    }
-    if other {
-        return Verdict::Refused(Refusal::BadExtent);
-    }
-    if is_unfinished(s, working, unclaimed) {
-        return Verdict::Refused(Refusal::WrongReply);
-    }
-    if lent::is_candidate_bad(styles, working, filled) {
-        return Verdict::Refused(Refusal::BadCandidate);
-    }
-    Verdict::Accepted
-}
-
-// A node as an index.
-fn index(node: u32) -> usize
-    ensures { result ≡ node }
-{
-    node as usize
+    refuse_if(
+        lent::is_lent_bad(s.opened.extents, styles, layouts, working, unclaimed),
+        Refusal::BadExtent,
+    )?;
+    refuse_if(other, Refusal::BadExtent)?;
+    refuse_if(is_unfinished(s, working, unclaimed), Refusal::WrongReply)?;
+    refuse_if(
+        lent::is_candidate_bad(styles, working, s.counts.filled.working),
+        Refusal::BadCandidate,
+    )
 }
 
 // The layout at the place of the node of the working list's record `place`.
@@ -92,6 +72,6 @@ pub fn layout_at(place: usize, layouts: &[u32], working: &[u32]) -> Layout
     requires layout_width_in_bounds { layout_width * (candidate_of (record_at candidate_width working.now place)).node + layout_width ≤ length layouts.now }
     ensures { result ≡ layout_at layouts.now working.now place }
 {
-    let node = index(working[CANDIDATE_WORDS * place]);
-    tree_record::layout::layout_at(layouts, node)
+    let node = working[CANDIDATE_WORDS * place];
+    tree_record::layout::layout_at(layouts, node as usize)
 }

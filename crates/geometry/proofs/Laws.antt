@@ -1,13 +1,11 @@
 -- The laws of `specs/Laws.antt`. Assumes nothing.
+use Rattle.std.specs.Prelude.{Float, None, Option, Some, is_some}
 use mathlib.Core.Logic.{◌⊎◌, inl, inr}
 use mathlib.Core.Path.{◌≡◌, refl}
 use lib.Ieee.{Float}
 use Rattle.util.proofs.Floats.{no}
 use Rattle.util.proofs.Laws.{larger_bounds, larger_is_one, smaller_bounds, smaller_is_one}
-use Rattle.util.specs.Maybe.{present}
 use Rattle.util.specs.Laws.{AtOrAbove, AtOrBelow}
-use Rattle.util.specs.declared.math.MaybeF32.{MaybeF32}
-use Rattle.util.specs.declared.math.MaybeF32.TheVariants.{None, Some}
 use Rattle.geometry.specs.Geometry.{union_of, completed, with_ratio}
 use Rattle.geometry.specs.Laws.{UnionHoldsBoth, UnionIsLeast, UnionIsOfEdges, NoRatio, RatioNeedsLoneSide, LoneWidth, LoneHeight, RectIsItsLines}
 
@@ -48,11 +46,11 @@ unfolding with_ratio
 no_ratio a = refl
 
 pub ratio_needs_lone_side : RatioNeedsLoneSide
-unfolding with_ratio completed present
+unfolding with_ratio completed
 ratio_needs_lone_side None a e = refl
 ratio_needs_lone_side (Some ratio) a e = go a.width a.height e
   where
-    go : (w h : MaybeF32) → present w ≡ present h → completed ratio w h a ≡ a
+    go : (w h : Option Float) → is_some w ≡ is_some h → completed ratio w h a ≡ a
     go None None e = refl
     go None (Some h) e = no e refl
     go (Some w) None e = no refl e

@@ -1,61 +1,41 @@
-// geometry.rs: lines, points, sizes and rectangles, of floats and of floats that may be absent, by value.
-#![tactic(auto)]
+// geometry.rs: lines, points, sizes and rectangles, of floats and of what else a side may be, by value.
+#![tactic(auto, unfolding(crate::specs::Geometry::rect_or_zero, crate::specs::Geometry::sum_x, crate::specs::Geometry::sum_y, crate::specs::Geometry::sums, crate::specs::Geometry::rect_sum, crate::specs::Geometry::union_of, crate::specs::Geometry::smaller_size, crate::specs::Geometry::definite, crate::specs::Geometry::both_present, crate::specs::Geometry::first_size, crate::specs::Geometry::filled_size, crate::specs::Geometry::added_size, crate::specs::Geometry::raised_size, crate::specs::Geometry::completed, crate::specs::Geometry::with_ratio, util::specs::Maybe::map_add, util::specs::Maybe::map_larger))]
 
-ghost use Rattle.std.specs.Prelude.{◌≡◌};
-ghost use Rattle.geometry.specs.Geometry.{moved_by, counted_from, line_x, line_y, maybe_line_x, maybe_line_y, rect_of, rect_or_zero, sum_x, sum_y, sums, rect_sum, union_of, smaller_size, both_present, first_size, filled_size, definite, added_size, raised_size, clamped_size, clamped_floats, with_ratio};
+ghost use Rattle.std.specs.Prelude.{◌≡◌, ◌&&◌, is_some};
+ghost use Rattle.geometry.specs.Geometry.{moved_by, counted_from, line_x, line_y, rect_of, rect_or_zero, sum_x, sum_y, sums, rect_sum, union_of, smaller_size, both_present, first_size, filled_size, definite, added_size, raised_size, clamped_each, with_ratio};
 
-use util::math::MaybeF32;
-use util::{math, sys};
+use util::math::MaybeMath;
+use util::sys;
 
-#[derive(Clone, Copy)]
-pub struct Line {
-    pub start: f32,
-    pub end: f32,
+#[derive(Clone, Copy, PartialEq)]
+pub struct Line<T> {
+    pub start: T,
+    pub end: T,
 }
 
-#[derive(Clone, Copy)]
-pub struct MaybeLine {
-    pub start: MaybeF32,
-    pub end: MaybeF32,
+#[derive(Clone, Copy, PartialEq)]
+pub struct Point<T> {
+    pub x: T,
+    pub y: T,
 }
 
-#[derive(Clone, Copy)]
-pub struct Point {
-    pub x: f32,
-    pub y: f32,
+#[derive(Clone, Copy, PartialEq)]
+pub struct Size<T> {
+    pub width: T,
+    pub height: T,
 }
 
-#[derive(Clone, Copy)]
-pub struct Size {
-    pub width: f32,
-    pub height: f32,
+#[derive(Clone, Copy, PartialEq)]
+pub struct Rect<T> {
+    pub left: T,
+    pub right: T,
+    pub top: T,
+    pub bottom: T,
 }
 
-#[derive(Clone, Copy)]
-pub struct MaybeSize {
-    pub width: MaybeF32,
-    pub height: MaybeF32,
-}
-
-#[derive(Clone, Copy)]
-pub struct Rect {
-    pub left: f32,
-    pub right: f32,
-    pub top: f32,
-    pub bottom: f32,
-}
-
-#[derive(Clone, Copy)]
-pub struct MaybeRect {
-    pub left: MaybeF32,
-    pub right: MaybeF32,
-    pub top: MaybeF32,
-    pub bottom: MaybeF32,
-}
-
-impl Line {
+impl Line<f32> {
     // Both ends moved by an offset.
-    pub fn translate(self, offset: f32) -> Line
+    pub fn translate(self, offset: f32) -> Line<f32>
         ensures { result ≡ moved_by self offset }
     {
         Line {
@@ -65,7 +45,7 @@ impl Line {
     }
 
     // Both ends, counted from an origin.
-    pub fn relative_to(self, origin: f32) -> Line
+    pub fn relative_to(self, origin: f32) -> Line<f32>
         ensures { result ≡ counted_from self origin }
     {
         Line {
@@ -75,20 +55,13 @@ impl Line {
     }
 }
 
-impl Point {
-    pub const ZERO: Point = Point { x: 0.0, y: 0.0 };
+impl Point<f32> {
+    pub const ZERO: Point<f32> = Point { x: 0.0, y: 0.0 };
 }
 
-impl Rect {
-    pub const ZERO: Rect = Rect {
-        left: 0.0,
-        right: 0.0,
-        top: 0.0,
-        bottom: 0.0,
-    };
-
+impl<T: Copy> Rect<T> {
     // The rectangle whose left and right are one line, top and bottom the other.
-    pub fn from_components(horizontal: Line, vertical: Line) -> Rect
+    pub fn from_components(horizontal: Line<T>, vertical: Line<T>) -> Rect<T>
         ensures { result ≡ rect_of horizontal vertical }
     {
         Rect {
@@ -100,7 +73,7 @@ impl Rect {
     }
 
     // Left and right.
-    pub fn horizontal_components(self) -> Line
+    pub fn horizontal_components(self) -> Line<T>
         ensures { result ≡ line_x self }
     {
         Line {
@@ -110,7 +83,7 @@ impl Rect {
     }
 
     // Top and bottom.
-    pub fn vertical_components(self) -> Line
+    pub fn vertical_components(self) -> Line<T>
         ensures { result ≡ line_y self }
     {
         Line {
@@ -118,6 +91,27 @@ impl Rect {
             end: self.bottom,
         }
     }
+
+    pub fn map<R, F: Fn(T) -> R>(self, f: F) -> Rect<R>
+        requires { F.pre f self.left × F.pre f self.right × F.pre f self.top × F.pre f self.bottom }
+        ensures { F.post f self.left result.left × F.post f self.right result.right × F.post f self.top result.top × F.post f self.bottom result.bottom }
+    {
+        Rect {
+            left: f(self.left),
+            right: f(self.right),
+            top: f(self.top),
+            bottom: f(self.bottom),
+        }
+    }
+}
+
+impl Rect<f32> {
+    pub const ZERO: Rect<f32> = Rect {
+        left: 0.0,
+        right: 0.0,
+        top: 0.0,
+        bottom: 0.0,
+    };
 
     pub fn horizontal_axis_sum(self) -> f32
         ensures { result ≡ sum_x self }
@@ -132,17 +126,17 @@ impl Rect {
     }
 
     // The sums of both axes; not the width and height of the rectangle.
-    pub fn sum_axes(self) -> Size
+    pub fn sum_axes(self) -> Size<f32>
         ensures { result ≡ sums self }
     {
         Size {
-            width: self.left + self.right,
-            height: self.top + self.bottom,
+            width: self.horizontal_axis_sum(),
+            height: self.vertical_axis_sum(),
         }
     }
 
     // Side by side, as `padding + border`.
-    pub fn add(self, rhs: Rect) -> Rect
+    pub fn add(self, rhs: Rect<f32>) -> Rect<f32>
         ensures { result ≡ rect_sum self rhs }
     {
         Rect {
@@ -154,7 +148,7 @@ impl Rect {
     }
 
     // The smallest rectangle that holds both, by their edges.
-    pub fn union(self, other: Rect) -> Rect
+    pub fn union(self, other: Rect<f32>) -> Rect<f32>
         ensures { result ≡ union_of self other }
     {
         Rect {
@@ -166,55 +160,46 @@ impl Rect {
     }
 }
 
-impl MaybeRect {
-    // Left and right.
-    pub fn horizontal_components(self) -> MaybeLine
-        ensures { result ≡ maybe_line_x self }
-    {
-        let left = self.left;
-        let right = self.right;
-        MaybeLine {
-            start: left,
-            end: right,
-        }
-    }
-
-    // Top and bottom.
-    pub fn vertical_components(self) -> MaybeLine
-        ensures { result ≡ maybe_line_y self }
-    {
-        let top = self.top;
-        let bottom = self.bottom;
-        MaybeLine {
-            start: top,
-            end: bottom,
-        }
-    }
-
-    // An absent side counts as 0: `map(|m| m.unwrap_or(0.0))` of the Rust.
-    pub fn unwrap_or_zero(self) -> Rect
+impl Rect<Option<f32>> {
+    // An absent side counts as 0.
+    pub fn unwrap_or_zero(self) -> Rect<f32>
         ensures { result ≡ rect_or_zero self }
     {
-        let left = self.left;
-        let right = self.right;
-        let top = self.top;
-        let bottom = self.bottom;
-        Rect {
-            left: left.unwrap_or(0.0),
-            right: right.unwrap_or(0.0),
-            top: top.unwrap_or(0.0),
-            bottom: bottom.unwrap_or(0.0),
+        self.map(|side| side.unwrap_or(0.0))
+    }
+}
+
+impl<T: Copy> Size<T> {
+    pub fn map<R, F: Fn(T) -> R>(self, f: F) -> Size<R>
+        requires { F.pre f self.width × F.pre f self.height }
+        ensures { F.post f self.width result.width × F.post f self.height result.height }
+    {
+        Size {
+            width: f(self.width),
+            height: f(self.height),
         }
     }
 }
 
-impl Size {
-    pub const ZERO: Size = Size {
+impl<T: MaybeMath + Copy> Size<T> {
+    // Each side by its own bounds.
+    pub fn maybe_clamp(self, min: Size<Option<f32>>, max: Size<Option<f32>>) -> Size<T>
+        ensures { result ≡ clamped_each T.clamp self min max }
+    {
+        Size {
+            width: self.width.maybe_clamp(min.width, max.width),
+            height: self.height.maybe_clamp(min.height, max.height),
+        }
+    }
+}
+
+impl Size<f32> {
+    pub const ZERO: Size<f32> = Size {
         width: 0.0,
         height: 0.0,
     };
 
-    pub fn f32_min(self, rhs: Size) -> Size
+    pub fn f32_min(self, rhs: Size<f32>) -> Size<f32>
         ensures { result ≡ smaller_size self rhs }
     {
         Size {
@@ -224,131 +209,78 @@ impl Size {
     }
 
     // `map(Some)` of the Rust.
-    pub fn some(self) -> MaybeSize
+    pub fn some(self) -> Size<Option<f32>>
         ensures { result ≡ definite self }
     {
-        MaybeSize {
-            width: MaybeF32::Some(self.width),
-            height: MaybeF32::Some(self.height),
-        }
-    }
-
-    pub fn maybe_clamp(self, min: MaybeSize, max: MaybeSize) -> Size
-        ensures { result ≡ clamped_floats self min max }
-    {
-        let min_width = min.width;
-        let max_width = max.width;
-        let min_height = min.height;
-        let max_height = max.height;
-        Size {
-            width: math::clamp(self.width, min_width, max_width),
-            height: math::clamp(self.height, min_height, max_height),
-        }
+        self.map(|side| Some(side))
     }
 }
 
-impl MaybeSize {
-    pub const NONE: MaybeSize = MaybeSize {
-        width: MaybeF32::None,
-        height: MaybeF32::None,
+impl Size<Option<f32>> {
+    pub const NONE: Size<Option<f32>> = Size {
+        width: None,
+        height: None,
     };
 
     pub fn both_axis_defined(self) -> bool
         ensures { result ≡ both_present self }
     {
-        let width = self.width;
-        let height = self.height;
-        if width.is_some() {
-            return height.is_some();
-        }
-        false
+        self.width.is_some() && self.height.is_some()
     }
 
-    pub fn or(self, alt: MaybeSize) -> MaybeSize
+    pub fn or(self, alt: Size<Option<f32>>) -> Size<Option<f32>>
         ensures { result ≡ first_size self alt }
     {
-        let width = self.width;
-        let height = self.height;
-        let alt_width = alt.width;
-        let alt_height = alt.height;
-        MaybeSize {
-            width: width.or(alt_width),
-            height: height.or(alt_height),
+        Size {
+            width: self.width.or(alt.width),
+            height: self.height.or(alt.height),
         }
     }
 
-    pub fn unwrap_or(self, alt: Size) -> Size
+    pub fn unwrap_or(self, alt: Size<f32>) -> Size<f32>
         ensures { result ≡ filled_size self alt }
     {
-        let width = self.width;
-        let height = self.height;
         Size {
-            width: width.unwrap_or(alt.width),
-            height: height.unwrap_or(alt.height),
+            width: self.width.unwrap_or(alt.width),
+            height: self.height.unwrap_or(alt.height),
         }
     }
 
-    pub fn maybe_add(self, rhs: Size) -> MaybeSize
+    pub fn maybe_add(self, rhs: Size<f32>) -> Size<Option<f32>>
         ensures { result ≡ added_size self rhs }
     {
-        let width = self.width;
-        let height = self.height;
-        MaybeSize {
-            width: width.maybe_add(rhs.width),
-            height: height.maybe_add(rhs.height),
+        Size {
+            width: self.width.map(|side| side + rhs.width),
+            height: self.height.map(|side| side + rhs.height),
         }
     }
 
-    pub fn maybe_max(self, rhs: Size) -> MaybeSize
+    pub fn maybe_max(self, rhs: Size<f32>) -> Size<Option<f32>>
         ensures { result ≡ raised_size self rhs }
     {
-        let width = self.width;
-        let height = self.height;
-        MaybeSize {
-            width: width.maybe_max(rhs.width),
-            height: height.maybe_max(rhs.height),
-        }
-    }
-
-    pub fn maybe_clamp(self, min: MaybeSize, max: MaybeSize) -> MaybeSize
-        ensures { result ≡ clamped_size self min max }
-    {
-        let width = self.width;
-        let height = self.height;
-        let min_width = min.width;
-        let max_width = max.width;
-        let min_height = min.height;
-        let max_height = max.height;
-        MaybeSize {
-            width: width.maybe_clamp(min_width, max_width),
-            height: height.maybe_clamp(min_height, max_height),
+        Size {
+            width: self.width.map(|side| sys::f32_max(side, rhs.width)),
+            height: self.height.map(|side| sys::f32_max(side, rhs.height)),
         }
     }
 
     // The ratio gives a lone side its other side; it changes no side that is there.
-    pub fn maybe_apply_aspect_ratio(self, aspect_ratio: MaybeF32) -> MaybeSize
+    pub fn maybe_apply_aspect_ratio(self, aspect_ratio: Option<f32>) -> Size<Option<f32>>
         ensures { result ≡ with_ratio aspect_ratio self }
     {
-        let width = self.width;
-        let height = self.height;
-        match aspect_ratio {
-            MaybeF32::None => self,
-            MaybeF32::Some(ratio) => match width {
-                MaybeF32::None => match height {
-                    MaybeF32::None => self,
-                    MaybeF32::Some(h) => MaybeSize {
-                        width: MaybeF32::Some(h * ratio),
-                        height: MaybeF32::Some(h),
-                    },
-                },
-                MaybeF32::Some(w) => match height {
-                    MaybeF32::None => MaybeSize {
-                        width: MaybeF32::Some(w),
-                        height: MaybeF32::Some(w / ratio),
-                    },
-                    MaybeF32::Some(_) => self,
-                },
+        let Some(ratio) = aspect_ratio else {
+            return self;
+        };
+        match (self.width, self.height) {
+            (None, Some(h)) => Size {
+                width: Some(h * ratio),
+                height: Some(h),
             },
+            (Some(w), None) => Size {
+                width: Some(w),
+                height: Some(w / ratio),
+            },
+            _ => self,
         }
     }
 }

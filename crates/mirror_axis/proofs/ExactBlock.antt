@@ -1,13 +1,11 @@
 -- The block of an axis of whole quarter pixels is the integer block: no operation rounds. L and A bound lengths and static area, in
 -- sixteenths; the block is bounded by 3 L + 2 A. Assumes nothing.
+use Rattle.std.specs.Prelude.{Float, None, Option, Some, is_some}
 use mathlib.Core.Path.{◌≡◌, refl}
 use mathlib.Core.Bool.{Bool, true, false, cond}
 use Prim.Native.Nat.{ℕ, ◌+◌, ◌*◌, ◌≤◌, ◌<◌}
 use native.Mathlib.Omega.{arith}
 use lib.Ieee.{Float}
-use Rattle.util.specs.Maybe.{present}
-use Rattle.util.specs.declared.math.MaybeF32.{MaybeF32}
-use Rattle.util.specs.declared.math.MaybeF32.TheVariants.{None, Some}
 use Rattle.geometry.specs.Geometry.{◌to◌}
 use Rattle.geometry.specs.declared.Line.{Line}
 use Rattle.tree.specs.declared.layout.AxisStaticEdge.{AxisStaticEdge}
@@ -24,11 +22,11 @@ use Rattle.util_exact.proofs.Order.{magnitude_exact}
 use Rattle.util_exact.proofs.Quarters.{MaybeExact}
 use Rattle.mirror_axis.proofs.Model.{LineN, AxisN, shape, centered_n, static_n, inset_n, end_of, weaker_of, closed_n, repaired_n, block_n}
 
-pub record LineExact (g b : ℕ) (l : Line) (m : LineN) : Type 0 where
+pub record LineExact (g b : ℕ) (l : Line Float) (m : LineN) : Type 0 where
   pub start : Exact g b l.start m.start
   pub end : Exact g b l.end m.end
 
-pub widen_line : {g b c : ℕ} {l : Line} {m : LineN} → b ≤ c → LineExact g b l m → LineExact g c l m
+pub widen_line : {g b c : ℕ} {l : Line Float} {m : LineN} → b ≤ c → LineExact g b l m → LineExact g c l m
 widen_line i h = record { start = widen i h.start; end = widen i h.end }
 
 -- the numbers of a are those of α, in whole quarter pixels
@@ -46,12 +44,12 @@ is_start Start = true
 is_start Center = false
 is_start End = false
 
-closed_exact : {b : ℕ} {l : Line} {m : LineN} (k : AxisStaticEdge) → LineExact 4 b l m → LineExact 4 b (cond (is_start k) (l.end to l.end) (l.start to l.start)) (closed_n k m)
+closed_exact : {b : ℕ} {l : Line Float} {m : LineN} (k : AxisStaticEdge) → LineExact 4 b l m → LineExact 4 b (cond (is_start k) (l.end to l.end) (l.start to l.start)) (closed_n k m)
 closed_exact Start h = record { start = h.end; end = h.end }
 closed_exact Center h = record { start = h.start; end = h.start }
 closed_exact End h = record { start = h.start; end = h.start }
 
-repaired_exact : {b : ℕ} {l : Line} {m : LineN} (k : AxisStaticEdge) → LineExact 4 b l m → LineExact 4 b (repaired (is_start k) l) (repaired_n k m)
+repaired_exact : {b : ℕ} {l : Line Float} {m : LineN} (k : AxisStaticEdge) → LineExact 4 b l m → LineExact 4 b (repaired (is_start k) l) (repaired_n k m)
 unfolding repaired
 repaired_exact {b} k h = pick (LineExact 4 b) (lt_exact h.end h.start) (closed_exact k h) h
 
@@ -59,8 +57,8 @@ end_is : (r : Bool) → r ≡ is_start (end_of r)
 end_is true = refl
 end_is false = refl
 
-weaker_is : (s e : MaybeF32) (a : OofAxis) → start_is_weaker s e a ≡ is_start (weaker_of (present s) (present e) a.reversed)
-unfolding start_is_weaker present
+weaker_is : (s e : Option Float) (a : OofAxis) → start_is_weaker s e a ≡ is_start (weaker_of (is_some s) (is_some e) a.reversed)
+unfolding start_is_weaker
 weaker_is (Some x) (Some y) a = end_is a.reversed
 weaker_is (Some x) None a = refl
 weaker_is None (Some y) a = refl
@@ -75,15 +73,15 @@ module _ (L A : ℕ) (room : 10 * L + 6 * A < 16777216) where
       (record { start = zero_exact; end = widen (omega arith) (dbl_exact hc (omega arith)) })
       (record { start = widen (omega arith) (sub_exact hw (dbl_exact rest (omega arith)) (omega arith)); end = widen (omega arith) hw })
 
-  static_exact : {area : Line} {m : LineN} {w : Float} {ω : N} (k : AxisStaticEdge) → LineExact 4 A area m → Exact 4 L w ω → LineExact 4 (3 * L + 2 * A) (static_block k area w) (static_n k m ω)
+  static_exact : {area : Line Float} {m : LineN} {w : Float} {ω : N} (k : AxisStaticEdge) → LineExact 4 A area m → Exact 4 L w ω → LineExact 4 (3 * L + 2 * A) (static_block k area w) (static_n k m ω)
   unfolding static_block
   static_exact Start ha hw = record { start = widen (omega arith) ha.start; end = widen (omega arith) hw }
   static_exact Center ha hw = centered_exact (half_exact 2 A (add_exact ha.start ha.end (omega arith)) (omega arith) (omega arith)) hw
   static_exact End ha hw = record { start = zero_exact; end = widen (omega arith) ha.end }
 
-  inset_exact : (s e : MaybeF32) (a : OofAxis) (α : AxisN) → MaybeExact 4 L s α.inset.start → MaybeExact 4 L e α.inset.end → ExactAxis L A a α
-      → LineExact 4 (3 * L + 2 * A) (inset_block s e a) (inset_n (present s) (present e) a.place.align.keyword α)
-  unfolding inset_block present
+  inset_exact : (s e : Option Float) (a : OofAxis) (α : AxisN) → MaybeExact 4 L s α.inset.start → MaybeExact 4 L e α.inset.end → ExactAxis L A a α
+      → LineExact 4 (3 * L + 2 * A) (inset_block s e a) (inset_n (is_some s) (is_some e) a.place.align.keyword α)
+  unfolding inset_block
   inset_exact (Some x) (Some y) a α hs he h = record { start = widen (omega arith) hs; end = widen (omega arith) (sub_exact h.size he (omega arith)) }
   inset_exact (Some x) None a α hs he h = record { start = widen (omega arith) hs; end = widen (omega arith) h.size }
   inset_exact None (Some y) a α hs he h = record { start = zero_exact; end = widen (omega arith) (sub_exact h.size he (omega arith)) }
@@ -93,4 +91,4 @@ module _ (L A : ℕ) (room : 10 * L + 6 * A < 16777216) where
   unfolding block
   block_exact a α h =
       rw (weaker_is a.inset.start a.inset.end a)
-      (repaired_exact (weaker_of (present a.inset.start) (present a.inset.end) a.reversed) (inset_exact a.inset.start a.inset.end a α h.inset_start h.inset_end h))
+      (repaired_exact (weaker_of (is_some a.inset.start) (is_some a.inset.end) a.reversed) (inset_exact a.inset.start a.inset.end a α h.inset_start h.inset_end h))

@@ -1,4 +1,5 @@
 -- The law on axes that are computed: its hypotheses can be met, and those on the width and on the room are needed. Assumes nothing.
+use Rattle.std.specs.Prelude.{Float, None, Option, Some, is_some, unwrap_or}
 use mathlib.Core.Path.{◌≡◌, refl, subst}
 use mathlib.Core.List.{List, [], ◌∷◌}
 use mathlib.Core.Bool.{Bool, true, false, false≢true}
@@ -9,9 +10,6 @@ use lib.Ieee.{Float, fin, add, sub, mul, div, neg, lt, le, eq, is_nan, sum, roun
 use lib.Ieee.Exact.{HasValue}
 use Rattle.util.specs.Number.{0f}
 use Rattle.util.specs.Order.{zero_of, before, larger, smaller, magnitude}
-use Rattle.util.specs.Maybe.{present, unwrap_or}
-use Rattle.util.specs.declared.math.MaybeF32.{MaybeF32}
-use Rattle.util.specs.declared.math.MaybeF32.TheVariants.{None, Some}
 use Rattle.geometry.specs.Geometry.{◌to◌}
 use Rattle.geometry.specs.declared.Line.{Line}
 use Rattle.style.specs.declared.alignment.AlignmentSafety.{AlignmentSafety}
@@ -42,7 +40,7 @@ quarter = fin false 1 (negsuc 1)
 quarters : {n : ℕ} {x : Float} (k : ℕ) → k ≤ n → HasValue x false k 4 → Quarters n x
 quarters k l v = record { sign = false; k = k; value = v; small = l }
 
-abbrev axis_of : Float → MaybeF32 → MaybeF32 → MaybeF32 → MaybeF32 → Line → AxisStaticEdge → OofAlignment → AlignmentSafety → Bool → Bool → OofAxis
+abbrev axis_of : Float → Option Float → Option Float → Option Float → Option Float → Line Float → AxisStaticEdge → OofAlignment → AlignmentSafety → Bool → Bool → OofAxis
 axis_of w s e ms me area k al safety reversed scrolls =
     record {
       size = w;
@@ -69,13 +67,13 @@ abbrev centered : OofAxis
 centered = axis_of (px 100) None None None None (px 70 to px 70) Center align.Normal Safe true false
 
 -- a box in an axis and in its image
-abbrev both : OofAxis → Float → Line
+abbrev both : OofAxis → Float → Line Float
 both a size = (placement a size).position to (placement (image a) size).position
 
 -- each pair and its size make 100. The last box is larger than its block, of 60
 examples : both filled (px 100) ∷ both scrolling (px 101) ∷ both centered (px 30) ∷ both centered (px 80) ∷ []
     ≡ (px 10 to neg (px 10)) ∷ (half 59 to neg (half 61)) ∷ (px 55 to px 15) ∷ (px 20 to 0f) ∷ []
-unfolding add sub mul div neg lt le eq is_nan of_bits of_int zero_of before larger smaller magnitude present unwrap_or align_in centered_block static_block inset_block start_is_weaker repaired block both_insets stretch_fit halves filled_margins margins is_normal align_edge limit kept_within self_aligned static_aligned position_in position placement image exchanged reflected reflected_place other_align other_edge
+unfolding add sub mul div neg lt le eq is_nan of_bits of_int zero_of before larger smaller magnitude align_in centered_block static_block inset_block start_is_weaker repaired block both_insets stretch_fit halves filled_margins margins is_normal align_edge limit kept_within self_aligned static_aligned position_in position placement image exchanged reflected reflected_place other_align other_edge
 examples = refl
 
 -- the hypotheses can be met
@@ -101,11 +99,11 @@ abbrev narrow : OofAxis
 narrow = axis_of 0f None None None None (quarter to quarter) Center align.Normal Default false false
 
 spaces : stretch_fit narrow ∷ stretch_fit (image narrow) ∷ [] ≡ half 1 ∷ 0f ∷ []
-unfolding add sub mul div neg lt le eq is_nan of_bits of_int zero_of before larger smaller magnitude present unwrap_or align_in centered_block static_block inset_block start_is_weaker repaired block both_insets stretch_fit halves filled_margins margins is_normal align_edge limit kept_within self_aligned static_aligned position_in position placement image exchanged reflected reflected_place other_align other_edge
+unfolding add sub mul div neg lt le eq is_nan of_bits of_int zero_of before larger smaller magnitude align_in centered_block static_block inset_block start_is_weaker repaired block both_insets stretch_fit halves filled_margins margins is_normal align_edge limit kept_within self_aligned static_aligned position_in position placement image exchanged reflected reflected_place other_align other_edge
 spaces = refl
 
 not_mirrored : (size size' : Float) → Mirrored narrow (image narrow) size size' → ⊥
-unfolding add sub mul div neg lt le eq is_nan of_bits of_int zero_of before larger smaller magnitude present unwrap_or align_in centered_block static_block inset_block start_is_weaker repaired block both_insets stretch_fit halves filled_margins margins is_normal align_edge limit kept_within self_aligned static_aligned position_in position placement image exchanged reflected reflected_place other_align other_edge
+unfolding add sub mul div neg lt le eq is_nan of_bits of_int zero_of before larger smaller magnitude align_in centered_block static_block inset_block start_is_weaker repaired block both_insets stretch_fit halves filled_margins margins is_normal align_edge limit kept_within self_aligned static_aligned position_in position placement image exchanged reflected reflected_place other_align other_edge
 not_mirrored size size' h = false≢true h.stretch_fit
 
 -- ---- the room
@@ -118,7 +116,7 @@ abbrev far : OofAxis
 far = axis_of quarter None None None None (high to high) Start align.Normal Default false false
 
 ends : (block far).start ∷ (block (image far)).end ∷ [] ≡ high ∷ neg high ∷ []
-unfolding add sub mul div neg lt le eq is_nan sum round units odd size span climb of_bits of_int zero_of before larger smaller magnitude present unwrap_or align_in centered_block static_block inset_block start_is_weaker repaired block both_insets stretch_fit halves filled_margins margins is_normal align_edge limit kept_within self_aligned static_aligned position_in position placement image exchanged reflected reflected_place other_align other_edge
+unfolding add sub mul div neg lt le eq is_nan sum round units odd size span climb of_bits of_int zero_of before larger smaller magnitude align_in centered_block static_block inset_block start_is_weaker repaired block both_insets stretch_fit halves filled_margins margins is_normal align_edge limit kept_within self_aligned static_aligned position_in position placement image exchanged reflected reflected_place other_align other_edge
 ends = refl
 
 -- they add up to 0, not to the width

@@ -1,11 +1,11 @@
 -- The mirror law between two axes that face each other: each the mirror image of the other as numbers, whatever floats they are
 -- written with. L, A and S bound lengths, static area and box size, in sixteenths. Assumes nothing.
+use Rattle.std.specs.Prelude.{Float, is_some}
 use mathlib.Core.Path.{◌≡◌, sym, ap, ap₂, subst, ◌∙◌}
 use mathlib.Core.Bool.{Bool, false, ◌&&◌}
 use Prim.Native.Nat.{ℕ, ◌+◌, ◌*◌, ◌<◌}
 use native.Mathlib.Omega.{arith}
 use lib.Ieee.{Float}
-use Rattle.util.specs.Maybe.{present}
 use Rattle.geometry.specs.declared.Line.{Line}
 use Rattle.oof_axis.specs.declared.OofAlignment.{OofAlignment}
 use Rattle.oof_axis.specs.declared.OofAxis.{OofAxis}
@@ -39,7 +39,7 @@ pub record Filled (b : ℕ) (w u : N) (x x' : Float) : Type 0 where
   pub r : Exact 1 b x' a'
   pub fill : Fill w u a a'
 
-evens : {b : ℕ} {l : Line} {m : LineN} → LineExact 4 b l m → Evens m
+evens : {b : ℕ} {l : Line Float} {m : LineN} → LineExact 4 b l m → Evens m
 evens {m = m} h = (even_of 2 m.start h.start.mult, even_of 2 m.end h.end.mult)
 
 abbrev filling : Shape → Bool
@@ -71,7 +71,7 @@ module _ (L A : ℕ) (room : 10 * L + 6 * A < 16777216) (a a' : OofAxis) (h : Fa
 
   pub insets_shared : both_insets a ≡ both_insets a'
   unfolding both_insets
-  insets_shared = and_commute (present a.inset.start) (present a.inset.end) ∙ sym (ap (λ (σ : Shape). σ.inset_start && σ.inset_end) h.shapes)
+  insets_shared = and_commute (is_some a.inset.start) (is_some a.inset.end) ∙ sym (ap (λ (σ : Shape). σ.inset_start && σ.inset_end) h.shapes)
 
   pub alignment_shared : a.alignment ≡ a'.alignment
   alignment_shared = sym (ap (λ (σ : Shape). σ.alignment) h.shapes)

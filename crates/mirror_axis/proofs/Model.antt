@@ -1,7 +1,7 @@
 -- One axis on integers: the rules of `oof_axis/specs/Axis.antt` with no rounding, in sixteenths. `Shape` has what is no number.
 -- Only proofs use it. Assumes nothing.
+use Rattle.std.specs.Prelude.{is_some}
 use mathlib.Core.Bool.{Bool, true, false, not, ◌&&◌, ◌||◌, cond}
-use Rattle.util.specs.Maybe.{present}
 use Rattle.style.specs.declared.alignment.AlignmentSafety.{AlignmentSafety}
 use Rattle.style.specs.declared.alignment.AlignmentSafety.TheVariants.{Default, Unsafe, Safe}
 use Rattle.tree.specs.declared.layout.AxisStaticEdge.{AxisStaticEdge}
@@ -48,10 +48,10 @@ pub record Shape : Type 0 where
 abbrev pub shape : OofAxis → Shape
 shape a =
     record {
-      inset_start = present a.inset.start;
-      inset_end = present a.inset.end;
-      margin_start = present a.margin.start;
-      margin_end = present a.margin.end;
+      inset_start = is_some a.inset.start;
+      inset_end = is_some a.inset.end;
+      margin_start = is_some a.margin.start;
+      margin_end = is_some a.margin.end;
       keyword = a.place.align.keyword;
       place_safety = a.place.align.safety;
       alignment = a.alignment;

@@ -1,4 +1,5 @@
 -- The static offset of a box and of its image fill the width: here the fallback edge counts. Assumes nothing.
+use Rattle.std.specs.Prelude.{Float}
 use mathlib.Core.Path.{refl}
 use mathlib.Core.Bool.{Bool, true, false, cond}
 use Prim.Native.Nat.{ℕ, ◌+◌, ◌*◌, ◌<◌}
@@ -49,7 +50,7 @@ module _ (L A S : ℕ) (room : 10 * L + 6 * A + S < 16777216) where
       go true = align_exact L A S room p.align.fallback (widen_line (omega arith) h) b
       go false = align_exact L A S room p.align.keyword (widen_line (omega arith) h) b
 
-  offset_exact : (p : AxisStaticPosition) {μ m' : LineN} {size : Float} {u : N} {m : Line} → LineExact 4 A p.area μ → Exact 4 S size u → LineExact 4 L m m'
+  offset_exact : (p : AxisStaticPosition) {μ m' : LineN} {size : Float} {u : N} {m : Line Float} → LineExact 4 A p.area μ → Exact 4 S size u → LineExact 4 L m m'
       → Placed L A S room (axis_offset p size m) (offset_n p.align.safety p.align.keyword p.align.fallback μ u m')
   unfolding axis_offset
   offset_exact p h hu hm = shifted L A S room (edge_exact p.align.safety p h (box_exact L A S room hu hm)) hm.start

@@ -1,12 +1,12 @@
 -- Two axes that face each other, told field by field, as the two runs of the mirror theorem know them: which floats stand in the second
 -- is left open, up to equality as numbers. Assumes nothing.
+use Rattle.std.specs.Prelude.{Float, Option}
 use mathlib.Core.Path.{◌≡◌, refl}
 use mathlib.Core.Bool.{not}
 use Prim.Native.Nat.{ℕ, ◌+◌, ◌*◌, ◌<◌}
 use native.Mathlib.Omega.{arith}
 use lib.Ieee.{Float}
 use Rattle.util.specs.Number.{◌⊕◌, ◌⊖◌, ◌⊗◌, 0f, 2f}
-use Rattle.util.specs.declared.math.MaybeF32.{MaybeF32}
 use Rattle.oof_axis.specs.declared.OofAxis.{OofAxis}
 use Rattle.util_exact.specs.Integer.{N, zero_n}
 use Rattle.util_exact.specs.Value.{◌≐◌}
@@ -46,16 +46,16 @@ pub record Opposite (L A : ℕ) (a a' : OofAxis) : Type 0 where
 
 -- ---- the integer of a number that may be absent
 
-number : {g b : ℕ} {m m' : MaybeF32} → MaybeSame g b m m' → N
+number : {g b : ℕ} {m m' : Option Float} → MaybeSame g b m m' → N
 number (given h) = h.a
 number absent = zero_n
 
-number_left : {g b : ℕ} {m m' : MaybeF32} (h : MaybeSame g b m m') → MaybeExact g b m (number h)
+number_left : {g b : ℕ} {m m' : Option Float} (h : MaybeSame g b m m') → MaybeExact g b m (number h)
 unfolding number
 number_left (given h) = h.l
 number_left absent = tt
 
-number_right : {g b : ℕ} {m m' : MaybeF32} (h : MaybeSame g b m m') → MaybeExact g b m' (number h)
+number_right : {g b : ℕ} {m m' : Option Float} (h : MaybeSame g b m m') → MaybeExact g b m' (number h)
 unfolding number
 number_right (given h) = h.r
 number_right absent = tt

@@ -1,10 +1,9 @@
 -- The mirror image of one axis (document 01, "The mirror image"): of the x axis. Along y a run and its image have the same words.
 -- Assumes nothing.
-use Rattle.std.specs.Prelude.{not, Float}
+use Rattle.std.specs.Prelude.{not, Float, Option}
 use Rattle.util.specs.Number.{◌⊖◌}
 use Rattle.geometry.specs.Geometry.{◌to◌}
 use Rattle.geometry.specs.declared.Line.{Line}
-use Rattle.geometry.specs.declared.MaybeLine.{MaybeLine}
 use Rattle.tree.specs.declared.layout.AxisStaticEdge.{AxisStaticEdge}
 use Rattle.tree.specs.declared.layout.AxisStaticEdge.TheVariants.{Start, Center, End}
 use Rattle.tree.specs.declared.layout.AxisStaticAlign.{AxisStaticAlign}
@@ -23,13 +22,13 @@ other_align s = record { keyword = other_edge s.keyword; safety = s.safety; fall
 
 -- a line in an area of width w: w less its end to w less its start. Where positions count from the containing block's edge, as in a
 -- candidate, document 01 writes 2 × offset + w in place of w; an axis has the offset taken off already.
-unfoldable pub reflected : Float → Line → Line
+unfoldable pub reflected : Float → Line Float → Line Float
 reflected w l = w ⊖ l.end to w ⊖ l.start
 
 unfoldable pub reflected_place : Float → AxisStaticPosition → AxisStaticPosition
 reflected_place w s = record { area = reflected w s.area; align = other_align s.align }
 
-unfoldable pub exchanged : MaybeLine → MaybeLine
+unfoldable pub exchanged : Line (Option Float) → Line (Option Float)
 exchanged l = record { start = l.end; end = l.start }
 
 unfoldable pub image : OofAxis → OofAxis

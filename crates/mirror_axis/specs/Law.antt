@@ -56,5 +56,5 @@ QuarterMirror =
 -- the offset by the static position alone, which reads the fallback edge: in a width w, with the margins exchanged. Any width will do.
 abbrev pub OffsetMirror : Type 0
 OffsetMirror =
-    (L A S : ℕ) → Room L A S → (p : AxisStaticPosition) (w size : Float) (m : Line) → Quarters L w → Quarters A p.area.start → Quarters A p.area.end
+    (L A S : ℕ) → Room L A S → (p : AxisStaticPosition) (w size : Float) (m : Line Float) → Quarters L w → Quarters A p.area.start → Quarters A p.area.end
     → Quarters S size → Quarters L m.start → Quarters L m.end → AddUp (axis_offset p size m ∷ axis_offset (reflected_place w p) size (m.end to m.start) ∷ size ∷ []) w

@@ -1,4 +1,5 @@
 -- The law on boxes that are computed: its hypotheses can be met, and those on percentages, sums and ratio are needed. Assumes nothing.
+use Rattle.std.specs.Prelude.{Float, None, Option, Some}
 use mathlib.Core.Path.{◌≡◌, refl, sym, ◌∙◌}
 use mathlib.Core.List.{[], ◌∷◌}
 use mathlib.Core.Bool.{false, false≢true}
@@ -9,9 +10,7 @@ use lib.Ieee.{Float, nan, fin, add, sub, mul, div, neg, lt, le, eq, is_nan, of_b
 use lib.Ieee.Exact.{HasValue}
 use Rattle.util.specs.Number.{0f}
 use Rattle.util.specs.Order.{zero_of, before, larger, smaller, magnitude}
-use Rattle.util.specs.Maybe.{present, or_else, unwrap_or, map, map_add, map_larger, at_most, at_least, clamped, map_clamped}
-use Rattle.util.specs.declared.math.MaybeF32.{MaybeF32}
-use Rattle.util.specs.declared.math.MaybeF32.TheVariants.{None, Some}
+use Rattle.util.specs.Maybe.{map_add, map_larger, at_most, at_least, clamped, map_clamped}
 use Rattle.geometry.specs.Geometry.{◌to◌, zero_rect, zero_size, rect_or_zero, sum_x, sum_y, sums, rect_sum, smaller_size, definite, both_present, first_size, filled_size, added_size, raised_size, clamped_size, clamped_floats, completed, with_ratio}
 use Rattle.geometry.specs.declared.Rect.{Rect}
 use Rattle.style.specs.Resolve.{by_tag, resolved, maybe_resolved, resolved_rect, resolved_size}
@@ -26,8 +25,7 @@ use Rattle.style.specs.declared.alignment.AlignItemsKeyword.{AlignItemsKeyword}
 use Rattle.style.specs.declared.alignment.AlignItemsKeyword.TheVariants as keyword
 use Rattle.style.specs.declared.alignment.AlignmentSafety.TheVariants.{Default, Safe}
 use Rattle.style.specs.declared.compact_length.CompactLength.{CompactLength}
-use Rattle.style.specs.declared.compact_length.LengthRect.{LengthRect}
-use Rattle.style.specs.declared.compact_length.LengthSize.{LengthSize}
+use Rattle.geometry.specs.declared.Size.{Size}
 use Rattle.tree.specs.declared.layout.AxisStaticEdge.{AxisStaticEdge}
 use Rattle.tree.specs.declared.layout.AxisStaticEdge.TheVariants.{Start, Center}
 use Rattle.tree.specs.declared.layout.AxisStaticPosition.{AxisStaticPosition}
@@ -42,7 +40,7 @@ use Rattle.oof_place.specs.Placing.{scrollbar_of, layout_of, from_origin, box_la
 use Rattle.oof_box.specs.Cut.{no_replies, known_by, stretched_by, size_by, layout_after}
 use Rattle.oof_place.specs.declared.OofBoxLayout.{OofBoxLayout}
 use Rattle.oof_box.specs.declared.question.KeywordReply.TheVariants as reply
-use Rattle.oof_box.specs.declared.question.FillReply.TheVariants as fill
+use Rattle.std.specs.declared.option.Option.TheVariants as option
 use Rattle.oof_box.specs.declared.question.Replies.{Replies}
 use Rattle.util_exact.specs.Value.{Quarter}
 use Rattle.mirror_axis.specs.Image.{reflected, reflected_place, other_align, other_edge}
@@ -74,14 +72,14 @@ auto = tagged 3 nan
 abbrev min_content : CompactLength
 min_content = tagged 11 nan
 
-abbrev across : CompactLength → CompactLength → LengthRect
+abbrev across : CompactLength → CompactLength → Rect CompactLength
 across l r = record { left = l; right = r; top = px 0; bottom = px 0 }
 
-abbrev none : LengthRect
+abbrev none : Rect CompactLength
 none = across (px 0) (px 0)
 
 infix 60 ◌by◌
-abbrev ◌by◌ : CompactLength → CompactLength → LengthSize
+abbrev ◌by◌ : CompactLength → CompactLength → Size CompactLength
 w by h = record { width = w; height = h }
 
 -- ---- boxes
@@ -94,7 +92,7 @@ container_of w off d =
       overflow = record { x = Visible; y = Visible };
     }
 
-abbrev style_of : LengthRect → LengthRect → LengthRect → LengthRect → LengthSize → MaybeF32 → AlignItemsKeyword → Direction → Style
+abbrev style_of : Rect CompactLength → Rect CompactLength → Rect CompactLength → Rect CompactLength → Size CompactLength → Option Float → AlignItemsKeyword → Direction → Style
 style_of inset margin padding border size ratio justify d =
     record {
       inset = inset;
@@ -123,11 +121,11 @@ abbrev candidate_at : Float → AxisStaticEdge → OofCandidate
 candidate_at x edge = record { node = 0; order = 0; position = Absolute; place = record { x = place_at x edge; y = place_at 0f Start }; layer = 0 }
 
 abbrev replied : Float → Replies
-replied w = record { keyword = reply.Width w; fill = fill.None }
+replied w = record { keyword = option.Some (reply.Width w); fill = option.None }
 
 -- measured for step 6: nothing
 abbrev empty : Replies
-empty = record { keyword = reply.None; fill = fill.Both zero_size }
+empty = record { keyword = option.None; fill = option.Some zero_size }
 
 abbrev laid : ContainingBlock → Style → OofCandidate → Replies → OofBoxLayout
 laid b s c r = layout_after b s c r zero_rect
@@ -136,7 +134,7 @@ abbrev laid_image : ContainingBlock → Style → OofCandidate → Replies → O
 laid_image b s c r = layout_after (image_container b) (image_style s) (image_candidate b.area c) r zero_rect
 
 -- x, x of the image, width, and its width
-abbrev both : ContainingBlock → Style → OofCandidate → Replies → Rect
+abbrev both : ContainingBlock → Style → OofCandidate → Replies → Rect Float
 both b s c r =
     record {
       left = (laid b s c r).layout.location.x;
@@ -145,7 +143,7 @@ both b s c r =
       bottom = (laid_image b s c r).layout.size.width;
     }
 
-abbrev row : Float → Float → Float → Rect
+abbrev row : Float → Float → Float → Rect Float
 row x x' w = record { left = x; right = x'; top = w; bottom = w }
 
 -- ---- an area 100 wide at 8
@@ -206,7 +204,7 @@ computed :
     × (eq (leftmost (laid narrow percentage_and_nothing (candidate_at 0f Start) empty)) (leftmost (laid_image narrow percentage_and_nothing (candidate_at 0f Start) empty)) ≡ false)
     × ((laid panel filled (candidate_at 0f Start) no_replies).layout.padding ≡ record { left = whole 3; right = 0f; top = 0f; bottom = 0f })
     × ((laid_image panel filled (candidate_at 0f Start) no_replies).layout.padding ≡ record { left = 0f; right = whole 3; top = 0f; bottom = 0f })
-unfolding add sub mul div neg lt le eq is_nan of_bits of_int zero_of before larger smaller magnitude present or_else unwrap_or map map_add map_larger at_most at_least clamped map_clamped rect_or_zero sum_x sum_y sums rect_sum smaller_size definite both_present first_size filled_size added_size raised_size clamped_size clamped_floats completed with_ratio by_tag resolved maybe_resolved resolved_rect resolved_size self_relative clamped_space clamped_spaces definite_spaces from_resolved align_in centered_block static_block inset_block start_is_weaker repaired block both_insets stretch_fit stretching stretches is_stretch halves filled_margins margins is_normal align_edge limit kept_within self_aligned static_aligned position_in position placement of_width of_each_axis less_offset horizontal vertical padding_or_border style_size min_size less_margins space_for resolved_box by_keyword of_resolved keyword_of absolute_stretch if_absent keywords_of propagates reach placed_at contribution keyword_stretch size_keywords settled ignores_ratio stretch_ratio widened heightened raised_min stretched final_size scrollbar_of layout_of from_origin box_layout known_by stretched_by size_by layout_after other_direction exchanged_lengths image_container image_style edge_sum image_candidate reflected reflected_place other_align other_edge
+unfolding add sub mul div neg lt le eq is_nan of_bits of_int zero_of before larger smaller magnitude map_add map_larger at_most at_least clamped map_clamped rect_or_zero sum_x sum_y sums rect_sum smaller_size definite both_present first_size filled_size added_size raised_size clamped_size clamped_floats completed with_ratio by_tag resolved maybe_resolved resolved_rect resolved_size self_relative clamped_space clamped_spaces definite_spaces from_resolved align_in centered_block static_block inset_block start_is_weaker repaired block both_insets stretch_fit stretching stretches is_stretch halves filled_margins margins is_normal align_edge limit kept_within self_aligned static_aligned position_in position placement of_width of_each_axis less_offset horizontal vertical padding_or_border style_size min_size less_margins space_for resolved_box by_keyword of_resolved keyword_of absolute_stretch if_absent keywords_of propagates reach placed_at contribution keyword_stretch size_keywords settled ignores_ratio stretch_ratio widened heightened raised_min stretched final_size scrollbar_of layout_of from_origin box_layout known_by stretched_by size_by layout_after other_direction exchanged_lengths image_container image_style edge_sum image_candidate reflected reflected_place other_align other_edge
 computed = (refl, refl, refl, refl, refl, refl, refl)
 
 -- ---- the hypotheses can be met

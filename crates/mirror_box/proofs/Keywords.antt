@@ -5,10 +5,10 @@ use Prim.Native.Nat.{ℕ, ◌≤◌}
 use native.Mathlib.Omega.{arith}
 use lib.Dec.{lit<, lit≤}
 use lib.Ieee.{Float}
-use Rattle.util.specs.declared.math.MaybeF32.{MaybeF32}
-use Rattle.util.specs.declared.math.MaybeF32.TheVariants.{None}
-use Rattle.geometry.specs.Geometry.{with_ratio}
-use Rattle.geometry.specs.declared.MaybeSize.{MaybeSize}
+use Rattle.std.specs.Prelude.{Option, IfSome, is_some, Float, None}
+use Rattle.std.specs.declared.option.Option.TheVariants as option
+use Rattle.geometry.specs.Geometry.{definite, with_ratio}
+use Rattle.geometry.specs.declared.Size.{Size}
 use Rattle.style.specs.Resolve.{resolved}
 use Rattle.style.specs.declared.Style.{Style}
 use Rattle.style.specs.declared.available_space.AvailableSpace.{AvailableSpace}
@@ -20,12 +20,11 @@ use Rattle.style.specs.declared.resolve.Resolved.{Resolved}
 use Rattle.style.specs.declared.resolve.Resolved.TheVariants.{NotAllowed, Absent, Length, Keyword}
 use Rattle.oof_common.specs.SizingKeyword.{by_keyword, of_resolved, keyword_of, absolute_stretch, if_absent, keywords_of}
 use Rattle.oof_common.specs.declared.sizing_keyword.SizingKeywordResolution.{SizingKeywordResolution}
-use Rattle.oof_common.specs.declared.sizing_keyword.SizingKeywordResolution.TheVariants.{NoKeyword, Exact, Measure}
-use Rattle.oof_common.specs.declared.sizing_keyword.SizingKeywords.{SizingKeywords}
+use Rattle.oof_common.specs.declared.sizing_keyword.SizingKeywordResolution.TheVariants.{Exact, Measure}
 use Rattle.oof_axis.specs.declared.OofAxis.{OofAxis}
 use Rattle.oof_resolve.specs.declared.ResolvedBox.{ResolvedBox}
-use Rattle.oof_box.specs.Box.{keyword_stretch, size_keywords, is_keyword, settled}
-use Rattle.oof_box.specs.Cut.{measured_width, side_by, known_by}
+use Rattle.oof_box.specs.Box.{keyword_stretch, size_keywords, settled}
+use Rattle.oof_box.specs.Cut.{measured_sides, side_by, known_by}
 use Rattle.oof_box.specs.declared.question.KeywordReply.{KeywordReply}
 use Rattle.oof_box.specs.declared.question.KeywordReply.TheVariants as reply
 use Rattle.util_exact.proofs.Tests.{pick}
@@ -39,12 +38,12 @@ use Rattle.mirror_box.proofs.Lengths.{QuarterLimit, QuarterResolved, resolved_qu
 use Rattle.mirror_box.proofs.Shared.{SpaceSame, space, min, max, SizeShared, KnownShared, widen_known, clamped_shared}
 use Rattle.mirror_box.proofs.Resolve.{or_zero_lem, BoxShared}
 
-pub data KeywordSame : SizingKeywordResolution → SizingKeywordResolution → Type 0 where
-  no_keyword : KeywordSame NoKeyword NoKeyword
-  exact : {x x' : Float} → Same 4 size_bound x x' → KeywordSame (Exact x) (Exact x')
-  measure : {s s' : AvailableSpace} → SpaceSame size_bound s s' → KeywordSame (Measure s) (Measure s')
+pub data KeywordSame : Option SizingKeywordResolution → Option SizingKeywordResolution → Type 0 where
+  no_keyword : KeywordSame option.None option.None
+  exact : {x x' : Float} → Same 4 size_bound x x' → KeywordSame (option.Some (Exact x)) (option.Some (Exact x'))
+  measure : {s s' : AvailableSpace} → SpaceSame size_bound s s' → KeywordSame (option.Some (Measure s)) (option.Some (Measure s'))
 
-pub record KeywordsShared (k k' : SizingKeywords) : Type 0 where
+pub record KeywordsShared (k k' : Size (Option SizingKeywordResolution)) : Type 0 where
   pub width : KeywordSame k.width k'.width
   pub height : k.height ≡ k'.height
 
@@ -69,7 +68,7 @@ stretch_size box box' h =
 
 -- ---- keywords
 
-by_keyword_lem : (k : SizingKeyword) → QuarterLimit k → {x x' : Float} → Same 4 size_bound x x' → KeywordSame (by_keyword k x) (by_keyword k x')
+by_keyword_lem : (k : SizingKeyword) → QuarterLimit k → {x x' : Float} → Same 4 size_bound x x' → KeywordSame (option.Some (by_keyword k x)) (option.Some (by_keyword k x'))
 unfolding by_keyword
 by_keyword_lem keyword.MinContent q h = measure min
 by_keyword_lem keyword.MaxContent q h = measure max
@@ -88,7 +87,7 @@ pub keyword_of_lem : (l : CompactLength) → QuarterLength l → {x x' : Float} 
 unfolding keyword_of
 keyword_of_lem l q h {w} {w'} e = rw e (of_resolved_lem (resolved field.Size l w') (resolved_quarter field.Size l w' q) h)
 
-pub if_absent_lem : {b : ℕ} {m m' : MaybeF32} {k k' : SizingKeywordResolution} → MaybeSame 4 b m m' → KeywordSame k k' → KeywordSame (if_absent m k) (if_absent m' k')
+pub if_absent_lem : {b : ℕ} {m m' : Option Float} {k k' : Option SizingKeywordResolution} → MaybeSame 4 b m m' → KeywordSame k k' → KeywordSame (if_absent m k) (if_absent m' k')
 unfolding if_absent
 if_absent_lem (given h) k = no_keyword
 if_absent_lem absent k = k
@@ -99,33 +98,34 @@ module _ (style : Style) (hs : QuarterStyle style) (box box' : ResolvedBox) (h :
   keywords_shared = record { width = if_absent_lem h.size.width (keyword_of_lem style.size.width hs.size (stretch_size box box' h).width h.width); height = ap₂ if_absent h.size.height (ap₂ (keyword_of style.size.height) (stretch_size box box' h).height (ap (λ (a : OofAxis). a.size) h.vertical)) }
 
   -- ratio, then clamp: there is no ratio
-  pub settled_shared : (b : ℕ) → size_bound ≤ b → (s s' : MaybeSize) → KnownShared b s s' → KnownShared b (settled None box s) (settled None box' s')
+  pub settled_shared : (b : ℕ) → size_bound ≤ b → (s s' : Size (Option Float)) → KnownShared b s s' → KnownShared b (settled None box s) (settled None box' s')
   unfolding settled with_ratio
   settled_shared b i s s' k = clamped_shared (widen_known i h.min) (widen_known i h.max) k
 
 -- ---- the reply
 
-measured_width_lem : (r : KeywordReply) → QuarterKeyword r → MaybeSame 4 size_bound (measured_width r) (measured_width r)
-measured_width_lem reply.None q = absent
-measured_width_lem (reply.Both s) q = given (widen_same (lit≤ tt) (quarters_same q))
-measured_width_lem (reply.Width w) q = given (widen_same (lit≤ tt) (quarters_same q))
-measured_width_lem (reply.Height h) q = absent
+measured_width_lem : (r : Option KeywordReply) → IfSome r QuarterKeyword → MaybeSame 4 size_bound (measured_sides r).width (measured_sides r).width
+unfolding definite
+measured_width_lem option.None q = absent
+measured_width_lem (option.Some (reply.Both s)) q = given (widen_same (lit≤ tt) (quarters_same q))
+measured_width_lem (option.Some (reply.Width w)) q = given (widen_same (lit≤ tt) (quarters_same q))
+measured_width_lem (option.Some (reply.Height h)) q = absent
 
-side_by_lem : {k k' : SizingKeywordResolution} {m m' n n' : MaybeF32} → KeywordSame k k' → MaybeSame 4 size_bound m m' → MaybeSame 4 size_bound n n' → MaybeSame 4 size_bound (side_by k m n) (side_by k' m' n')
+side_by_lem : {k k' : Option SizingKeywordResolution} {m m' n n' : Option Float} → KeywordSame k k' → MaybeSame 4 size_bound m m' → MaybeSame 4 size_bound n n' → MaybeSame 4 size_bound (side_by k m n) (side_by k' m' n')
 side_by_lem no_keyword m n = m
 side_by_lem (exact h) m n = given h
 side_by_lem (measure s) m n = n
 
-keyword_told : {k k' : SizingKeywordResolution} → KeywordSame k k' → is_keyword k ≡ is_keyword k'
+keyword_told : {k k' : Option SizingKeywordResolution} → KeywordSame k k' → is_some k ≡ is_some k'
 keyword_told no_keyword = refl
 keyword_told (exact h) = refl
 keyword_told (measure s) = refl
 
-module _ (style : Style) (hs : QuarterStyle style) (box box' : ResolvedBox) (h : BoxShared box box') (r : KeywordReply) (q : QuarterKeyword r) where
-  pub known_shared : (k k' : SizingKeywords) → KeywordsShared k k' → KnownShared size_bound (known_by style box k r) (known_by (image_style style) box' k' r)
+module _ (style : Style) (hs : QuarterStyle style) (box box' : ResolvedBox) (h : BoxShared box box') (r : Option KeywordReply) (q : IfSome r QuarterKeyword) where
+  pub known_shared : (k k' : Size (Option SizingKeywordResolution)) → KeywordsShared k k' → KnownShared size_bound (known_by style box k r) (known_by (image_style style) box' k' r)
   unfolding known_by image_style
   known_shared k k' e =
       rw hs.ratio
-      (pick (KnownShared size_bound) (ap₂ ◌||◌ (keyword_told e.width) (ap is_keyword e.height))
+      (pick (KnownShared size_bound) (ap₂ ◌||◌ (keyword_told e.width) (ap is_some e.height))
       (settled_shared style hs box box' h size_bound (lit≤ tt) _ _
       (record { width = side_by_lem e.width h.size.width (measured_width_lem r q); height = rw (e.height, h.size.height) })) h.size)

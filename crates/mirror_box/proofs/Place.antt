@@ -1,4 +1,5 @@
 -- Step 7: layouts of a box and of its image are mirrored. Assumes nothing.
+use Rattle.std.specs.Prelude.{Float}
 use mathlib.Core.Path.{◌≡◌, refl, sym, ap, ap₂, subst}
 use mathlib.Core.List.{[], ◌∷◌}
 use mathlib.Core.Bool.{cond}
@@ -68,7 +69,7 @@ module _ {off w s s' p p' : Float} {ω : N} (qo : Quarter off) (hw : Exact 4 len
 -- ---- layouts
 
 module _ (container : ContainingBlock) (hb : QuarterContainer container) (style : Style) (candidate candidate' : OofCandidate) (hi : CandidateImage container.area candidate candidate')
-    (box box' : ResolvedBox) (h : BoxShared box box') (width : box.horizontal.size ≡ container.area.size.width) (size size' : Size) (hs : SizeShared fit_bound size size') where
+    (box box' : ResolvedBox) (h : BoxShared box box') (width : box.horizontal.size ≡ container.area.size.width) (size size' : Size Float) (hs : SizeShared fit_bound size size') where
   wide : Exact 4 length_bound container.area.size.width h.faces.α.size
   wide = subst (λ (x : Float). Exact 4 length_bound x h.faces.α.size) width h.faces.left.size
 
@@ -79,7 +80,7 @@ module _ (container : ContainingBlock) (hb : QuarterContainer container) (style 
   downward : placement box.vertical size.height ≡ placement box'.vertical size'.height
   downward = ap₂ placement h.vertical hs.height
 
-  pub layout_mirrored : (overflow : Rect) → MirroredLayout container.area (layout_of container style candidate box size overflow) (layout_of (image_container container) (image_style style) candidate' box' size' overflow)
+  pub layout_mirrored : (overflow : Rect Float) → MirroredLayout container.area (layout_of container style candidate box size overflow) (layout_of (image_container container) (image_style style) candidate' box' size' overflow)
   unfolding layout_of image_container image_style
   layout_mirrored overflow =
       record {
@@ -99,12 +100,12 @@ module _ (container : ContainingBlock) (hb : QuarterContainer container) (style 
 
   -- ---- the location from the scroll origin
 
-  pub origin_x : (overflow : Rect) → Same 1 origin_bound (from_origin container (layout_of container style candidate box size overflow).location size).x
+  pub origin_x : (overflow : Rect Float) → Same 1 origin_bound (from_origin container (layout_of container style candidate box size overflow).location size).x
       (from_origin (image_container container) (layout_of (image_container container) (image_style style) candidate' box' size' overflow).location size').x
   unfolding from_origin layout_of image_container
   origin_x overflow = origin_same hb.offset wide hs.width places container.direction
 
-  pub origin_y : (overflow : Rect) → (from_origin container (layout_of container style candidate box size overflow).location size).y
+  pub origin_y : (overflow : Rect Float) → (from_origin container (layout_of container style candidate box size overflow).location size).y
       ≡ (from_origin (image_container container) (layout_of (image_container container) (image_style style) candidate' box' size' overflow).location size').y
   unfolding from_origin image_container
   origin_y overflow = ap (λ (y : Float). y ⊖ container.area.offset.y) (layout_mirrored overflow).y

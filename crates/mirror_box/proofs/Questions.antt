@@ -2,19 +2,15 @@
 use mathlib.Core.Path.{◌≡◌, refl, ap, subst}
 use mathlib.Core.Bool.{Bool, ◌||◌}
 use Prim.Native.Nat.{ℕ}
-use Rattle.util.specs.declared.math.MaybeF32.{MaybeF32}
-use Rattle.geometry.specs.declared.MaybeSize.{MaybeSize}
+use Rattle.std.specs.Prelude.{Option, None, Some, is_some, unwrap_or, Float}
 use Rattle.geometry.specs.declared.Size.{Size}
 use Rattle.style.specs.declared.Style.{Style}
 use Rattle.style.specs.declared.available_space.AvailableSpace.{AvailableSpace}
 use Rattle.style.specs.declared.available_space.AvailableSpace.TheVariants.{Definite}
 use Rattle.oof_common.specs.declared.sizing_keyword.SizingKeywordResolution.{SizingKeywordResolution}
-use Rattle.oof_common.specs.declared.sizing_keyword.SizingKeywordResolution.TheVariants.{NoKeyword, Exact, Measure}
-use Rattle.oof_common.specs.declared.sizing_keyword.SizingKeywords.{SizingKeywords}
+use Rattle.oof_common.specs.declared.sizing_keyword.SizingKeywordResolution.TheVariants.{Measure}
 use Rattle.oof_resolve.specs.declared.ResolvedBox.{ResolvedBox}
-use Rattle.oof_box.specs.Cut.{both_asked, width_asked, height_asked, keyword_asked, fill_given, is_first, or_later, size_asked, asked_of}
-use Rattle.oof_box.specs.declared.dialogue.KeywordQuestion.{KeywordQuestion}
-use Rattle.oof_box.specs.declared.dialogue.KeywordQuestion.TheVariants as asks
+use Rattle.oof_box.specs.Cut.{size_by, both_asked, width_asked, height_asked, keyword_asked, is_first, size_asked, asked_of, sizing}
 use Rattle.oof_box.specs.declared.question.Asked.{Asked}
 use Rattle.oof_box.specs.declared.question.Replies.{Replies}
 use Rattle.util_exact.proofs.Tests.{pick}
@@ -28,14 +24,14 @@ use Rattle.mirror_box.proofs.Resolve.{BoxShared}
 use Rattle.mirror_box.proofs.Keywords.{KeywordSame, no_keyword, exact, measure, KeywordsShared, stretch_size}
 use Rattle.mirror_box.proofs.Stretch.{stretched_by_lem, final_size_lem}
 
-data QuestionSame : KeywordQuestion → KeywordQuestion → Type 0 where
-  not_asked : QuestionSame asks.None asks.None
-  asked : {a a' : Asked} → SameAsked a a' → QuestionSame (asks.Ask a) (asks.Ask a')
+data QuestionSame : Option Asked → Option Asked → Type 0 where
+  not_asked : QuestionSame None None
+  asked : {a a' : Asked} → SameAsked a a' → QuestionSame (Some a) (Some a')
 
 -- ---- step 4
 
 module _ {node node' : ℕ} (n : node ≡ node') where
-  both_asked_lem : {s s' : AvailableSpace} (t : AvailableSpace) → SpaceSame size_bound s s' → QuestionSame (both_asked node s t) (both_asked node' s' t)
+  both_asked_lem : {s s' : AvailableSpace} (t : AvailableSpace) → SpaceSame size_bound s s' → QuestionSame (Some (both_asked node s t)) (Some (both_asked node' s' t))
   both_asked_lem t h =
       asked
       (record {
@@ -45,8 +41,8 @@ module _ {node node' : ℕ} (n : node ≡ node') where
             (record { node = n; known = record { width = none; height = refl }; space = space_told (record { width = h; height = refl }) });
       })
 
-  module _ {known known' : MaybeSize} (k : KnownShared size_bound known known') {stretch stretch' : Size} (s : SizeShared size_bound stretch stretch') where
-    width_asked_lem : {a a' : AvailableSpace} → SpaceSame size_bound a a' → QuestionSame (width_asked node a known stretch) (width_asked node' a' known' stretch')
+  module _ {known known' : Size (Option Float)} (k : KnownShared size_bound known known') {stretch stretch' : Size Float} (s : SizeShared size_bound stretch stretch') where
+    width_asked_lem : {a a' : AvailableSpace} → SpaceSame size_bound a a' → QuestionSame (Some (width_asked node a known stretch)) (Some (width_asked node' a' known' stretch'))
     width_asked_lem h =
         asked
         (record {
@@ -54,7 +50,7 @@ module _ {node node' : ℕ} (n : node ≡ node') where
           question = measure_width (record { node = n; known = known_told k; space = space_told (record { width = h; height = ap Definite s.height }) });
         })
 
-    height_asked_lem : {w w' : MaybeF32} (down : AvailableSpace) → MaybeSame 4 size_bound w w' → QuestionSame (height_asked node w down known stretch) (height_asked node' w' down known' stretch')
+    height_asked_lem : {w w' : Option Float} (down : AvailableSpace) → MaybeSame 4 size_bound w w' → QuestionSame (Some (height_asked node w down known stretch)) (Some (height_asked node' w' down known' stretch'))
     height_asked_lem down h =
         asked
         (record {
@@ -68,41 +64,37 @@ module _ {node node' : ℕ} (n : node ≡ node') where
               });
         })
 
-    keyword_asked_lem : {wide wide' : SizingKeywordResolution} → KeywordSame wide wide' → (tall : SizingKeywordResolution) → QuestionSame (keyword_asked node wide tall known stretch) (keyword_asked node' wide' tall known' stretch')
+    keyword_asked_lem : {wide wide' : Option SizingKeywordResolution} → KeywordSame wide wide' → (tall : Option SizingKeywordResolution) → QuestionSame (keyword_asked node wide tall known stretch) (keyword_asked node' wide' tall known' stretch')
     unfolding keyword_asked
-    keyword_asked_lem no_keyword NoKeyword = not_asked
-    keyword_asked_lem no_keyword (Exact x) = not_asked
-    keyword_asked_lem no_keyword (Measure down) = height_asked_lem down k.width
-    keyword_asked_lem (exact h) NoKeyword = not_asked
-    keyword_asked_lem (exact h) (Exact x) = not_asked
-    keyword_asked_lem (exact h) (Measure down) = height_asked_lem down (given h)
-    keyword_asked_lem (measure h) NoKeyword = width_asked_lem h
-    keyword_asked_lem (measure h) (Exact x) = width_asked_lem h
-    keyword_asked_lem (measure h) (Measure down) = both_asked_lem down h
+    keyword_asked_lem no_keyword (Some (Measure down)) = height_asked_lem down k.width
+    keyword_asked_lem (exact h) (Some (Measure down)) = height_asked_lem down (given h)
+    keyword_asked_lem (measure h) (Some (Measure down)) = both_asked_lem down h
+    keyword_asked_lem (measure h) _ = width_asked_lem h
+    keyword_asked_lem _ _ = not_asked
 
-    keyword_asked_by : {wide wide' tall tall' : SizingKeywordResolution} → KeywordSame wide wide' → tall ≡ tall' → QuestionSame (keyword_asked node wide tall known stretch) (keyword_asked node' wide' tall' known' stretch')
-    keyword_asked_by {wide} {wide'} {tall} h e = subst (λ (t : SizingKeywordResolution). QuestionSame (keyword_asked node wide tall known stretch) (keyword_asked node' wide' t known' stretch')) e (keyword_asked_lem h tall)
+    keyword_asked_by : {wide wide' tall tall' : Option SizingKeywordResolution} → KeywordSame wide wide' → tall ≡ tall' → QuestionSame (keyword_asked node wide tall known stretch) (keyword_asked node' wide' tall' known' stretch')
+    keyword_asked_by {wide} {wide'} {tall} h e = subst (λ (t : Option SizingKeywordResolution). QuestionSame (keyword_asked node wide tall known stretch) (keyword_asked node' wide' t known' stretch')) e (keyword_asked_lem h tall)
 
-or_later_lem : {q q' : KeywordQuestion} {a a' : Asked} → QuestionSame q q' → SameAsked a a' → SameAsked (or_later q a) (or_later q' a')
+or_later_lem : {q q' : Option Asked} {a a' : Asked} → QuestionSame q q' → SameAsked a a' → SameAsked (unwrap_or q a) (unwrap_or q' a')
 or_later_lem not_asked h = h
 or_later_lem (asked k) h = k
 
-module _ (style : Style) (hs : QuarterStyle style) (box box' : ResolvedBox) (h : BoxShared box box') {keywords keywords' : SizingKeywords} (k : KeywordsShared keywords keywords')
+module _ (style : Style) (hs : QuarterStyle style) (box box' : ResolvedBox) (h : BoxShared box box') {keywords keywords' : Size (Option SizingKeywordResolution)} (k : KeywordsShared keywords keywords')
     {node node' : ℕ} (n : node ≡ node') (r : Replies) (q : QuarterReplies r) where
   -- steps 5 and 6, lay out
-  size_asked_lem : SameAsked (size_asked node style box keywords r) (size_asked node' (image_style style) box' keywords' r)
-  unfolding size_asked
+  size_asked_lem : SameAsked (size_asked node (sizing style box keywords r)) (size_asked node' (sizing (image_style style) box' keywords' r))
+  unfolding size_asked size_by
   size_asked_lem =
       let at = stretched_by_lem style hs box box' h k r q in
-      pick SameAsked (ap (λ (t : Bool). fill_given r.fill || t) (both_present_lem at.known))
+      pick SameAsked (ap (λ (t : Bool). is_some r.fill || t) (both_present_lem at.known))
       (record {
         stage = refl;
         question = lay_out (record { node = n; size = size_told (final_size_lem style hs box box' h k r q at); space = space_told h.space });
       })
       (record { stage = refl; question = measure_both (record { node = n; known = known_told at.known; space = space_told h.space }) })
 
-  pub asked_of_lem : SameAsked (asked_of node style box keywords r) (asked_of node' (image_style style) box' keywords' r)
+  pub asked_of_lem : SameAsked (asked_of node (sizing style box keywords r)) (asked_of node' (sizing (image_style style) box' keywords' r))
   unfolding asked_of
   asked_of_lem =
-      pick SameAsked {t = is_first r.keyword r.fill} refl
+      pick SameAsked {t = is_first r} refl
       (or_later_lem (keyword_asked_by n h.size (stretch_size box box' h) k.width k.height) size_asked_lem) size_asked_lem

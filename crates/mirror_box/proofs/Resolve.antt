@@ -1,4 +1,5 @@
 -- Steps 1 to 3: what is known of a box and of its image before the host is asked. Assumes nothing.
+use Rattle.std.specs.Prelude.{Float, Option}
 use mathlib.Core.Path.{◌≡◌, refl, ap, subst}
 use mathlib.Core.Bool.{Bool, not}
 use Prim.Native.Nat.{ℕ, ◌+◌, ◌<◌}
@@ -6,7 +7,6 @@ use lib.Dec.{lit<, lit≤}
 use lib.Ieee.{Float}
 use Rattle.util.specs.Number.{◌⊕◌}
 use Rattle.util.specs.Maybe.{or_zero}
-use Rattle.util.specs.declared.math.MaybeF32.{MaybeF32}
 use Rattle.geometry.specs.Geometry.{rect_or_zero, rect_sum, sum_x, sum_y, sums, with_ratio}
 use Rattle.geometry.specs.declared.Size.{Size}
 use Rattle.style.specs.Resolve.{maybe_resolved, resolved_rect, resolved_size}
@@ -15,8 +15,7 @@ use Rattle.style.specs.declared.Direction.{Direction}
 use Rattle.style.specs.declared.Direction.TheVariants.{Ltr, Rtl}
 use Rattle.style.specs.declared.Style.{Style}
 use Rattle.style.specs.declared.compact_length.CompactLength.{CompactLength}
-use Rattle.style.specs.declared.compact_length.LengthRect.{LengthRect}
-use Rattle.style.specs.declared.compact_length.LengthSize.{LengthSize}
+use Rattle.geometry.specs.declared.Rect.{Rect}
 use Rattle.style.specs.declared.resolve.Field.{Field}
 use Rattle.style.specs.declared.resolve.Field.TheVariants as field
 use Rattle.tree.specs.declared.layout.AxisStaticAlign.{AxisStaticAlign}
@@ -59,7 +58,7 @@ differs_other Rtl Rtl = refl
 sum_turned : {b c : ℕ} {x x' y y' : Float} → Same 4 b x x' → Same 4 c y y' → b + c < 16777216 → Same 4 (b + c) (x ⊕ y) (y' ⊕ x')
 sum_turned {b} {c} {x} {x'} {y} {y'} h k i = subst (λ (z : Float). Same 4 (b + c) (x ⊕ y) z) (add_commute x' y') (add_same h k i)
 
-pub or_zero_lem : {b : ℕ} {m m' : MaybeF32} → MaybeSame 4 b m m' → Same 4 b (or_zero m) (or_zero m')
+pub or_zero_lem : {b : ℕ} {m m' : Option Float} → MaybeSame 4 b m m' → Same 4 b (or_zero m) (or_zero m')
 or_zero_lem h = unwrap_same h zero_same
 
 -- a box and its image
@@ -78,7 +77,7 @@ pub record BoxShared (box box' : ResolvedBox) : Type 0 where
 
 module _ (container : ContainingBlock) (style : Style) (candidate candidate' : OofCandidate) (hb : QuarterContainer container) (hs : QuarterStyle style) (hc : QuarterCandidate candidate)
     (hi : CandidateImage container.area candidate candidate') where
-  abbrev area : Size
+  abbrev area : Size Float
   area = container.area.size
 
   -- ---- step 1
@@ -111,7 +110,7 @@ module _ (container : ContainingBlock) (style : Style) (candidate candidate' : O
   vertical_same = rw hi.y
 
   -- padding, or border: left and right are exchanged
-  pub padding_exchanged : (r : LengthRect) → exchanged_rect (padding_or_border r area) ≡ padding_or_border (exchanged_lengths r) area
+  pub padding_exchanged : (r : Rect CompactLength) → exchanged_rect (padding_or_border r area) ≡ padding_or_border (exchanged_lengths r) area
   unfolding padding_or_border of_width resolved_rect rect_or_zero exchanged_rect exchanged_lengths
   padding_exchanged r = refl
 
@@ -132,14 +131,14 @@ module _ (container : ContainingBlock) (style : Style) (candidate candidate' : O
       edge : (l : CompactLength) → QuarterLength l → Same 4 length_bound (or_zero (maybe_resolved field.PaddingOrBorder l area.width)) (or_zero (maybe_resolved field.PaddingOrBorder l area.width))
       edge l h = or_zero_lem (length_same field.PaddingOrBorder l area.width h)
 
-  size_shared : (f : Field) (lengths : LengthSize) → QuarterLength lengths.width → (e e' : Size) → SizeShared edges_bound e e'
+  size_shared : (f : Field) (lengths : Size CompactLength) → QuarterLength lengths.width → (e e' : Size Float) → SizeShared edges_bound e e'
       → KnownShared size_bound (style_size f lengths style area e) (style_size f lengths (image_style style) area e')
   unfolding style_size with_ratio resolved_size image_style
   size_shared f lengths h e e' k =
       rw hs.ratio
       (added_shared (record { width = length_same f lengths.width area.width h; height = refl }) (pick (SizeShared edges_bound) {t = is_content_box style.sizing} refl k zero_shared) (lit< tt))
 
-  min_shared : (e e' : Size) → SizeShared edges_bound e e' → KnownShared size_bound (min_size style area e) (min_size (image_style style) area e')
+  min_shared : (e e' : Size Float) → SizeShared edges_bound e e' → KnownShared size_bound (min_size style area e) (min_size (image_style style) area e')
   unfolding min_size image_style
   min_shared e e' k =
       let k' = widen_size (lit≤ tt) k in
@@ -174,7 +173,7 @@ module _ (container : ContainingBlock) (style : Style) (candidate candidate' : O
         height = refl;
       }
 
-  space_shared : (fit fit' : Size) → SizeShared fit_bound fit fit' → SizeShared fit_bound (space_for style area fit) (space_for (image_style style) area fit')
+  space_shared : (fit fit' : Size Float) → SizeShared fit_bound fit fit' → SizeShared fit_bound (space_for style area fit) (space_for (image_style style) area fit')
   unfolding space_for image_style
   space_shared fit fit' k = pick (SizeShared fit_bound) {t = style.table} refl (smaller_shared k (widen_size (lit≤ tt) less_shared)) k
 

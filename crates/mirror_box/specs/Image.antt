@@ -3,10 +3,10 @@
 use Rattle.std.specs.Prelude.{Float}
 use Rattle.util.specs.Number.{◌⊕◌, ◌⊗◌, 2f}
 use Rattle.geometry.specs.declared.Rect.{Rect}
+use Rattle.style.specs.declared.compact_length.CompactLength.{CompactLength}
 use Rattle.style.specs.declared.Direction.{Direction}
 use Rattle.style.specs.declared.Direction.TheVariants.{Ltr, Rtl}
 use Rattle.style.specs.declared.Style.{Style}
-use Rattle.style.specs.declared.compact_length.LengthRect.{LengthRect}
 use Rattle.tree.specs.declared.layout.OofCandidate.{OofCandidate}
 use Rattle.tree.specs.declared.layout.OofPositioningArea.{OofPositioningArea}
 use Rattle.oof_resolve.specs.declared.ContainingBlock.{ContainingBlock}
@@ -18,10 +18,10 @@ other_direction Ltr = Rtl
 other_direction Rtl = Ltr
 
 -- left and right exchanged: of lengths, all that they hold together
-unfoldable pub exchanged_lengths : LengthRect → LengthRect
+unfoldable pub exchanged_lengths : Rect CompactLength → Rect CompactLength
 exchanged_lengths r = record { left = r.right; right = r.left; top = r.top; bottom = r.bottom }
 
-unfoldable pub exchanged_rect : Rect → Rect
+unfoldable pub exchanged_rect : Rect Float → Rect Float
 exchanged_rect r = record { left = r.right; right = r.left; top = r.top; bottom = r.bottom }
 
 -- the area, its offset and the overflow stay

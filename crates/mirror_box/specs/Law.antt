@@ -1,5 +1,5 @@
 -- Demand 3 for one box, as statements. `proofs/Law.antt` proves each, under its name in small letters. Assumes nothing.
-use Rattle.std.specs.Prelude.{◌≡◌}
+use Rattle.std.specs.Prelude.{◌≡◌, Float}
 use Rattle.geometry.specs.Geometry.{union_of}
 use Rattle.geometry.specs.declared.Rect.{Rect}
 use Rattle.style.specs.declared.Style.{Style}
@@ -21,14 +21,14 @@ AsksMirrored =
 -- Laid out, with the same rectangle in reply, their layouts are mirrored, and they add the same to the overflow.
 abbrev pub LaysOutMirrored : Type 0
 LaysOutMirrored =
-    (container : ContainingBlock) (style : Style) (candidate candidate' : OofCandidate) (replies : Replies) (overflow : Rect)
+    (container : ContainingBlock) (style : Style) (candidate candidate' : OofCandidate) (replies : Replies) (overflow : Rect Float)
     → QuarterContainer container → QuarterStyle style → QuarterCandidate candidate → CandidateImage container.area candidate candidate' → QuarterReplies replies
     → QuarterOverflow overflow
     → MirroredBox container.area (layout_after container style candidate replies overflow) (layout_after (image_container container) (image_style style) candidate' replies overflow)
 
 -- The union of what any number of boxes add stays the same.
 abbrev pub UnionsMirrored : Type 0
-UnionsMirrored = (r r' s s' : Rect) → SameRect r r' → SameRect s s' → SameRect (union_of r s) (union_of r' s')
+UnionsMirrored = (r r' s s' : Rect Float) → SameRect r r' → SameRect s s' → SameRect (union_of r s) (union_of r' s')
 
 -- The image as document 01 writes it, by rounded operations, is exact.
 abbrev pub ImageIsExact : Type 0

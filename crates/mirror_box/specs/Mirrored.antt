@@ -1,14 +1,10 @@
 -- What a run and its mirror image have in common, box by box: questions, layouts, overflow. Equality is as numbers (`≐`, document 01)
 -- where x is at work; along y it is of words (`≡`). Assumes nothing.
-use Rattle.std.specs.Prelude.{◌≡◌, List, [], ◌∷◌, Float}
-use Rattle.util.specs.declared.math.MaybeF32.{MaybeF32}
-use Rattle.util.specs.declared.math.MaybeF32.TheVariants.{None, Some}
-use Rattle.geometry.specs.declared.MaybeSize.{MaybeSize}
-use Rattle.geometry.specs.declared.Rect.{Rect}
+use Rattle.std.specs.Prelude.{◌≡◌, List, [], ◌∷◌, Float, None, Option, Some}
 use Rattle.geometry.specs.declared.Size.{Size}
+use Rattle.geometry.specs.declared.Rect.{Rect}
 use Rattle.style.specs.declared.available_space.AvailableSpace.{AvailableSpace}
 use Rattle.style.specs.declared.available_space.AvailableSpace.TheVariants.{Definite, MinContent, MaxContent}
-use Rattle.style.specs.declared.available_space.AvailableSize.{AvailableSize}
 use Rattle.tree.specs.declared.layout.Layout.{Layout}
 use Rattle.tree.specs.declared.layout.OofCandidate.{OofCandidate}
 use Rattle.tree.specs.declared.layout.OofPositioningArea.{OofPositioningArea}
@@ -41,7 +37,7 @@ pub record CandidateImage (a : OofPositioningArea) (c c' : OofCandidate) : Type 
 
 -- ---- questions
 
-pub data SameKnown : MaybeF32 → MaybeF32 → Type 0 where
+pub data SameKnown : Option Float → Option Float → Type 0 where
   known : {x x' : Float} → x ≐ x' → SameKnown (Some x) (Some x')
   none : SameKnown None None
 
@@ -50,15 +46,15 @@ pub data SameSpace : AvailableSpace → AvailableSpace → Type 0 where
   min_content : SameSpace MinContent MinContent
   max_content : SameSpace MaxContent MaxContent
 
-pub record SameKnownSize (s s' : MaybeSize) : Type 0 where
+pub record SameKnownSize (s s' : Size (Option Float)) : Type 0 where
   pub width : SameKnown s.width s'.width
   pub height : s.height ≡ s'.height
 
-pub record SameAvailableSize (s s' : AvailableSize) : Type 0 where
+pub record SameAvailableSize (s s' : Size AvailableSpace) : Type 0 where
   pub width : SameSpace s.width s'.width
   pub height : s.height ≡ s'.height
 
-pub record SameSize (s s' : Size) : Type 0 where
+pub record SameSize (s s' : Size Float) : Type 0 where
   pub width : s.width ≐ s'.width
   pub height : s.height ≡ s'.height
 
@@ -101,7 +97,7 @@ pub record MirroredLayout (a : OofPositioningArea) (l l' : Layout) : Type 0 wher
   pub margin_bottom : l.margin.bottom ≡ l'.margin.bottom
 
 -- overflow rectangles: x counts from the start edge in both
-pub record SameRect (r r' : Rect) : Type 0 where
+pub record SameRect (r r' : Rect Float) : Type 0 where
   pub left : r.left ≐ r'.left
   pub right : r.right ≐ r'.right
   pub top : r.top ≡ r'.top

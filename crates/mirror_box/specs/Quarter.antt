@@ -1,19 +1,15 @@
 -- What the mirror law asks of a box, of its containing block and of the host's replies: whole quarter pixels of size 4,096 at most, no
 -- percentage, no sum, no ratio, a width that isn't 0 (demand 3). Only what bears on x is asked: along y both runs have the same words, whatever
 -- these are. Assumes nothing.
-use Rattle.std.specs.Prelude.{ℕ, ◌≡◌, cond, ◌||◌, eqb, Float}
+use Rattle.std.specs.Prelude.{ℕ, ◌≡◌, cond, ◌||◌, eqb, Float, IfSome, None}
 use Rattle.util.specs.Number.{0f}
-use Rattle.util.specs.declared.math.MaybeF32.TheVariants.{None}
 use Rattle.geometry.specs.declared.Rect.{Rect}
 use Rattle.style.specs.declared.Style.{Style}
 use Rattle.style.specs.declared.compact_length.CompactLength.{CompactLength}
-use Rattle.style.specs.declared.compact_length.LengthRect.{LengthRect}
 use Rattle.tree.specs.declared.layout.OofCandidate.{OofCandidate}
 use Rattle.oof_resolve.specs.declared.ContainingBlock.{ContainingBlock}
 use Rattle.oof_box.specs.declared.question.KeywordReply.{KeywordReply}
 use Rattle.oof_box.specs.declared.question.KeywordReply.TheVariants as keyword
-use Rattle.oof_box.specs.declared.question.FillReply.{FillReply}
-use Rattle.oof_box.specs.declared.question.FillReply.TheVariants as fill
 use Rattle.oof_box.specs.declared.question.Replies.{Replies}
 use Rattle.util_exact.specs.Value.{◌≐◌, Quarter}
 
@@ -35,7 +31,7 @@ Keeps free x = Unit {0}
 abbrev pub QuarterLength : CompactLength → Type 0
 QuarterLength l = Keeps (rule_of l.tag) l.value
 
-pub record QuarterSides (r : LengthRect) : Type 0 where
+pub record QuarterSides (r : Rect CompactLength) : Type 0 where
   pub left : QuarterLength r.left
   pub right : QuarterLength r.right
 
@@ -63,21 +59,16 @@ pub record QuarterCandidate (c : OofCandidate) : Type 0 where
 -- ---- replies
 
 abbrev pub QuarterKeyword : KeywordReply → Type 0
-QuarterKeyword keyword.None = Unit {0}
 QuarterKeyword (keyword.Both s) = Quarter s.width
 QuarterKeyword (keyword.Width w) = Quarter w
 QuarterKeyword (keyword.Height h) = Unit {0}
 
-abbrev pub QuarterFill : FillReply → Type 0
-QuarterFill fill.None = Unit {0}
-QuarterFill (fill.Both s) = Quarter s.width
-
 -- the replies kept
 pub record QuarterReplies (r : Replies) : Type 0 where
-  pub keyword : QuarterKeyword r.keyword
-  pub fill : QuarterFill r.fill
+  pub keyword : IfSome r.keyword QuarterKeyword
+  pub fill : IfSome r.fill (λ s. Quarter s.width)
 
 -- the rectangle of the reply to lay out
-pub record QuarterOverflow (r : Rect) : Type 0 where
+pub record QuarterOverflow (r : Rect Float) : Type 0 where
   pub left : Quarter r.left
   pub right : Quarter r.right

@@ -1,4 +1,5 @@
 -- The box at hand and its image: the mirror law of one box, in the words of the two runs. Assumes nothing.
+use Rattle.std.specs.Prelude.{Float}
 use mathlib.Core.Path.{◌≡◌, sym, ap, ap₂, ◌∙◌, subst}
 use mathlib.Core.Bool.{false}
 use Rattle.geometry.specs.declared.Rect.{Rect}
@@ -41,7 +42,7 @@ module _ (f : Frame) (q : QuarterFrame f) (p p' : Own) (blocks : Blocks f p p') 
       by_words (λ b s d. asked_after b s d replies) SameAsked
       (asks_mirrored f.container (style_at f.styles c.node) c c' replies q.container fit ready.quarter ready.image given)
 
-  module _ (overflow : Rect) (h : QuarterOverflow overflow) where
+  module _ (overflow : Rect Float) (h : QuarterOverflow overflow) where
     pub laid_same : MirroredBox f.container.area (layout_after p.container (style_at f.styles c.node) c replies overflow)
         (layout_after p'.container (style_at (image_styles f.styles) c'.node) c' replies overflow)
     laid_same =

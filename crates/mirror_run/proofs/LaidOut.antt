@@ -8,6 +8,7 @@ use mathlib.Core.List.{List, [], map}
 use lib.Dec.{ltb, eqb}
 use lib.ListN.{length}
 use borrow.Author.Tests.{ltb-true, ltb-false, eqb-true, eqb-false}
+use Rattle.std.specs.Prelude.{Some, Float}
 use Rattle.geometry.specs.Geometry.{union_of}
 use Rattle.geometry.specs.declared.Rect.{Rect}
 use Rattle.style.specs.declared.ContainingBlockClaims.{ContainingBlockClaims}
@@ -19,7 +20,6 @@ use Rattle.tree_record.proofs.Laws.{layout_widths}
 use Rattle.style_record.specs.Record.{items}
 use Rattle.style_record.specs.Decode.{style_at}
 use Rattle.sweep.specs.Sweep.{candidates_in, moved, keep, list_words, appended}
-use Rattle.sweep.specs.declared.Shift.TheVariants.{By}
 use Rattle.sweep.proofs.Steps.{kept_moved}
 use Rattle.oof_box.specs.Cut.{layout_after}
 use Rattle.oof_box.specs.declared.question.Replies.{Replies}
@@ -37,7 +37,7 @@ use Rattle.mirror_run.proofs.Surfaced.{none_kept, count}
 -- ---- one run
 
 -- the box at hand, laid out
-abbrev pub placed_of : List ℕ → Own → Counts → Replies → Rect → OofBoxLayout
+abbrev pub placed_of : List ℕ → Own → Counts → Replies → Rect Float → OofBoxLayout
 placed_of styles p c replies overflow =
     let box = box_of p (c.begun - 1) in
     layout_after p.container (style_at styles box.node) box replies overflow
@@ -50,21 +50,21 @@ after styles by c surfaced placed p =
       overflow = union_of p.overflow placed.contribution;
       layouts = written p.layouts (layout_width * (box_of p (c.begun - 1)).node) (layout_words placed.layout);
       working = p.working;
-      unclaimed = appended p.unclaimed c.filled.unclaimed (keep by false (map (moved (By placed.layout.location)) (candidates_in surfaced)));
+      unclaimed = appended p.unclaimed c.filled.unclaimed (keep by false (map (moved (Some placed.layout.location)) (candidates_in surfaced)));
     }
 
 abbrev pub counts_after : ContainingBlockClaims → Counts → List ℕ → Counts
 counts_after by c surfaced =
     record { filled = record { working = c.filled.working; unclaimed = c.filled.unclaimed + count by surfaced }; begun = c.begun; answered = c.answered + 1 }
 
-pub laid_as : (f : Frame) (styles : List ℕ) (s : Shared) (p : Own) (overflow : Rect) (surfaced : List ℕ) → keep s.claims true (candidates_in surfaced) ≡ []
+pub laid_as : (f : Frame) (styles : List ℕ) (s : Shared) (p : Own) (overflow : Rect Float) (surfaced : List ℕ) → keep s.claims true (candidates_in surfaced) ≡ []
     → let after = after styles s.claims s.counts surfaced (placed_of styles p s.counts s.replies overflow) p in
     laid_out (state_of f s p) overflow surfaced (slices_of styles p)
     ≡ leaving (proceeding styles p.working (opened_of f s.claims p) (counts_after s.claims s.counts surfaced) after.overflow) after
 unfolding laid_out box_at_hand list_words written
 laid_as f styles s p overflow surfaced e =
     let at = (placed_of styles p s.counts s.replies overflow).layout.location in
-    rw (none_kept s.claims (By at) (candidates_in surfaced) e, kept_moved s.claims false (By at) (candidates_in surfaced), add-zero s.counts.filled.working) refl
+    rw (none_kept s.claims (Some at) (candidates_in surfaced) e, kept_moved s.claims false (Some at) (candidates_in surfaced), add-zero s.counts.filled.working) refl
 
 -- ---- layouts
 

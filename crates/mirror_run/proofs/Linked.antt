@@ -1,5 +1,6 @@
 -- What a run and its image have in common between calls: all of the state but the block and the overflow, and their words as far as the
 -- boxes go. Assumes nothing.
+use Rattle.std.specs.Prelude.{Float}
 use Prim.Native.Nat.{ℕ, ◌<◌}
 use mathlib.Core.Path.{◌≡◌, refl}
 use mathlib.Core.Bool.{false}
@@ -60,7 +61,7 @@ pub record Shared : Type 0 where
 
 pub record Own : Type 0 where
   pub container : ContainingBlock
-  pub overflow : Rect
+  pub overflow : Rect Float
   pub layouts : List ℕ
   pub working : List ℕ
   pub unclaimed : List ℕ

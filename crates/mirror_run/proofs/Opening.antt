@@ -8,6 +8,7 @@ use mathlib.Core.List.{List, []}
 use lib.Dec.{lit<}
 use lib.ListN.{length, get_or}
 use borrow.Author.Tests.{ltb-false, le-leb}
+use Rattle.std.specs.Prelude.{Ok, Err, Float}
 use Rattle.geometry.specs.Geometry.{zero_rect, zero_size, zero_point}
 use Rattle.geometry.specs.declared.Rect.{Rect}
 use Rattle.refusal.specs.declared.Refusal.{Refusal}
@@ -81,7 +82,7 @@ abbrev held : Outcome → ℕ
 held o = o.step.state.counts.filled.unclaimed
 
 -- the next question, or the finish, fills no list
-same_filled : (styles working : List ℕ) (run : Opened) (counts : Counts) (overflow : Rect)
+same_filled : (styles working : List ℕ) (run : Opened) (counts : Counts) (overflow : Rect Float)
     → (proceeding styles working run counts overflow).state.counts.filled.unclaimed ≡ counts.filled.unclaimed
 unfolding asking finishing
 same_filled styles working run counts overflow = go (next_way styles working run counts overflow)
@@ -252,7 +253,7 @@ module _ (o : Opening) (candidates : List ℕ) (lent : Lent) (layouts working un
       opened_linked = go (opening_verdict o candidates lent) refl
         where
           go : (v : Verdict) → opening_verdict o candidates lent ≡ v → Linked frame (opened o candidates lent) (opened (image_opening o) image image_lent)
-          go (refused r) e = both_are frame (opened_as o candidates lent e) (opened_as (image_opening o) image image_lent (sym same_verdict ∙ e)) (turned_down r e)
-          go accepted e =
+          go (Err r) e = both_are frame (opened_as o candidates lent e) (opened_as (image_opening o) image image_lent (sym same_verdict ∙ e)) (turned_down r e)
+          go (Ok tt) e =
               both_are frame (opened_as o candidates lent e) (opened_as (image_opening o) image image_lent (sym same_verdict ∙ e))
               (begins e (opening_passed o candidates lent e) (opening_passed (image_opening o) image image_lent (sym same_verdict ∙ e)))

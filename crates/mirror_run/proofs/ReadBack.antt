@@ -1,4 +1,5 @@
 -- Mirrored layouts are mirrored in their words too: their x's are read back as the numbers that were written. Assumes nothing.
+use Rattle.std.specs.Prelude.{Float}
 use Prim.Native.Nat.{ℕ, ◌+◌, ◌*◌}
 use mathlib.Core.Path.{ap}
 use mathlib.Core.List.{[], ◌∷◌}
@@ -45,10 +46,10 @@ record Held (l l' : Layout) : Type 0 where
   x : T (fits binary32 l.location.x)
   x' : T (fits binary32 l'.location.x)
 
-abbrev again_rect : Rect → Rect
+abbrev again_rect : Rect Float → Rect Float
 again_rect r = record { left = again r.left; right = again r.right; top = again r.top; bottom = again r.bottom }
 
-abbrev again_size : Size → Size
+abbrev again_size : Size Float → Size Float
 again_size s = record { width = again s.width; height = again s.height }
 
 module _ (area : OofPositioningArea) (l l' : Layout) (m : MirroredLayout area l l') (h : Held l l') where
@@ -83,7 +84,7 @@ module _ (area : OofPositioningArea) (l l' : Layout) (m : MirroredLayout area l 
 
 -- ---- a box laid out
 
-module _ (container : ContainingBlock) (style : Style) (c c' : OofCandidate) (r : Replies) (overflow : Rect) (hb : QuarterContainer container) (hs : QuarterStyle style) (hc : QuarterCandidate c)
+module _ (container : ContainingBlock) (style : Style) (c c' : OofCandidate) (r : Replies) (overflow : Rect Float) (hb : QuarterContainer container) (hs : QuarterStyle style) (hc : QuarterCandidate c)
     (hi : CandidateImage container.area c c') (q : QuarterReplies r) (qo : QuarterOverflow overflow) where
   held : Held (layout_after container style c r overflow).layout (layout_after (image_container container) (image_style style) c' r overflow).layout
   unfolding layout_after place.box_layout place.layout_of

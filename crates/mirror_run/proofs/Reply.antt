@@ -1,9 +1,11 @@
 -- One reply to both runs. Assumes nothing.
+use Rattle.std.specs.Prelude.{Option, None, Some, is_none, Float}
 use Prim.Native.Nat.{ℕ, ◌+◌, ◌-◌, ◌*◌}
 use mathlib.Core.Path.{◌≡◌, refl, sym, ap, ◌∙◌, subst}
 use mathlib.Core.Bool.{true, false}
 use mathlib.Core.List.{List, [], map}
 use lib.ListN.{length}
+use Rattle.std.specs.Prelude.{Some, Ok, Err}
 use Rattle.geometry.specs.declared.Rect.{Rect}
 use Rattle.refusal.specs.declared.Refusal.{Refusal}
 use Rattle.refusal.specs.declared.Refusal.TheVariants.{WrongReply}
@@ -11,19 +13,18 @@ use Rattle.records.proofs.Laws.{written_length}
 use Rattle.tree_record.specs.Layout.{layout_width, layout_words}
 use Rattle.style_record.specs.Record.{items}
 use Rattle.sweep.specs.Sweep.{candidates_in, moved, keep}
-use Rattle.sweep.specs.declared.Shift.TheVariants.{By}
 use Rattle.sweep.proofs.Steps.{appended_length}
 use Rattle.oof_place.specs.declared.OofBoxLayout.{OofBoxLayout}
 use Rattle.oof_box.specs.declared.question.Reply.{Reply}
 use Rattle.oof_box.specs.declared.question.Replies.{Replies}
 use Rattle.oof_box.specs.declared.question.Stage.{Stage}
 use Rattle.oof_box.specs.declared.question.Taken.{Taken}
-use Rattle.oof_box.specs.declared.question.Taken.TheVariants.{Wrong, Kept, Laid}
+use Rattle.oof_box.specs.declared.question.Taken.TheVariants.{Kept, Laid}
 use Rattle.run.specs.declared.Progress.{Progress}
 use Rattle.run.specs.declared.Progress.TheVariants.{Asking}
 use Rattle.run.specs.Call.{Lent, Outcome}
-use Rattle.run.specs.Refusals.{Verdict, accepted, refused, lent_by}
-use Rattle.run.specs.Run.{extents_of, taken_in, taken_by, is_wrong, reply_verdict, measured_on, laid_out, refusing, replied}
+use Rattle.run.specs.Refusals.{Verdict, lent_by}
+use Rattle.run.specs.Run.{extents_of, taken_in, taken_by, reply_verdict, measured_on, laid_out, refusing, replied}
 use Rattle.run.specs.Theorems.{is_refused, laid_count}
 use Rattle.run.proofs.Refusals.{measured_accepts, laid_accepts}
 use Rattle.mirror_box.specs.Quarter.{QuarterReplies, QuarterOverflow}
@@ -74,7 +75,7 @@ module _ (f : Frame) (q : QuarterFrame f) (s : Shared) (p p' : Own) (links : Lin
         (record { filled = s.counts.filled; begun = s.counts.begun; answered = s.counts.answered + 1 }) replies links.lists before given passed.begun passed.waiting
 
     -- the box was laid out
-    module _ (passed' : ReplyPassed (state_of f s p') reply surfaced lent') (overflow : Rect) (given : QuarterOverflow overflow) (lay : lent_by reply surfaced ≡ surfaced)
+    module _ (passed' : ReplyPassed (state_of f s p') reply surfaced lent') (overflow : Rect Float) (given : QuarterOverflow overflow) (lay : lent_by reply surfaced ≡ surfaced)
         (unclaimed : keep s.claims true (candidates_in surfaced) ≡ []) where
       abbrev placed : OofBoxLayout
       placed = placed_of f.styles p s.counts s.replies overflow
@@ -107,7 +108,7 @@ module _ (f : Frame) (q : QuarterFrame f) (s : Shared) (p p' : Own) (links : Lin
       lengths_kept_lem styles p placed =
           rw (
             written_length p.layouts (layout_width * (box_of p (s.counts.begun - 1)).node) (layout_words placed.layout),
-            appended_length p.unclaimed s.counts.filled.unclaimed (keep s.claims false (map (moved (By placed.layout.location)) (candidates_in surfaced))),
+            appended_length p.unclaimed s.counts.filled.unclaimed (keep s.claims false (map (moved (Some placed.layout.location)) (candidates_in surfaced))),
           )
           refl
 
@@ -148,21 +149,21 @@ module _ (f : Frame) (q : QuarterFrame f) (s : Shared) (p p' : Own) (links : Lin
   unfolding taken_by
   replied_linked fair = go (reply_verdict (state_of f s p) reply surfaced lent) (taken_in s.progress s.replies reply) refl refl
     where
-      go : (v : Verdict) (t : Taken) → reply_verdict (state_of f s p) reply surfaced lent ≡ v → taken_in s.progress s.replies reply ≡ t
+      go : (v : Verdict) (t : Option Taken) → reply_verdict (state_of f s p) reply surfaced lent ≡ v → taken_in s.progress s.replies reply ≡ t
           → Linked f (replied (state_of f s p) reply surfaced lent) (replied (state_of f s p') reply surfaced lent')
-      go (refused r) t d e = both_are f (replied_as _ reply surfaced lent d e) (replied_as _ reply surfaced lent' (sym same_verdict ∙ d) e) (refuses r)
-      go accepted Wrong d e = both_are f (replied_as _ reply surfaced lent d e) (replied_as _ reply surfaced lent' (sym same_verdict ∙ d) e) (refuses WrongReply)
-      go accepted (Kept replies) d e =
+      go (Err r) t d e = both_are f (replied_as _ reply surfaced lent d e) (replied_as _ reply surfaced lent' (sym same_verdict ∙ d) e) (refuses r)
+      go (Ok tt) None d e = both_are f (replied_as _ reply surfaced lent d e) (replied_as _ reply surfaced lent' (sym same_verdict ∙ d) e) (refuses WrongReply)
+      go (Ok tt) (Some (Kept replies)) d e =
           let r = replied_as (state_of f s p) reply surfaced lent d e in
           let h = fair (ap (λ (o : Outcome). is_refused o.step.answer) r ∙ measured_accepts (state_of f s p) replies lent) in
-          let at = was_asking s.progress s.replies reply (ap is_wrong e) in
+          let at = was_asking s.progress s.replies reply (ap is_none e) in
           both_are f r (replied_as _ reply surfaced lent' (sym same_verdict ∙ d) e)
           (measures at.0 at.1 (reply_passed (state_of f s p) reply surfaced lent d) replies
           (subst QuarterTaken e (quarter_taken s.replies links.replies s.progress reply h.0)))
-      go accepted (Laid overflow) d e =
+      go (Ok tt) (Some (Laid overflow)) d e =
           let r = replied_as (state_of f s p) reply surfaced lent d e in
           let h = fair (ap (λ (o : Outcome). is_refused o.step.answer) r ∙ laid_accepts (state_of f s p) overflow surfaced lent) in
-          let at = was_asking s.progress s.replies reply (ap is_wrong e) in
+          let at = was_asking s.progress s.replies reply (ap is_none e) in
           let all = taken_all (state_of f s p) reply surfaced e in
           both_are f r (replied_as _ reply surfaced lent' (sym same_verdict ∙ d) e)
           (lays_out_lem at.0 at.1 (reply_passed (state_of f s p) reply surfaced lent d) (reply_passed (state_of f s p') reply surfaced lent' (sym same_verdict ∙ d)) overflow

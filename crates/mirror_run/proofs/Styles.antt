@@ -1,78 +1,26 @@
 -- A table of styles and its image: the same check, and each item decodes to its image. Assumes nothing.
-use Prim.Native.Nat.{ℕ, zero, suc, ◌+◌, ◌-◌, ◌*◌, ◌/◌, ◌<◌, ◌≤◌}
+use Prim.Native.Nat.{ℕ, zero, suc, ◌/◌, ◌<◌, ◌≤◌}
 use native.Mathlib.Omega.{arith}
 use mathlib.Core.Path.{◌≡◌, refl, sym, ap, ◌∙◌}
 use mathlib.Core.Bool.{false}
 use mathlib.Core.List.{List}
-use lib.Dec.{lit<, lit≤}
+use lib.Dec.{lit<}
 use borrow.Author.Tests.{ltb-false}
 use Rattle.util.proofs.Floats.{no}
 use Rattle.style.specs.Codes.{direction_of}
-use Rattle.util.specs.declared.math.MaybeF32.TheVariants.{None}
-use Rattle.style_record.specs.Record.{length_words, tag_word, ratio_present_word, ratio_word, box_sizing_word, flags_word, direction_word, justify_word, align_word, overflow_x_word, overflow_y_word, scrollbar_word, contain_word, code_kinds, kind_of, style_words, item, items}
+use Rattle.style_record.specs.Record.{ratio_present_word, direction_word, code_kinds, kind_of, style_words, item, items}
 use Rattle.style_record.specs.Check.{breaks_as, breaks_rule, breaks, checked}
 use Rattle.style_record.specs.Decode.{length_at, rect_at, size_at, align_at, ratio_at, overflow_at, style_of, style_at}
 use Rattle.style_record.specs.Laws.{NoneBreaks, First}
-use Rattle.style_record.specs.declared.check.TableCheck.{TableCheck}
+use Rattle.style_record.specs.declared.check.BadWord.{BadWord}
+use Rattle.std.specs.Prelude.{Result, is_err, ⊤, None}
 use Rattle.style_record.proofs.First.{TableIs, good, bad, table_is}
-use Rattle.run.specs.Refusals.{is_bad, bad_style}
+use Rattle.style_record.proofs.Same.{same_style, same_rule}
+use Rattle.run.specs.Refusals.{bad_style}
 use Rattle.mirror_box.specs.Image as box
 use Rattle.mirror_run.specs.Image.{other_direction, counterpart, image_style, image_styles}
 use Rattle.mirror_run.proofs.Words.{each_length, each_word}
 use Rattle.mirror_run.proofs.Counterpart.{counterpart_there, counterpart_twice, image_breaks}
-
--- ---- two records with the same words
-
-module _ (r r' : ℕ → ℕ) (same : (k : ℕ) → k < style_words → r k ≡ r' k) where
-  same_length : (k : ℕ) → k + length_words ≤ style_words → length_at r k ≡ length_at r' k
-  unfolding length_at
-  same_length k h = rw (same k (omega arith), same (k + 1) (omega arith), same (k + 2) (omega arith)) refl
-
-  same_rect : (k : ℕ) → k + 4 * length_words ≤ style_words → rect_at r k ≡ rect_at r' k
-  unfolding rect_at
-  same_rect k h =
-      rw (
-        same_length k (omega arith),
-        same_length (k + length_words) (omega arith),
-        same_length (k + 2 * length_words) (omega arith),
-        same_length (k + 3 * length_words) (omega arith),
-      )
-      refl
-
-  same_size : (k : ℕ) → k + 2 * length_words ≤ style_words → size_at r k ≡ size_at r' k
-  unfolding size_at
-  same_size k h = rw (same_length k (omega arith), same_length (k + length_words) (omega arith)) refl
-
-  same_style : style_of r ≡ style_of r'
-  unfolding style_of ratio_at align_at overflow_at
-  same_style =
-      rw (
-        same_rect (tag_word 0) (lit≤ tt),
-        same_rect (tag_word 4) (lit≤ tt),
-        same_rect (tag_word 8) (lit≤ tt),
-        same_rect (tag_word 12) (lit≤ tt),
-        same_size (tag_word 16) (lit≤ tt),
-        same_size (tag_word 18) (lit≤ tt),
-        same_size (tag_word 20) (lit≤ tt),
-        same ratio_present_word (lit< tt),
-        same ratio_word (lit< tt),
-        same box_sizing_word (lit< tt),
-        same flags_word (lit< tt),
-        same direction_word (lit< tt),
-        same justify_word (lit< tt),
-        same (justify_word + 1) (lit< tt),
-        same align_word (lit< tt),
-        same (align_word + 1) (lit< tt),
-        same overflow_x_word (lit< tt),
-        same overflow_y_word (lit< tt),
-        same scrollbar_word (lit< tt),
-        same contain_word (lit< tt),
-      )
-      refl
-
-  same_rule : (k : ℕ) → k < style_words → breaks_rule r k ≡ breaks_rule r' k
-  unfolding breaks_rule
-  same_rule k h = rw (same k h, same (k - 1) (omega arith)) refl
 
 -- ---- a record's image, decoded
 
@@ -115,7 +63,7 @@ module _ (ws : List ℕ) where
       clash : {A : Type 0} {s : List ℕ} {i k : ℕ} → NoneBreaks s → First s i k → A
       clash n f = no f.breaks_it (n _ f.item_there _ f.word_there)
 
-      go : (c d : TableCheck) → TableIs (image_styles ws) c → TableIs ws d → is_bad c ≡ is_bad d
+      go : (c d : Result ⊤ BadWord) → TableIs (image_styles ws) c → TableIs ws d → is_err c ≡ is_err d
       go _ _ (good a) (good b) = refl
       go _ _ (good a) (bad i k f) = clash (good_image a) f
       go _ _ (bad i k f) (good b) = clash (image_good b) f
@@ -125,7 +73,7 @@ module _ (ws : List ℕ) where
   unfolding bad_style
   none_breaks e = go (checked ws) (table_is ws) e
     where
-      go : (c : TableCheck) → TableIs ws c → is_bad c ≡ false → NoneBreaks ws
+      go : (c : Result ⊤ BadWord) → TableIs ws c → is_err c ≡ false → NoneBreaks ws
       go _ (good a) p = a
       go _ (bad i k f) p = no refl p
 

@@ -1,10 +1,12 @@
 -- What a call doesn't look at: the surfaced slice of a measure reply; and, if it is refused with 2 or 6, the words of any slice.
 -- Assumes nothing.
+use Rattle.std.specs.Prelude.{Option, None, Some, is_none}
 use Prim.Native.Nat.{ℕ}
 use mathlib.Core.Path.{◌≡◌, refl, sym, ap, ◌∙◌, subst}
 use mathlib.Core.Bool.{Bool, true, false, ◌||◌}
 use mathlib.Core.List.{List}
 use lib.ListN.{length}
+use Rattle.std.specs.Prelude.{Ok, Err}
 use Rattle.util.proofs.Floats.{no}
 use Rattle.refusal.specs.declared.Refusal.{Refusal}
 use Rattle.refusal.specs.declared.Refusal.TheVariants.{BadExtent, BadStyle, BadCandidate, ListFull, WrongReply}
@@ -13,15 +15,15 @@ use Rattle.oof_box.specs.declared.question.Reply.{Reply}
 use Rattle.oof_box.specs.declared.question.Replies.{Replies}
 use Rattle.oof_box.specs.declared.question.Stage.{Stage}
 use Rattle.oof_box.specs.declared.question.Taken.{Taken}
-use Rattle.oof_box.specs.declared.question.Taken.TheVariants.{Wrong, Kept, Laid}
+use Rattle.oof_box.specs.declared.question.Taken.TheVariants.{Kept, Laid}
 use Rattle.run.specs.declared.Progress.{Progress}
 use Rattle.run.specs.declared.Progress.TheVariants.{Finished, Asking}
 use Rattle.run.specs.declared.State.{State}
 use Rattle.run.specs.declared.Answer.{Answer}
 use Rattle.run.specs.declared.Answer.TheVariants.{Ask, Finish, Refused}
 use Rattle.run.specs.Call.{Lent}
-use Rattle.run.specs.Refusals.{Verdict, accepted, refused, ◌when◌else◌, ragged, bad_slices, other_lengths, lent_by, bad_style, bad_candidate, bad_candidates, list_full, wrong_counts}
-use Rattle.run.specs.Run.{extents_of, taken_in, taken_by, is_wrong, reply_verdict, measured_on, laid_out, refusing, replied_by, replied}
+use Rattle.run.specs.Refusals.{Verdict, accepted, ◌when◌else◌, ragged, bad_slices, other_lengths, lent_by, bad_style, bad_candidate, bad_candidates, list_full, wrong_counts}
+use Rattle.run.specs.Run.{extents_of, taken_in, taken_by, reply_verdict, measured_on, laid_out, refusing, replied_by, replied}
 use Rattle.run.specs.Theorems.{is_refused}
 use Rattle.run.proofs.Ways.{lent_all, neither}
 use Rattle.run.proofs.Refusals.{measured_accepts, laid_accepts}
@@ -30,21 +32,21 @@ use Rattle.mirror_run.proofs.Verdicts.{same_slices, same_others, same_wrong}
 
 -- ---- a reply by its verdict
 
-pub was_asking : (at : Progress) (r : Replies) (reply : Reply) → is_wrong (taken_in at r reply) ≡ false → (stage : Stage) × (at ≡ Asking stage)
+pub was_asking : (at : Progress) (r : Replies) (reply : Reply) → is_none (taken_in at r reply) ≡ false → (stage : Stage) × (at ≡ Asking stage)
 was_asking Finished r reply e = no refl e
 was_asking (Asking stage) r reply e = (stage, refl)
 
-pub replied_as : (s : State) (reply : Reply) (surfaced : List ℕ) (lent : Lent) {v : Verdict} {t : Taken} → reply_verdict s reply surfaced lent ≡ v → taken_by s reply ≡ t
+pub replied_as : (s : State) (reply : Reply) (surfaced : List ℕ) (lent : Lent) {v : Verdict} {t : Option Taken} → reply_verdict s reply surfaced lent ≡ v → taken_by s reply ≡ t
     → replied s reply surfaced lent ≡ replied_by v t s surfaced lent
 unfolding replied
 replied_as s reply surfaced lent d e = rw (d, e) refl
 
 -- only a lay-out reply's surfaced slice is taken in
-pub taken_all : (s : State) (reply : Reply) (surfaced : List ℕ) {overflow : _} → taken_by s reply ≡ Laid overflow → lent_by reply surfaced ≡ surfaced
+pub taken_all : (s : State) (reply : Reply) (surfaced : List ℕ) {overflow : _} → taken_by s reply ≡ Some (Laid overflow) → lent_by reply surfaced ≡ surfaced
 unfolding taken_by
 taken_all s reply surfaced {overflow} e =
-    let at = was_asking s.progress s.replies reply (ap is_wrong e) in
-    lent_all s.replies at.0 reply surfaced (subst (λ (a : Progress). taken_in a s.replies reply ≡ Laid overflow) at.1 e)
+    let at = was_asking s.progress s.replies reply (ap is_none e) in
+    lent_all s.replies at.0 reply surfaced (subst (λ (a : Progress). taken_in a s.replies reply ≡ Some (Laid overflow)) at.1 e)
 
 -- ---- a surfaced slice that isn't looked at
 
@@ -59,11 +61,11 @@ module _ (s : State) (reply : Reply) (surfaced surfaced' : List ℕ) (lent : Len
       ∙ go (reply_verdict s reply surfaced' lent) (taken_by s reply) refl
       ∙ sym (replied_as s reply surfaced' lent refl refl)
     where
-      go : (v : Verdict) (t : Taken) → taken_by s reply ≡ t → replied_by v t s surfaced lent ≡ replied_by v t s surfaced' lent
-      go (refused r) t e = refl
-      go accepted Wrong e = refl
-      go accepted (Kept replies) e = refl
-      go accepted (Laid overflow) e =
+      go : (v : Verdict) (t : Option Taken) → taken_by s reply ≡ t → replied_by v t s surfaced lent ≡ replied_by v t s surfaced' lent
+      go (Err r) t e = refl
+      go (Ok tt) None e = refl
+      go (Ok tt) (Some (Kept replies)) e = refl
+      go (Ok tt) (Some (Laid overflow)) e =
           ap (λ (ws : List ℕ). laid_out s overflow ws lent) (sym (taken_all s reply surfaced e) ∙ same ∙ taken_all s reply surfaced' e)
 
 -- ---- words that aren't looked at
@@ -74,22 +76,22 @@ accepted_read (Finish f) e = refl
 accepted_read (Refused r) e = no refl e
 
 -- what passes tests 2 and 6 is not refused with either
-passed_read : (s : State) (surfaced : List ℕ) (lent : Lent) (style candidate full : Bool) (t : Taken) → is_wrong t ≡ false
+passed_read : (s : State) (surfaced : List ℕ) (lent : Lent) (style candidate full : Bool) (t : Option Taken) → is_none t ≡ false
     → is_unread (replied_by (BadStyle when style else BadCandidate when candidate else ListFull when full else accepted) t s surfaced lent).step.answer ≡ false
 unfolding ◌when◌else◌
 passed_read s surfaced lent true candidate full t e = refl
 passed_read s surfaced lent false true full t e = refl
 passed_read s surfaced lent false false true t e = refl
-passed_read s surfaced lent false false false Wrong e = no refl e
-passed_read s surfaced lent false false false (Kept replies) e = accepted_read (measured_on s replies lent).step.answer (measured_accepts s replies lent)
-passed_read s surfaced lent false false false (Laid overflow) e = accepted_read (laid_out s overflow surfaced lent).step.answer (laid_accepts s overflow surfaced lent)
+passed_read s surfaced lent false false false None e = no refl e
+passed_read s surfaced lent false false false (Some (Kept replies)) e = accepted_read (measured_on s replies lent).step.answer (measured_accepts s replies lent)
+passed_read s surfaced lent false false false (Some (Laid overflow)) e = accepted_read (laid_out s overflow surfaced lent).step.answer (laid_accepts s overflow surfaced lent)
 
 -- test 2, and test 6
 abbrev bad_extent : State → Reply → List ℕ → Lent → Bool
 bad_extent s reply surfaced lent = bad_slices lent || other_lengths s.opened.extents lent || ragged candidate_width (lent_by reply surfaced)
 
 abbrev wrong_reply : State → Reply → Lent → Bool
-wrong_reply s reply lent = is_wrong (taken_by s reply) || wrong_counts lent s.counts
+wrong_reply s reply lent = is_none (taken_by s reply) || wrong_counts lent s.counts
 
 module _ (s : State) (reply : Reply) (surfaced : List ℕ) (lent : Lent) where
   refused_2 : bad_extent s reply surfaced lent ≡ true → replied s reply surfaced lent ≡ refusing s lent BadExtent
@@ -107,7 +109,7 @@ module _ (s : State) (reply : Reply) (surfaced : List ℕ) (lent : Lent) where
       (passed_read s surfaced lent (bad_style lent.styles)
       (bad_candidate lent.styles lent.working s.counts.filled.working || bad_candidates lent.styles (lent_by reply surfaced))
       (list_full s.opened.claims lent s.counts.filled (lent_by reply surfaced)) (taken_by s reply)
-      (neither (is_wrong (taken_by s reply)) (wrong_counts lent s.counts) d).0)
+      (neither (is_none (taken_by s reply)) (wrong_counts lent s.counts) d).0)
 
 -- two calls of one reply with slices of the same lengths, from states that share lengths, counts and question: if one is refused with 2
 -- or 6, so is the other

@@ -1,4 +1,5 @@
 -- A run and its image pass the same tests, and what an accepted call tells of its words. Assumes nothing.
+use Rattle.std.specs.Prelude.{is_none}
 use Prim.Native.Nat.{ℕ, zero, suc, ◌+◌, ◌*◌, ◌/◌, ◌<◌, ◌≤◌}
 use native.Mathlib.Omega.{arith}
 use mathlib.Core.Path.{◌≡◌, refl, sym, ap, ◌∙◌}
@@ -25,7 +26,7 @@ use Rattle.run.specs.declared.Extents.{Extents}
 use Rattle.run.specs.declared.State.{State}
 use Rattle.run.specs.Call.{Lent}
 use Rattle.run.specs.Refusals.{accepted, ◌when◌else◌, bad_area, ragged, bad_table, bad_list, bad_slices, other_lengths, lent_by, bad_style, bad_candidate, bad_candidates, list_full, wrong_counts}
-use Rattle.run.specs.Run.{extents_of, claims_of, none_filled, opening_verdict, taken_by, is_wrong, reply_verdict}
+use Rattle.run.specs.Run.{extents_of, claims_of, none_filled, opening_verdict, taken_by, reply_verdict}
 use Rattle.run.proofs.Ways.{passed, neither}
 use Rattle.mirror_run.specs.Image.{image_opening, image_styles, image_candidates, image_candidate}
 use Rattle.mirror_run.proofs.Words as words
@@ -204,7 +205,7 @@ reply_passed s reply surfaced lent e =
     let extent = passed BadExtent _ _ e in
     let wrong = passed WrongReply _ _ extent.1 in
     let style = passed BadStyle _ _ wrong.1 in
-    let counts = counts_passed lent s.counts (neither (is_wrong (taken_by s reply)) (wrong_counts lent s.counts) wrong.0).1 in
+    let counts = counts_passed lent s.counts (neither (is_none (taken_by s reply)) (wrong_counts lent s.counts) wrong.0).1 in
     record {
       layouts =
           slices_passed lent (first (bad_slices lent) (other_lengths s.opened.extents lent) (ragged candidate_width (lent_by reply surfaced)) extent.0);

@@ -1,7 +1,7 @@
 -- What demand 3 asks of a run: whole quarter pixels of size 4,096 at most (`Quarter`), an area whose width isn't 0, no percentage, by
 -- request #105 no sum with one, and no ratio. The mirror puts to use only what bears on x, since along y both runs have the same words;
 -- whole pixels, both (pixels_laws), and no width that isn't 0. Assumes nothing.
-use Rattle.std.specs.Prelude.{ℕ, ◌/◌, ◌<◌, ◌≡◌, List, length}
+use Rattle.std.specs.Prelude.{ℕ, ◌/◌, ◌<◌, ◌≡◌, List, length, Float}
 use Rattle.std.specs.Float.Ieee.{of_bits}
 use Rattle.std.specs.Float.{binary32}
 use Rattle.util.specs.Number.{0f}
@@ -37,7 +37,7 @@ pub record QuarterItem (word : ℕ → ℕ) : Type 0 where
 abbrev pub QuarterTable : List ℕ → Type 0
 QuarterTable styles = (i : ℕ) → i < items styles → QuarterItem (item styles i)
 
-abbrev pub QuarterLine : Line → Type 0
+abbrev pub QuarterLine : Line Float → Type 0
 QuarterLine l = Quarter l.start × Quarter l.end
 
 abbrev pub QuarterPlace : OofCandidate → Type 0

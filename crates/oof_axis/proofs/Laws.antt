@@ -1,12 +1,11 @@
 -- The laws of `specs/Laws.antt`. Assumes nothing.
+use Rattle.std.specs.Prelude.{Float, None, Option, Some, is_some}
 use mathlib.Core.Path.{◌≡◌, refl, subst}
 use mathlib.Core.Bool.{Bool, true, false, false≢true, cond, ◌&&◌, ◌||◌}
 use lib.Ieee.{Float, inf, lt, le, is_nan, of_bits}
 use Rattle.util.specs.Number.{◌⊕◌, ◌⊖◌, 0f}
 use Rattle.util.specs.Order.{before, larger, smaller}
-use Rattle.util.specs.Maybe.{present, unwrap_or, or_zero}
-use Rattle.util.specs.declared.math.MaybeF32.{MaybeF32}
-use Rattle.util.specs.declared.math.MaybeF32.TheVariants.{None, Some}
+use Rattle.util.specs.Maybe.{or_zero}
 use Rattle.util.proofs.Laws.{larger_bounds}
 use Rattle.util.proofs.Order.{one_way, not_above_lem, le_self}
 use Rattle.geometry.specs.Geometry.{◌to◌, span}
@@ -25,7 +24,7 @@ use Rattle.oof_axis.specs.Laws.{NoInset, TwoInsets, Aligned, margin_box, StartIn
 -- ---- insets
 
 pub start_inset_held : StartInsetHeld
-unfolding placement position position_in margins both_insets block repaired start_is_weaker inset_block present
+unfolding placement position position_in margins both_insets block repaired start_is_weaker inset_block
 start_inset_held a x size p q = rw (p, q) (go (lt a.size x))
   where
     go : (b : Bool) → (cond b (x to x) (x to a.size)).start ⊕ or_zero a.margin.start ≡ x ⊕ or_zero a.margin.start
@@ -33,7 +32,7 @@ start_inset_held a x size p q = rw (p, q) (go (lt a.size x))
     go false = refl
 
 pub end_inset_held : EndInsetHeld
-unfolding placement position position_in margins both_insets block repaired start_is_weaker inset_block present
+unfolding placement position position_in margins both_insets block repaired start_is_weaker inset_block
 end_inset_held a y size p q = rw (p, q) (go (lt (a.size ⊖ y) 0f))
   where
     go : (b : Bool) → (cond b (a.size ⊖ y to a.size ⊖ y) (0f to a.size ⊖ y)).end ⊖ size ⊖ or_zero a.margin.end ≡ a.size ⊖ y ⊖ size ⊖ or_zero a.margin.end
@@ -72,7 +71,7 @@ not_below_itself x = go (lt x x) refl
     go true e = absurd (one_way x x e e)
     go false e = refl
 
-repaired_in_order : (w : Bool) (l : Line) → lt (repaired w l).end (repaired w l).start ≡ false
+repaired_in_order : (w : Bool) (l : Line Float) → lt (repaired w l).end (repaired w l).start ≡ false
 unfolding repaired
 repaired_in_order w l = go (lt l.end l.start) refl w
   where
@@ -87,14 +86,14 @@ block_in_order a = repaired_in_order (start_is_weaker a.inset.start a.inset.end 
 
 -- ---- margins
 
-given_start : (b : Bool) (m free : Float) (s t : MaybeF32) (a : OofAxis) → s ≡ Some m → (cond b (filled_margins s t free a) (or_zero s to or_zero t)).start ≡ m
-unfolding filled_margins unwrap_or
+given_start : (b : Bool) (m free : Float) (s t : Option Float) (a : OofAxis) → s ≡ Some m → (cond b (filled_margins s t free a) (or_zero s to or_zero t)).start ≡ m
+unfolding filled_margins
 given_start true m free s (Some y) a e = rw e refl
 given_start true m free s None a e = rw e refl
 given_start false m free s t a e = rw e refl
 
-given_end : (b : Bool) (m free : Float) (s t : MaybeF32) (a : OofAxis) → t ≡ Some m → (cond b (filled_margins s t free a) (or_zero s to or_zero t)).end ≡ m
-unfolding filled_margins unwrap_or
+given_end : (b : Bool) (m free : Float) (s t : Option Float) (a : OofAxis) → t ≡ Some m → (cond b (filled_margins s t free a) (or_zero s to or_zero t)).end ≡ m
+unfolding filled_margins
 given_end true m free (Some x) t a e = rw e refl
 given_end true m free None t a e = rw e refl
 given_end false m free s t a e = rw e refl
@@ -118,7 +117,7 @@ to_end : (free : Float) (a : OofAxis) → lt free 0f ≡ true → a.inline ≡ t
 unfolding halves
 to_end free a h n = (λ r. rw (h, n, r) refl, λ r. rw (h, n, r) refl)
 
-two_auto : (s t : MaybeF32) (free : Float) (a : OofAxis) → s ≡ None → t ≡ None → filled_margins s t free a ≡ halves free a
+two_auto : (s t : Option Float) (free : Float) (a : OofAxis) → s ≡ None → t ≡ None → filled_margins s t free a ≡ halves free a
 unfolding filled_margins
 two_auto s t free a p q = rw (p, q) refl
 
@@ -132,11 +131,11 @@ auto_margins_are_equal a size i s e h = rw (both_auto a size i s e) (equal_halve
 pub negative_space_goes_to_the_end : NegativeSpaceGoesToTheEnd
 negative_space_goes_to_the_end a size i s e h n = rw (both_auto a size i s e) (to_end (span (block a) ⊖ size) a h n)
 
-rest_end : (s t : MaybeF32) (m free : Float) (a : OofAxis) → s ≡ Some m → t ≡ None → (filled_margins s t free a).end ≡ free ⊖ m
+rest_end : (s t : Option Float) (m free : Float) (a : OofAxis) → s ≡ Some m → t ≡ None → (filled_margins s t free a).end ≡ free ⊖ m
 unfolding filled_margins
 rest_end s t m free a p q = rw (p, q) refl
 
-rest_start : (s t : MaybeF32) (m free : Float) (a : OofAxis) → s ≡ None → t ≡ Some m → (filled_margins s t free a).start ≡ free ⊖ m
+rest_start : (s t : Option Float) (m free : Float) (a : OofAxis) → s ≡ None → t ≡ Some m → (filled_margins s t free a).start ≡ free ⊖ m
 unfolding filled_margins
 rest_start s t m free a p q = rw (p, q) refl
 
@@ -150,17 +149,16 @@ lone_auto_margin_takes_the_rest a m size i =
 
 -- ---- position: what `position_in` comes to, by which insets and margins there are
 
-data Has : MaybeF32 → Type 0 where
+data Has : Option Float → Type 0 where
   has : (x : Float) → Has (Some x)
 
-is_some : (m : MaybeF32) → present m ≡ true → Has m
-unfolding present
-is_some None h = absurd (false≢true h)
-is_some (Some x) h = has x
+given : (m : Option Float) → is_some m ≡ true → Has m
+given None h = absurd (false≢true h)
+given (Some x) h = has x
 
-between : (s e : MaybeF32) → Has s → Has e → (a : OofAxis) (l : Line) (size : Float) (m : Line)
+between : (s e : Option Float) → Has s → Has e → (a : OofAxis) (l : Line Float) (size : Float) (m : Line Float)
     → position_in s e a l size m
-    ≡ cond (present a.margin.start && present a.margin.end)
+    ≡ cond (is_some a.margin.start && is_some a.margin.end)
     (self_aligned a.safety a l (size ⊕ m.start ⊕ m.end) (align_edge a.alignment a) ⊕ m.start)
     (l.start ⊕ m.start)
 unfolding position_in
@@ -169,10 +167,10 @@ between _ _ (has x) (has y) a l size m = refl
 pub auto_margin_begins_with_block : AutoMarginBeginsWithBlock
 unfolding placement position
 auto_margin_begins_with_block a size i h =
-    rw (between a.inset.start a.inset.end (is_some a.inset.start i.start) (is_some a.inset.end i.end) a (block a) size (margins a size), h) refl
+    rw (between a.inset.start a.inset.end (given a.inset.start i.start) (given a.inset.end i.end) a (block a) size (margins a size), h) refl
 
-given_margins : (s t : MaybeF32) → Has s → Has t → (free : Float) (a : OofAxis) → filled_margins s t free a ≡ (or_zero s to or_zero t)
-unfolding filled_margins unwrap_or
+given_margins : (s t : Option Float) → Has s → Has t → (free : Float) (a : OofAxis) → filled_margins s t free a ≡ (or_zero s to or_zero t)
+unfolding filled_margins
 given_margins _ _ (has x) (has y) free a = refl
 
 -- two insets, two margins
@@ -180,13 +178,13 @@ pub aligned_margins : (a : OofAxis) (size : Float) → Aligned a → margins a s
 unfolding margins both_insets
 aligned_margins a size h =
     rw (h.insets.start, h.insets.end)
-    (given_margins a.margin.start a.margin.end (is_some a.margin.start h.margin_start) (is_some a.margin.end h.margin_end) (span (block a) ⊖ size) a)
+    (given_margins a.margin.start a.margin.end (given a.margin.start h.margin_start) (given a.margin.end h.margin_end) (span (block a) ⊖ size) a)
 
 pub aligned_position : (a : OofAxis) (size : Float) → Aligned a
     → (placement a size).position ≡ self_aligned a.safety a (block a) (margin_box a size) (align_edge a.alignment a) ⊕ or_zero a.margin.start
 unfolding placement position
 aligned_position a size h =
-    rw (between a.inset.start a.inset.end (is_some a.inset.start h.insets.start) (is_some a.inset.end h.insets.end) a (block a) size (margins a size), h.margin_start, h.margin_end, aligned_margins a size h) refl
+    rw (between a.inset.start a.inset.end (given a.inset.start h.insets.start) (given a.inset.end h.insets.end) a (block a) size (margins a size), h.margin_start, h.margin_end, aligned_margins a size h) refl
 
 -- the box at an edge of the block
 abbrev InBlock : AxisStaticEdge → OofAxis → Float → Type 0
@@ -215,7 +213,7 @@ fits_not_over x y h = go (lt y x) refl
     go true e = absurd (not_above_lem y x e h)
     go false e = refl
 
-fits_aligned : (s : AlignmentSafety) (a : OofAxis) (l : Line) (outer : Float) (k : AxisStaticEdge) → le outer (span l) ≡ true → self_aligned s a l outer k ≡ align_in l outer k
+fits_aligned : (s : AlignmentSafety) (a : OofAxis) (l : Line Float) (outer : Float) (k : AxisStaticEdge) → le outer (span l) ≡ true → self_aligned s a l outer k ≡ align_in l outer k
 unfolding self_aligned
 fits_aligned Unsafe a l outer k h = refl
 fits_aligned Safe a l outer k h = rw (fits_not_over outer (span l) h) refl
@@ -225,7 +223,7 @@ pub fits_as_told : FitsAsTold
 fits_as_told a size h f =
     as_told a.alignment a size (rw (aligned_position a size h, fits_aligned a.safety a (block a) (margin_box a size) (align_edge a.alignment a) f) refl)
 
-unsafe_aligned : (s : AlignmentSafety) (a : OofAxis) (l : Line) (outer : Float) (k : AxisStaticEdge) → s ≡ Unsafe → self_aligned s a l outer k ≡ align_in l outer k
+unsafe_aligned : (s : AlignmentSafety) (a : OofAxis) (l : Line Float) (outer : Float) (k : AxisStaticEdge) → s ≡ Unsafe → self_aligned s a l outer k ≡ align_in l outer k
 unfolding self_aligned
 unsafe_aligned s a l outer k e = rw e refl
 
@@ -237,7 +235,7 @@ is_normal_lem : (k : OofAlignment) → k ≡ align.Normal → is_normal k ≡ tr
 unfolding is_normal
 is_normal_lem k n = rw n refl
 
-normal_aligned : (s : AlignmentSafety) (a : OofAxis) (l : Line) (outer : Float) → a.alignment ≡ align.Normal → self_aligned s a l outer (start_edge a.reversed) ≡ align_in l outer (start_edge a.reversed)
+normal_aligned : (s : AlignmentSafety) (a : OofAxis) (l : Line Float) (outer : Float) → a.alignment ≡ align.Normal → self_aligned s a l outer (start_edge a.reversed) ≡ align_in l outer (start_edge a.reversed)
 unfolding self_aligned
 normal_aligned Unsafe a l outer n = refl
 normal_aligned Safe a l outer n = go (lt (span l) outer)
@@ -259,7 +257,7 @@ pub normal_at_start : NormalAtStart
 normal_at_start a size h n =
     at_start_lem a size (rw (aligned_position a size h, normal_edge a n, normal_aligned a.safety a (block a) (margin_box a size) n) refl)
 
-safe_aligned : (s : AlignmentSafety) (a : OofAxis) (l : Line) (outer : Float) (k : AxisStaticEdge) → s ≡ Safe → lt (span l) outer ≡ true → self_aligned s a l outer k ≡ align_in l outer (start_edge a.reversed)
+safe_aligned : (s : AlignmentSafety) (a : OofAxis) (l : Line Float) (outer : Float) (k : AxisStaticEdge) → s ≡ Safe → lt (span l) outer ≡ true → self_aligned s a l outer k ≡ align_in l outer (start_edge a.reversed)
 unfolding self_aligned
 safe_aligned s a l outer k e o = rw (e, o) refl
 
@@ -286,7 +284,7 @@ smaller_number x = go (is_nan x) refl
     go false e = rw zero_is_a_number (pick (before 0f x) e)
 
 -- where the limit opens to the right or not at all, it starts at the smaller of the block's start and 0
-limit_start : (a : OofAxis) (l : Line) → a.reversed ≡ false → (limit a l).start ≡ smaller l.start 0f
+limit_start : (a : OofAxis) (l : Line Float) → a.reversed ≡ false → (limit a l).start ≡ smaller l.start 0f
 unfolding limit
 limit_start a l r = go a.scrolls
   where
@@ -295,7 +293,7 @@ limit_start a l r = go a.scrolls
     go true = rw r refl
     go false = refl
 
-kept_after : (a : OofAxis) (l lim : Line) (outer : Float) (edge : AxisStaticEdge) → a.reversed ≡ false → is_nan lim.start ≡ false → le lim.start (kept_within lim a l outer edge) ≡ true
+kept_after : (a : OofAxis) (l lim : Line Float) (outer : Float) (edge : AxisStaticEdge) → a.reversed ≡ false → is_nan lim.start ≡ false → le lim.start (kept_within lim a l outer edge) ≡ true
 unfolding kept_within align_in
 kept_after a l lim outer edge r n = go (le outer (span lim))
   where
@@ -303,7 +301,7 @@ kept_after a l lim outer edge r n = go (le outer (span lim))
     go true = ((larger_bounds (smaller (align_in l outer edge) (lim.end ⊖ outer)) lim.start).1 n).1
     go false = rw r (le_self lim.start n)
 
-kept_in_reach : (a : OofAxis) (l : Line) (outer : Float) (edge : AxisStaticEdge) → a.reversed ≡ false → le (smaller l.start 0f) (kept_within (limit a l) a l outer edge) ≡ true
+kept_in_reach : (a : OofAxis) (l : Line Float) (outer : Float) (edge : AxisStaticEdge) → a.reversed ≡ false → le (smaller l.start 0f) (kept_within (limit a l) a l outer edge) ≡ true
 kept_in_reach a l outer edge r =
     subst (λ (x : Float). le x (kept_within (limit a l) a l outer edge) ≡ true) (limit_start a l r) (kept_after a l (limit a l) outer edge r (rw (limit_start a l r) (smaller_number l.start)))
 
@@ -315,7 +313,7 @@ not_normal align.Start n = refl
 not_normal align.Center n = refl
 not_normal align.End n = refl
 
-default_aligned : (s : AlignmentSafety) (a : OofAxis) (l : Line) (outer : Float) (k : AxisStaticEdge) → s ≡ Default → le outer (span l) ≡ false → is_normal a.alignment ≡ false → self_aligned s a l outer k ≡ kept_within (limit a l) a l outer k
+default_aligned : (s : AlignmentSafety) (a : OofAxis) (l : Line Float) (outer : Float) (k : AxisStaticEdge) → s ≡ Default → le outer (span l) ≡ false → is_normal a.alignment ≡ false → self_aligned s a l outer k ≡ kept_within (limit a l) a l outer k
 unfolding self_aligned
 default_aligned s a l outer k e o n = rw (e, o, n) refl
 
@@ -328,7 +326,7 @@ overflow_is_reachable a size o r =
 
 pub static_position : (a : OofAxis) (size : Float) → NoInset a
     → (placement a size).position ≡ static_aligned a.place.align.safety a (block a) (margin_box a size) ⊕ or_zero a.margin.start
-unfolding placement position position_in margins both_insets present
+unfolding placement position position_in margins both_insets
 static_position a size n = rw (n.start, n.end) refl
 
 static_told : (k : AxisStaticEdge) (a : OofAxis) (size : Float) → (placement a size).position ≡ align_in a.place.area (margin_box a size) k ⊕ or_zero a.margin.start → StaticAsTold k a size
@@ -337,7 +335,7 @@ static_told Start a size h = h
 static_told Center a size h = h
 static_told End a size h = h
 
-static_aligned_lem : (s : AlignmentSafety) (a : OofAxis) (l : Line) (outer : Float) → (s ≡ Safe → lt (span l) outer ≡ false) → static_aligned s a l outer ≡ align_in a.place.area outer a.place.align.keyword
+static_aligned_lem : (s : AlignmentSafety) (a : OofAxis) (l : Line Float) (outer : Float) → (s ≡ Safe → lt (span l) outer ≡ false) → static_aligned s a l outer ≡ align_in a.place.area outer a.place.align.keyword
 unfolding static_aligned
 static_aligned_lem Default a l outer h = refl
 static_aligned_lem Unsafe a l outer h = refl
@@ -347,7 +345,7 @@ pub static_edge_held : StaticEdgeHeld
 static_edge_held a size n h =
     static_told a.place.align.keyword a size (rw (static_position a size n, static_aligned_lem a.place.align.safety a (block a) (margin_box a size) h) refl)
 
-static_safe : (s : AlignmentSafety) (a : OofAxis) (l : Line) (outer : Float) → s ≡ Safe → lt (span l) outer ≡ true → static_aligned s a l outer ≡ align_in l outer (start_edge a.reversed)
+static_safe : (s : AlignmentSafety) (a : OofAxis) (l : Line Float) (outer : Float) → s ≡ Safe → lt (span l) outer ≡ true → static_aligned s a l outer ≡ align_in l outer (start_edge a.reversed)
 unfolding static_aligned
 static_safe s a l outer e o = rw (e, o) refl
 
@@ -356,14 +354,14 @@ static_safe_at_start a size n s o = at_start_lem a size (rw (static_position a s
 
 -- ---- the fallback edge
 
-same_inset_block : (s t : MaybeF32) (a : OofAxis) (e : AxisStaticEdge) → inset_block s t (with_fallback e a) ≡ inset_block s t a
+same_inset_block : (s t : Option Float) (a : OofAxis) (e : AxisStaticEdge) → inset_block s t (with_fallback e a) ≡ inset_block s t a
 unfolding inset_block
 same_inset_block (Some s) (Some t) a e = refl
 same_inset_block (Some s) None a e = refl
 same_inset_block None (Some t) a e = refl
 same_inset_block None None a e = refl
 
-same_weaker : (s t : MaybeF32) (a : OofAxis) (e : AxisStaticEdge) → start_is_weaker s t (with_fallback e a) ≡ start_is_weaker s t a
+same_weaker : (s t : Option Float) (a : OofAxis) (e : AxisStaticEdge) → start_is_weaker s t (with_fallback e a) ≡ start_is_weaker s t a
 unfolding start_is_weaker
 same_weaker (Some s) (Some t) a e = refl
 same_weaker (Some s) None a e = refl
@@ -374,7 +372,7 @@ same_block : (a : OofAxis) (e : AxisStaticEdge) → block (with_fallback e a) �
 unfolding block
 same_block a e = rw (same_weaker a.inset.start a.inset.end a e, same_inset_block a.inset.start a.inset.end a e) refl
 
-same_filled : (s t : MaybeF32) (free : Float) (a : OofAxis) (e : AxisStaticEdge) → filled_margins s t free (with_fallback e a) ≡ filled_margins s t free a
+same_filled : (s t : Option Float) (free : Float) (a : OofAxis) (e : AxisStaticEdge) → filled_margins s t free (with_fallback e a) ≡ filled_margins s t free a
 unfolding filled_margins halves
 same_filled (Some s) (Some t) free a e = refl
 same_filled (Some s) None free a e = refl
@@ -393,19 +391,19 @@ same_edge align.Start a e = refl
 same_edge align.Center a e = refl
 same_edge align.End a e = refl
 
-same_aligned : (s : AlignmentSafety) (a : OofAxis) (e : AxisStaticEdge) (l : Line) (outer : Float) (edge : AxisStaticEdge) → self_aligned s (with_fallback e a) l outer edge ≡ self_aligned s a l outer edge
+same_aligned : (s : AlignmentSafety) (a : OofAxis) (e : AxisStaticEdge) (l : Line Float) (outer : Float) (edge : AxisStaticEdge) → self_aligned s (with_fallback e a) l outer edge ≡ self_aligned s a l outer edge
 unfolding self_aligned kept_within limit
 same_aligned Default a e l outer edge = refl
 same_aligned Unsafe a e l outer edge = refl
 same_aligned Safe a e l outer edge = refl
 
-same_static : (s : AlignmentSafety) (a : OofAxis) (e : AxisStaticEdge) (l : Line) (outer : Float) → static_aligned s (with_fallback e a) l outer ≡ static_aligned s a l outer
+same_static : (s : AlignmentSafety) (a : OofAxis) (e : AxisStaticEdge) (l : Line Float) (outer : Float) → static_aligned s (with_fallback e a) l outer ≡ static_aligned s a l outer
 unfolding static_aligned
 same_static Default a e l outer = refl
 same_static Unsafe a e l outer = refl
 same_static Safe a e l outer = refl
 
-same_position_in : (s t : MaybeF32) (a : OofAxis) (e : AxisStaticEdge) (l : Line) (size : Float) (m : Line) → position_in s t (with_fallback e a) l size m ≡ position_in s t a l size m
+same_position_in : (s t : Option Float) (a : OofAxis) (e : AxisStaticEdge) (l : Line Float) (size : Float) (m : Line Float) → position_in s t (with_fallback e a) l size m ≡ position_in s t a l size m
 unfolding position_in
 same_position_in None None a e l size m = rw (same_static a.place.align.safety a e l (size ⊕ m.start ⊕ m.end)) refl
 same_position_in (Some s) None a e l size m = refl

@@ -3,14 +3,12 @@
 -- the inset-modified containing block. A bare `size` is a border box's, `outer` is CSS's outer size, that of a margin box. Edges are
 -- physical: Start is left or top, End is right or bottom. The containing block's own start and end go by its direction: `start_edge` and
 -- `end_edge` of tree/specs/Static.antt. Assumes nothing.
-use Rattle.std.specs.Prelude.{Bool, true, false, cond, ◌&&◌, ◌||◌, Float}
+use Rattle.std.specs.Prelude.{Bool, true, false, cond, ◌&&◌, ◌||◌, Float, None, Option, Some, is_some}
 use Rattle.std.specs.Float.{inf}
 use Rattle.std.specs.Float.Ieee.{lt, le}
 use Rattle.util.specs.Number.{◌⊕◌, ◌⊖◌, ◌⊗◌, ◌⊘◌, 0f, 2f}
 use Rattle.util.specs.Order.{larger, smaller, magnitude}
-use Rattle.util.specs.Maybe.{present, or_zero}
-use Rattle.util.specs.declared.math.MaybeF32.{MaybeF32}
-use Rattle.util.specs.declared.math.MaybeF32.TheVariants.{None, Some}
+use Rattle.util.specs.Maybe.{or_zero}
 use Rattle.geometry.specs.Geometry.{◌to◌, span}
 use Rattle.geometry.specs.declared.Line.{Line}
 use Rattle.style.specs.declared.alignment.AlignItemsKeyword.{AlignItemsKeyword}
@@ -44,7 +42,7 @@ from_resolved keyword.SelfEnd = align.End
 -- ---- edges
 
 -- where a margin box begins that is aligned to an edge of a line
-unfoldable pub align_in : Line → Float → AxisStaticEdge → Float
+unfoldable pub align_in : Line Float → Float → AxisStaticEdge → Float
 align_in l outer Start = l.start
 align_in l outer Center = (l.start ⊕ l.end ⊖ outer) ⊘ 2f
 align_in l outer End = l.end ⊖ outer
@@ -52,18 +50,18 @@ align_in l outer End = l.end ⊖ outer
 -- ---- the block: insets resolved (css-position-3 #resolving-insets)
 
 -- no insets, center: around the static center, up to the nearer edge of the area; at equal distance, from the start
-unfoldable pub centered_block : Float → Float → Line
+unfoldable pub centered_block : Float → Float → Line Float
 centered_block center areaSize =
     cond (le (magnitude center) (magnitude (areaSize ⊖ center))) (0f to 2f ⊗ center) (areaSize ⊖ 2f ⊗ (areaSize ⊖ center) to areaSize)
 
 -- no insets: from the static position's edge to the far edge of the area
-unfoldable pub static_block : AxisStaticEdge → Line → Float → Line
+unfoldable pub static_block : AxisStaticEdge → Line Float → Float → Line Float
 static_block Start static areaSize = static.start to areaSize
 static_block Center static areaSize = centered_block ((static.start ⊕ static.end) ⊘ 2f) areaSize
 static_block End static areaSize = 0f to static.end
 
 -- the block as the insets say; a lone auto inset is 0, two are resolved from the static position
-unfoldable pub inset_block : MaybeF32 → MaybeF32 → OofAxis → Line
+unfoldable pub inset_block : Option Float → Option Float → OofAxis → Line Float
 inset_block (Some start) (Some end) a = start to a.size ⊖ end
 inset_block (Some start) None a = start to a.size
 inset_block None (Some end) a = 0f to a.size ⊖ end
@@ -71,23 +69,23 @@ inset_block None None a = static_block a.place.align.keyword a.place.area a.size
 
 -- whether the start edge is the weaker one, which gives way where insets leave a negative size: the free side with one inset, else the end
 -- edge by direction
-unfoldable pub start_is_weaker : MaybeF32 → MaybeF32 → OofAxis → Bool
+unfoldable pub start_is_weaker : Option Float → Option Float → OofAxis → Bool
 start_is_weaker (Some start) (Some end) a = a.reversed
 start_is_weaker (Some start) None a = false
 start_is_weaker None (Some end) a = true
 start_is_weaker None None a = a.reversed
 
 -- an end below its start: the weaker edge moves to the other, so that the block's size is 0
-unfoldable pub repaired : Bool → Line → Line
+unfoldable pub repaired : Bool → Line Float → Line Float
 repaired startWeaker l = cond (lt l.end l.start) (cond startWeaker (l.end to l.end) (l.start to l.start)) l
 
-unfoldable pub block : OofAxis → Line
+unfoldable pub block : OofAxis → Line Float
 block a = repaired (start_is_weaker a.inset.start a.inset.end a) (inset_block a.inset.start a.inset.end a)
 
 -- ---- automatic sizes (css-position-3 #abspos-auto-size)
 
 unfoldable pub both_insets : OofAxis → Bool
-both_insets a = present a.inset.start && present a.inset.end
+both_insets a = is_some a.inset.start && is_some a.inset.end
 
 -- the stretch-fit size: the block less the margins that aren't auto, at least 0
 unfoldable pub stretch_fit : OofAxis → Float
@@ -112,18 +110,18 @@ is_stretch a = stretching a.alignment false
 -- ---- margins (css-position-3 #abspos-margins)
 
 -- both auto: halves of the free space; if it is negative in the inline axis, all of it goes to the end margin by direction
-unfoldable pub halves : Float → OofAxis → Line
+unfoldable pub halves : Float → OofAxis → Line Float
 halves free a = cond (lt free 0f && a.inline) (cond a.reversed (free to 0f) (0f to free)) (free ⊘ 2f to free ⊘ 2f)
 
 -- with both insets given, auto margins take up the free space
-unfoldable pub filled_margins : MaybeF32 → MaybeF32 → Float → OofAxis → Line
+unfoldable pub filled_margins : Option Float → Option Float → Float → OofAxis → Line Float
 filled_margins (Some start) (Some end) free a = start to end
 filled_margins (Some start) None free a = start to free ⊖ start
 filled_margins None (Some end) free a = free ⊖ end to end
 filled_margins None None free a = halves free a
 
 -- with an auto inset, auto margins are 0
-unfoldable pub margins : OofAxis → Float → Line
+unfoldable pub margins : OofAxis → Float → Line Float
 margins a size =
     cond (both_insets a) (filled_margins a.margin.start a.margin.end (span (block a) ⊖ size) a)
     (or_zero a.margin.start to or_zero a.margin.end)
@@ -147,44 +145,44 @@ align_edge align.End a = end_edge a.reversed
 
 -- the overflow limit rectangle: the bounds of block and area; where the container scrolls in this axis, without an end (which is to
 -- the left in a right-to-left axis)
-unfoldable pub limit : OofAxis → Line → Line
+unfoldable pub limit : OofAxis → Line Float → Line Float
 limit a l =
     let start = smaller l.start 0f in
     let end = larger l.end a.size in
     cond a.scrolls (cond a.reversed (inf true to end) (start to inf false)) (start to end)
 
 -- as aligned in the block, but moved so far that it stays within the limit; what doesn't fit the limit stands at the limit's start
-unfoldable pub kept_within : Line → OofAxis → Line → Float → AxisStaticEdge → Float
+unfoldable pub kept_within : Line Float → OofAxis → Line Float → Float → AxisStaticEdge → Float
 kept_within lim a l outer edge =
     cond (le outer (span lim)) (larger (smaller (align_in l outer edge) (lim.end ⊖ outer)) lim.start) (align_in lim outer (start_edge a.reversed))
 
 -- both insets: the margin box (of size `outer`) aligned in the block `l`. Unsafe: as told. Safe: at the start where it overflows. By
 -- default as told where it fits or the alignment is normal, else kept within the limit.
-unfoldable pub self_aligned : AlignmentSafety → OofAxis → Line → Float → AxisStaticEdge → Float
+unfoldable pub self_aligned : AlignmentSafety → OofAxis → Line Float → Float → AxisStaticEdge → Float
 self_aligned Unsafe a l outer edge = align_in l outer edge
 self_aligned Safe a l outer edge = align_in l outer (cond (lt (span l) outer) (start_edge a.reversed) edge)
 self_aligned Default a l outer edge =
     cond (le outer (span l) || is_normal a.alignment) (align_in l outer edge) (kept_within (limit a l) a l outer edge)
 
 -- no insets: the margin box aligned in the static area; a safe one that overflows the block stands at the block's start
-unfoldable pub static_aligned : AlignmentSafety → OofAxis → Line → Float → Float
+unfoldable pub static_aligned : AlignmentSafety → OofAxis → Line Float → Float → Float
 static_aligned Default a l outer = align_in a.place.area outer a.place.align.keyword
 static_aligned Unsafe a l outer = align_in a.place.area outer a.place.align.keyword
 static_aligned Safe a l outer =
     cond (lt (span l) outer) (align_in l outer (start_edge a.reversed)) (align_in a.place.area outer a.place.align.keyword)
 
 -- one inset: at that inset's edge. Both insets and an auto margin: at the block's start, since margins fill the block
-unfoldable pub position_in : MaybeF32 → MaybeF32 → OofAxis → Line → Float → Line → Float
+unfoldable pub position_in : Option Float → Option Float → OofAxis → Line Float → Float → Line Float → Float
 position_in None None a l size m = static_aligned a.place.align.safety a l (size ⊕ m.start ⊕ m.end) ⊕ m.start
 position_in (Some start) None a l size m = l.start ⊕ m.start
 position_in None (Some end) a l size m = l.end ⊖ size ⊖ m.end
 position_in (Some start) (Some end) a l size m =
-    cond (present a.margin.start && present a.margin.end)
+    cond (is_some a.margin.start && is_some a.margin.end)
     (self_aligned a.safety a l (size ⊕ m.start ⊕ m.end) (align_edge a.alignment a) ⊕ m.start)
     (l.start ⊕ m.start)
 
 -- where the border box of a size begins, its margins being `m`
-unfoldable pub position : OofAxis → Float → Line → Float
+unfoldable pub position : OofAxis → Float → Line Float → Float
 position a size m = position_in a.inset.start a.inset.end a (block a) size m
 
 -- what a final size leads to: margins first, then the position by them

@@ -4,12 +4,11 @@
 -- What needs exact sums is stated on whole quarter pixels: oof_axis_laws/specs/Laws.antt. `proofs/Laws.antt` proves each, under its name in
 -- small letters. `block` is the inset-modified containing block, the area the containing block. Laws that are document 01's and the Rust's,
 -- where CSS says otherwise, say so. Assumes nothing.
-use Rattle.std.specs.Prelude.{◌≡◌, Bool, true, false, ◌&&◌, Float}
+use Rattle.std.specs.Prelude.{◌≡◌, Bool, true, false, ◌&&◌, Float, None, Some, is_some}
 use Rattle.std.specs.Float.Ieee.{lt, le, is_nan}
 use Rattle.util.specs.Number.{◌⊕◌, ◌⊖◌, ◌⊘◌, 0f, 2f}
 use Rattle.util.specs.Order.{smaller}
-use Rattle.util.specs.Maybe.{present, or_zero}
-use Rattle.util.specs.declared.math.MaybeF32.TheVariants.{None, Some}
+use Rattle.util.specs.Maybe.{or_zero}
 use Rattle.geometry.specs.Geometry.{◌to◌, span}
 use Rattle.style.specs.declared.alignment.AlignmentSafety.TheVariants.{Default, Unsafe, Safe}
 use Rattle.tree.specs.declared.layout.AxisStaticEdge.{AxisStaticEdge}
@@ -28,14 +27,14 @@ pub record NoInset (a : OofAxis) : Type 0 where
 
 -- both are given
 pub record TwoInsets (a : OofAxis) : Type 0 where
-  pub start : present a.inset.start ≡ true
-  pub end : present a.inset.end ≡ true
+  pub start : is_some a.inset.start ≡ true
+  pub end : is_some a.inset.end ≡ true
 
 -- both insets and both margins are given: the box is aligned in the block
 pub record Aligned (a : OofAxis) : Type 0 where
   pub insets : TwoInsets a
-  pub margin_start : present a.margin.start ≡ true
-  pub margin_end : present a.margin.end ≡ true
+  pub margin_start : is_some a.margin.start ≡ true
+  pub margin_end : is_some a.margin.end ≡ true
 
 -- the size of the margin box, auto margins being 0
 abbrev pub margin_box : OofAxis → Float → Float
@@ -97,7 +96,7 @@ GivenMarginStays =
 -- where an inset is auto, auto margins are 0
 abbrev pub AutoMarginsAreZero : Type 0
 AutoMarginsAreZero =
-    (a : OofAxis) (size : Float) → present a.inset.start && present a.inset.end ≡ false
+    (a : OofAxis) (size : Float) → is_some a.inset.start && is_some a.inset.end ≡ false
     → (placement a size).margin ≡ (or_zero a.margin.start to or_zero a.margin.end)
 
 -- two auto margins are equal where the free space isn't negative and, in the block axis, always
@@ -122,7 +121,7 @@ LoneAutoMarginTakesTheRest =
 -- between two insets, a box with an auto margin begins where the block does (that it ends there too: oof_axis_laws)
 abbrev pub AutoMarginBeginsWithBlock : Type 0
 AutoMarginBeginsWithBlock =
-    (a : OofAxis) (size : Float) → TwoInsets a → present a.margin.start && present a.margin.end ≡ false
+    (a : OofAxis) (size : Float) → TwoInsets a → is_some a.margin.start && is_some a.margin.end ≡ false
     → (placement a size).position ≡ (block a).start ⊕ (placement a size).margin.start
 
 -- ---- alignment
@@ -233,7 +232,7 @@ stretches_as align.End plain = false
 abbrev pub StretchesBetweenInsets : Type 0
 StretchesBetweenInsets =
     (a : OofAxis) (plain : Bool)
-    → (present a.inset.start && present a.inset.end ≡ false → stretches a plain ≡ false)
+    → (is_some a.inset.start && is_some a.inset.end ≡ false → stretches a plain ≡ false)
     × (TwoInsets a → stretches a plain ≡ stretches_as a.alignment plain)
 
 -- the stretch-fit size is a number, and at least 0, whatever the axis holds (that it fills the block: oof_axis_laws)

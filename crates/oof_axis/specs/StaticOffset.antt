@@ -13,7 +13,6 @@ use Rattle.style.specs.declared.alignment.AlignmentSafety.{AlignmentSafety}
 use Rattle.style.specs.declared.alignment.AlignmentSafety.TheVariants.{Default, Unsafe, Safe}
 use Rattle.tree.specs.declared.layout.AxisStaticEdge.{AxisStaticEdge}
 use Rattle.tree.specs.declared.layout.AxisStaticPosition.{AxisStaticPosition}
-use Rattle.tree.specs.declared.layout.StaticPosition.{StaticPosition}
 use Rattle.oof_axis.specs.Axis.{align_in}
 
 -- the edge that a margin box (of size `outer`) is aligned to: the fallback where the alignment is safe and the box overflows the area
@@ -23,11 +22,11 @@ offset_edge Unsafe p outer = p.align.keyword
 offset_edge Safe p outer = cond (lt (span p.area) outer) p.align.fallback p.align.keyword
 
 -- one axis: where the border box of a size begins, its margins being `m`
-unfoldable pub axis_offset : AxisStaticPosition → Float → Line → Float
+unfoldable pub axis_offset : AxisStaticPosition → Float → Line Float → Float
 axis_offset p size m =
     let outer = size ⊕ m.start ⊕ m.end in
     align_in p.area outer (offset_edge p.align.safety p outer) ⊕ m.start
 
-unfoldable pub static_offset : StaticPosition → Size → Rect → Point
+unfoldable pub static_offset : Point AxisStaticPosition → Size Float → Rect Float → Point Float
 static_offset p size m =
     record { x = axis_offset p.x size.width (m.left to m.right); y = axis_offset p.y size.height (m.top to m.bottom) }

@@ -1,4 +1,5 @@
 -- The laws of `specs/Laws.antt`, by the integers of an axis. Assumes nothing.
+use Rattle.std.specs.Prelude.{Float, None, Option, Some, is_some}
 use mathlib.Core.Path.{◌≡◌, refl, sym, ap, subst, ◌∙◌}
 use mathlib.Core.List.{List, [], ◌∷◌}
 use mathlib.Core.Bool.{Bool, true, false, cond, not, ◌&&◌}
@@ -7,9 +8,7 @@ use native.Mathlib.Omega.{arith}
 use lib.Dec.{ltb→lt}
 use lib.Ieee.{Float, lt, le}
 use Rattle.util.specs.Number.{0f}
-use Rattle.util.specs.Maybe.{present, or_zero}
-use Rattle.util.specs.declared.math.MaybeF32.{MaybeF32}
-use Rattle.util.specs.declared.math.MaybeF32.TheVariants.{None, Some}
+use Rattle.util.specs.Maybe.{or_zero}
 use Rattle.geometry.specs.Geometry.{◌to◌, span}
 use Rattle.style.specs.declared.alignment.AlignmentSafety.{AlignmentSafety}
 use Rattle.style.specs.declared.alignment.AlignmentSafety.TheVariants.{Unsafe, Safe}
@@ -83,16 +82,14 @@ ends_by s h e = at_most_sums (s.position and s.border and s.margin_end and nil) 
 ends_from : {a : OofAxis} {size x : Float} {g b : ℕ} {ξ : N} (s : Stands a size) → Exact g b x ξ → LeN ξ (add_n s.at (box_of s)) → EndsFrom a size x
 ends_from s h e = at_most_sums (h and nil) (s.position and s.border and s.margin_end and nil) (omega arith)
 
-is_absent : (m : MaybeF32) → m ≡ None → present m ≡ false
-unfolding present
+is_absent : (m : Option Float) → m ≡ None → is_some m ≡ false
 is_absent m e = rw e refl
 
-is_given : (m : MaybeF32) (x : Float) → m ≡ Some x → present m ≡ true
-unfolding present
+is_given : (m : Option Float) (x : Float) → m ≡ Some x → is_some m ≡ true
 is_given m x e = rw e refl
 
-inset : {g b : ℕ} {c : N} (m : MaybeF32) (x : Float) → m ≡ Some x → MaybeExact g b m c → Exact g b x c
-inset {g} {b} {c} m x e h = subst (λ (m : MaybeF32). MaybeExact g b m c) e h
+inset : {g b : ℕ} {c : N} (m : Option Float) (x : Float) → m ≡ Some x → MaybeExact g b m c → Exact g b x c
+inset {g} {b} {c} m x e h = subst (λ (m : Option Float). MaybeExact g b m c) e h
 
 -- ---- an axis and its integers
 
@@ -101,7 +98,7 @@ module _ (L A S : ℕ) (room : 10 * L + 6 * A + S < 16777216) (a : OofAxis) (α 
   ℓ = block_n (shape a) α
 
   abbrev μ : LineN
-  μ = or_zero_n (present a.margin.start) α.margin.start toN or_zero_n (present a.margin.end) α.margin.end
+  μ = or_zero_n (is_some a.margin.start) α.margin.start toN or_zero_n (is_some a.margin.end) α.margin.end
 
   abbrev told : AxisStaticEdge
   told = align_of a.alignment a.reversed
@@ -125,7 +122,7 @@ module _ (L A S : ℕ) (room : 10 * L + 6 * A + S < 16777216) (a : OofAxis) (α 
 
   any_margins : LineExact 2 bound (placement a size).margin (margins_n (shape a) α u)
   unfolding placement
-  any_margins = margins_eighths L A S (fills (present a.inset.start) (present a.inset.end) (present a.margin.start) (present a.margin.end)) (margins_exact L A S room a α h hu)
+  any_margins = margins_eighths L A S (fills (is_some a.inset.start) (is_some a.inset.end) (is_some a.margin.start) (is_some a.margin.end)) (margins_exact L A S room a α h hu)
 
   abbrev stands : (m : LineN) (at : N) → margins_n (shape a) α u ≡ m → place_n (shape a) α u ≡ add_n at m.start → Stands a size
   stands m at e f =
@@ -262,10 +259,10 @@ module _ (L A S : ℕ) (room : 10 * L + 6 * A + S < 16777216) (a : OofAxis) (α 
   -- ---- margins and insets
 
   -- with an auto margin the margin box begins where the block does
-  place_from_start : TwoInsets a → present a.margin.start && present a.margin.end ≡ false → place_n (shape a) α u ≡ add_n ℓ.start (margins_n (shape a) α u).start
+  place_from_start : TwoInsets a → is_some a.margin.start && is_some a.margin.end ≡ false → place_n (shape a) α u ≡ add_n ℓ.start (margins_n (shape a) α u).start
   place_from_start i n = rw (i.start, i.end, n) refl
 
-  auto_at : TwoInsets a → present a.margin.start && present a.margin.end ≡ false → BeginsAt a size (block a).start × EndsAt a size (block a).end
+  auto_at : TwoInsets a → is_some a.margin.start && is_some a.margin.end ≡ false → BeginsAt a size (block a).start × EndsAt a size (block a).end
   auto_at i n =
       let s = stands (margins_n (shape a) α u) ℓ.start refl (place_from_start i n) in
       let even = even_of 2 (sub_n (span_n ℓ) u) (sub_exact (span_exact L A (omega arith) a α h) hu (omega arith)).mult in
@@ -273,7 +270,7 @@ module _ (L A S : ℕ) (room : 10 * L + 6 * A + S < 16777216) (a : OofAxis) (α 
       (begins_at s line.start (omega arith), ends_at s line.end (omega (arith, t)))
 
   -- one inset, at the end: the block ends there
-  far_end : present a.inset.start ≡ false → present a.inset.end ≡ true → ℓ.end ≡ sub_n α.size α.inset.end
+  far_end : is_some a.inset.start ≡ false → is_some a.inset.end ≡ true → ℓ.end ≡ sub_n α.size α.inset.end
   far_end p q = rw (p, q) (go (lt_n (sub_n α.size α.inset.end) zero_n))
     where
       go : (t : Bool) → (cond t (sub_n α.size α.inset.end toN sub_n α.size α.inset.end) (zero_n toN sub_n α.size α.inset.end)).end ≡ sub_n α.size α.inset.end
@@ -287,10 +284,10 @@ module _ (L A S : ℕ) (room : 10 * L + 6 * A + S < 16777216) (a : OofAxis) (α 
       equal_sums (place_exact L A S room a α h hu and hu and margin_end_lem absent and inset a.inset.end y q h.inset_end and nil) (h.size and nil)
       (rw (place absent given, far_end absent given) (omega arith))
     where
-      place : present a.inset.start ≡ false → present a.inset.end ≡ true → place_n (shape a) α u ≡ sub_n (sub_n ℓ.end u) μ.end
+      place : is_some a.inset.start ≡ false → is_some a.inset.end ≡ true → place_n (shape a) α u ≡ sub_n (sub_n ℓ.end u) μ.end
       place p q = rw (p, q) refl
 
-      margin_end_lem : present a.inset.start ≡ false → Exact 2 bound (placement a size).margin.end μ.end
+      margin_end_lem : is_some a.inset.start ≡ false → Exact 2 bound (placement a size).margin.end μ.end
       margin_end_lem p =
           let e : margins_n (shape a) α u ≡ μ = rw p refl in
           subst (λ (m : LineN). Exact 2 bound (placement a size).margin.end m.end) e any_margins.end

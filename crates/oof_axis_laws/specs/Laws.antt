@@ -2,12 +2,11 @@
 -- its sixteenths (mirror_axis/specs/Law.antt: `Bounded`, `Room`), so that nothing is rounded. On other floats each holds up to rounding.
 -- The laws that hold of all floats stand in oof_axis/specs/Laws.antt. As there, each speaks of what comes out and of no step.
 -- `proofs/Laws.antt` proves each, under its name in small letters. Assumes nothing.
-use Rattle.std.specs.Prelude.{◌≡◌, ◌⊎◌, List, [], ◌∷◌, true, false, not, ◌&&◌, ℕ, ◌+◌, ◌≤◌, Float}
+use Rattle.std.specs.Prelude.{◌≡◌, ◌⊎◌, List, [], ◌∷◌, true, false, not, ◌&&◌, ℕ, ◌+◌, ◌≤◌, Float, None, Some, is_some}
 use Rattle.std.specs.Float.Ieee.{lt, le}
 use Rattle.util.specs.Number.{0f}
 use Rattle.util.specs.Order.{larger, smaller}
-use Rattle.util.specs.Maybe.{present, or_zero}
-use Rattle.util.specs.declared.math.MaybeF32.TheVariants.{None, Some}
+use Rattle.util.specs.Maybe.{or_zero}
 use Rattle.geometry.specs.Geometry.{◌to◌, span}
 use Rattle.geometry.specs.declared.Line.{Line}
 use Rattle.style.specs.declared.alignment.AlignmentSafety.{AlignmentSafety}
@@ -74,7 +73,7 @@ EndInsetExact =
 -- between two insets, auto margins fill the block: the margin box is the block
 abbrev pub AutoMarginsFill : Type 0
 AutoMarginsFill =
-    (a : OofAxis) (size : Float) → Whole a size → TwoInsets a → present a.margin.start && present a.margin.end ≡ false
+    (a : OofAxis) (size : Float) → Whole a size → TwoInsets a → is_some a.margin.start && is_some a.margin.end ≡ false
     → BeginsAt a size (block a).start × EndsAt a size (block a).end
 
 -- ---- alignment between two insets
@@ -125,7 +124,7 @@ abbrev pub OverflowCovers : Type 0
 OverflowCovers = (a : OofAxis) (size : Float) → Whole a size → Overflows a size → BeginsBy a size (block a).start × EndsFrom a size (block a).end
 
 -- the bounds of block and area
-abbrev pub bounds : OofAxis → Line
+abbrev pub bounds : OofAxis → Line Float
 bounds a = smaller (block a).start 0f to larger (block a).end a.size
 
 -- it stays within them where it fits them and the axis doesn't scroll

@@ -1,14 +1,14 @@
 -- The law of the final size: never below padding plus border, where that is a number. Assumes nothing.
+use Rattle.std.specs.Prelude.{Float, None, Option, Some, option_map, unwrap_or}
+use Rattle.std.specs.Option.{option_or}
 use mathlib.Core.Bool.{Bool, true, false, cond}
 use lib.Ieee.{Float}
 use Rattle.util.specs.Laws.{AtOrAbove}
 use Rattle.util.specs.Order.{larger}
-use Rattle.util.specs.Maybe.{or_else, unwrap_or, map, map_larger, clamped}
-use Rattle.util.specs.declared.math.MaybeF32.{MaybeF32}
-use Rattle.util.specs.declared.math.MaybeF32.TheVariants.{None, Some}
+use Rattle.util.specs.Maybe.{map_larger, clamped}
 use Rattle.util.proofs.Laws.{at_most_is_transitive, larger_bounds, min_wins}
 use Rattle.geometry.specs.Geometry.{sums, rect_sum, definite, first_size, raised_size, clamped_floats}
-use Rattle.geometry.specs.declared.MaybeSize.{MaybeSize}
+use Rattle.geometry.specs.declared.Size.{Size}
 use Rattle.style.specs.declared.Style.{Style}
 use Rattle.oof_place.specs.Placing.{layout_of, box_layout}
 use Rattle.oof_resolve.specs.Resolved.{min_size, resolved_box}
@@ -19,38 +19,38 @@ use Rattle.oof_box.specs.Theorems.{SizeLaw}
 use Rattle.oof_box.specs.declared.sizing.Stretched.{Stretched}
 
 -- what is at least a number that is at least e, is at least e
-onwards : (e low x : Float) → AtOrAbove e low → AtOrAbove low x → AtOrAbove e x
+pub onwards : (e low x : Float) → AtOrAbove e low → AtOrAbove low x → AtOrAbove e x
 onwards e low x h k p = let a = h p in let b = k a.0 in (b.0, at_most_is_transitive e low x a.1 b.1)
 
 -- a bound that is present and at least e
-data Floor (e : Float) : MaybeF32 → Type 0 where
+data Floor (e : Float) : Option Float → Type 0 where
   floor : (low : Float) → AtOrAbove e low → Floor e (Some low)
 
 -- step 2: min is raised to padding plus border, or is that sum
-raised : (e : Float) (min : MaybeF32) → Floor e (map_larger (or_else min (Some e)) e)
-unfolding map_larger map or_else
+raised : (e : Float) (min : Option Float) → Floor e (map_larger (option_or min (Some e)) e)
+unfolding map_larger
 raised e None = floor (larger e e) (larger_bounds e e).1
 raised e (Some x) = floor (larger x e) (larger_bounds x e).1
 
 -- step 5: a table's min is only raised
-raised_more : (e : Float) (b : Bool) (min : MaybeF32) (fit : Float) → Floor e min → Floor e (raised_min b min fit)
-unfolding raised_min unwrap_or
+raised_more : (e : Float) (b : Bool) (min : Option Float) (fit : Float) → Floor e min → Floor e (raised_min b min fit)
+unfolding raised_min
 raised_more e true _ fit (floor low h) = floor (larger low fit) (onwards e low (larger low fit) h (larger_bounds low fit).0)
 raised_more e false _ fit (floor low h) = floor low h
 
 -- step 6: min wins the clamp
-clamped_above : (e x : Float) (min max : MaybeF32) → Floor e min → AtOrAbove e (clamped x min max)
+clamped_above : (e x : Float) (min max : Option Float) → Floor e min → AtOrAbove e (clamped x min max)
 clamped_above e x _ max (floor low h) = onwards e low (clamped x (Some low) max) h (min_wins x low max)
 
-chosen : (e : Float) (side : Stretched → MaybeF32) (t : Bool) (a b : Stretched) → Floor e (side a) → Floor e (side b) → Floor e (side (cond t a b))
+chosen : (e : Float) (side : Stretched → Option Float) (t : Bool) (a b : Stretched) → Floor e (side a) → Floor e (side b) → Floor e (side (cond t a b))
 chosen e side true a b h k = h
 chosen e side false a b h k = k
 
-min_across : (style : Style) (box : ResolvedBox) (known : MaybeSize) (e : Float) → Floor e box.min.width → Floor e (stretched style box known).min.width
+min_across : (style : Style) (box : ResolvedBox) (known : Size (Option Float)) (e : Float) → Floor e box.min.width → Floor e (stretched style box known).min.width
 unfolding stretched
 min_across style box known e h = chosen e (λ s. s.min.width) style.table _ _ (raised_more e _ box.min.width box.fit.width h) h
 
-min_down : (style : Style) (box : ResolvedBox) (known : MaybeSize) (e : Float) → Floor e box.min.height → Floor e (stretched style box known).min.height
+min_down : (style : Style) (box : ResolvedBox) (known : Size (Option Float)) (e : Float) → Floor e box.min.height → Floor e (stretched style box known).min.height
 unfolding stretched
 min_down style box known e h = chosen e (λ s. s.min.height) style.table _ _ (raised_more e _ box.min.height box.fit.height h) h
 

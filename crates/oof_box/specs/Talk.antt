@@ -11,12 +11,12 @@ use Rattle.oof_box.specs.declared.question.Question.TheVariants.{MeasureBoth, Me
 infixl 10 ◌>>=◌
 -- the reply to lay out: the box's scrollable overflow, and the candidates that it surfaces
 pub record Laid : Type 0 where
-  pub overflow : Rect
+  pub overflow : Rect Float
   pub surfaced : List OofCandidate
 
 -- what a question is answered by
 abbrev pub ReplyTo : Question → Type 0
-ReplyTo (MeasureBoth m) = Size
+ReplyTo (MeasureBoth m) = Size Float
 ReplyTo (MeasureWidth m) = Float
 ReplyTo (MeasureHeight m) = Float
 ReplyTo (LayOut l) = Laid
@@ -30,7 +30,7 @@ unfoldable pub ◌>>=◌ : {A B : Type 0} → Talk A → (A → Talk B) → Talk
 done a >>= next = next a
 ask q reply >>= next = ask q (λ r. reply r >>= next)
 
-abbrev pub measure_both : MeasureInput → Talk Size
+abbrev pub measure_both : MeasureInput → Talk (Size Float)
 measure_both m = ask (MeasureBoth m) done
 
 abbrev pub measure_width : MeasureInput → Talk Float

@@ -1,9 +1,8 @@
 -- What is proved of one box beside the contracts, as statements. proofs/Talks.antt and proofs/Floor.antt prove each, under its name in
 -- small letters.
 -- Assumes nothing.
-use Rattle.std.specs.Prelude.{ℕ, suc, ◌≡◌, Bool, true, false, Float}
+use Rattle.std.specs.Prelude.{ℕ, suc, ◌≡◌, Bool, true, false, Float, Option, None, Some, is_some}
 use mathlib.Core.List.{List, foldl}
-use Rattle.std.proofs.Math.Option.{Option, none, some}
 use Rattle.util.specs.Laws.{AtOrAbove}
 use Rattle.geometry.specs.Geometry.{sums, rect_sum}
 use Rattle.geometry.specs.declared.Rect.{Rect}
@@ -13,7 +12,7 @@ use Rattle.tree.specs.declared.layout.OofCandidate.{OofCandidate}
 use Rattle.oof_resolve.specs.declared.ContainingBlock.{ContainingBlock}
 use Rattle.oof_box.specs.Talk.{Talk, done, ask, ReplyTo, Laid}
 use Rattle.oof_box.specs.Box.{placed, Placed}
-use Rattle.oof_box.specs.Cut.{no_replies, taken, fill_given, asked_after, layout_after}
+use Rattle.oof_box.specs.Cut.{no_replies, taken, asked_after, layout_after}
 use Rattle.oof_box.specs.declared.question.LayoutInput.{LayoutInput}
 use Rattle.oof_box.specs.declared.question.Question.{Question}
 use Rattle.oof_box.specs.declared.question.Question.TheVariants.{MeasureBoth, MeasureWidth, MeasureHeight, LayOut}
@@ -22,8 +21,6 @@ use Rattle.oof_box.specs.declared.question.Reply.TheVariants as reply
 use Rattle.oof_box.specs.declared.question.Stage.{Stage}
 use Rattle.oof_box.specs.declared.question.Stage.TheVariants as stage
 use Rattle.oof_box.specs.declared.question.Replies.{Replies}
-use Rattle.oof_box.specs.declared.question.KeywordReply.{KeywordReply}
-use Rattle.oof_box.specs.declared.question.KeywordReply.TheVariants as keyword
 use Rattle.oof_box.specs.declared.question.Taken.{Taken}
 use Rattle.oof_box.specs.declared.question.Taken.TheVariants as taking
 
@@ -37,29 +34,21 @@ pub record Heard : Type 0 where
 
 -- The definition, fed replies: one that is of its question's kind leads on, any other changes nothing.
 
-abbrev pub both_in : Reply → Option Size
-both_in (reply.Both s) = some s
-both_in (reply.Width w) = none
-both_in (reply.Height h) = none
-both_in (reply.LaidOut overflow) = none
+abbrev pub both_in : Reply → Option (Size Float)
+both_in (reply.Both s) = Some s
+both_in _ = None
 
 abbrev pub width_in : Reply → Option Float
-width_in (reply.Both s) = none
-width_in (reply.Width w) = some w
-width_in (reply.Height h) = none
-width_in (reply.LaidOut overflow) = none
+width_in (reply.Width w) = Some w
+width_in _ = None
 
 abbrev pub height_in : Reply → Option Float
-height_in (reply.Both s) = none
-height_in (reply.Width w) = none
-height_in (reply.Height h) = some h
-height_in (reply.LaidOut overflow) = none
+height_in (reply.Height h) = Some h
+height_in _ = None
 
 abbrev pub laid_in : Reply → List OofCandidate → Option Laid
-laid_in (reply.Both s) surfaced = none
-laid_in (reply.Width w) surfaced = none
-laid_in (reply.Height h) surfaced = none
-laid_in (reply.LaidOut overflow) surfaced = some (record { overflow = overflow; surfaced = surfaced })
+laid_in (reply.LaidOut overflow) surfaced = Some (record { overflow = overflow; surfaced = surfaced })
+laid_in _ surfaced = None
 
 abbrev pub reply_to : (q : Question) → Heard → Option (ReplyTo q)
 reply_to (MeasureBoth m) h = both_in h.reply
@@ -68,8 +57,8 @@ reply_to (MeasureHeight m) h = height_in h.reply
 reply_to (LayOut l) h = laid_in h.reply h.surfaced
 
 abbrev pub or_stay : {A R : Type 0} → Option R → (R → Talk A) → Talk A → Talk A
-or_stay none next stay = stay
-or_stay (some r) next stay = next r
+or_stay None next stay = stay
+or_stay (Some r) next stay = next r
 
 abbrev pub after : {A : Type 0} → Talk A → Heard → Talk A
 after (done p) h = done p
@@ -81,10 +70,10 @@ pub data Standing : Type 0 where
   waiting : Stage → Replies → Standing
   finished : Placed → Standing
 
-abbrev pub on_taken : ContainingBlock → Style → OofCandidate → Stage → Replies → List OofCandidate → Taken → Standing
-on_taken container style candidate at replies surfaced taking.Wrong = waiting at replies
-on_taken container style candidate at replies surfaced (taking.Kept r) = waiting (asked_after container style candidate r).stage r
-on_taken container style candidate at replies surfaced (taking.Laid overflow) =
+abbrev pub on_taken : ContainingBlock → Style → OofCandidate → Stage → Replies → List OofCandidate → Option Taken → Standing
+on_taken container style candidate at replies surfaced None = waiting at replies
+on_taken container style candidate at replies surfaced (Some (taking.Kept r)) = waiting (asked_after container style candidate r).stage r
+on_taken container style candidate at replies surfaced (Some (taking.Laid overflow)) =
     finished (record { outcome = layout_after container style candidate replies overflow; surfaced = surfaced })
 
 abbrev pub step : ContainingBlock → Style → OofCandidate → Standing → Heard → Standing
@@ -120,7 +109,7 @@ CutIsDefinition =
 
 abbrev pub SizeLaw : Type 0
 SizeLaw =
-    (container : ContainingBlock) (style : Style) (candidate : OofCandidate) (replies : Replies) (overflow : Rect)
+    (container : ContainingBlock) (style : Style) (candidate : OofCandidate) (replies : Replies) (overflow : Rect Float)
     → let l = (layout_after container style candidate replies overflow).layout in
     let paddingBorder = sums (rect_sum l.padding l.border) in
     AtOrAbove paddingBorder.width l.size.width × AtOrAbove paddingBorder.height l.size.height
@@ -155,14 +144,8 @@ is_keyword_stage stage.KeywordHeight = true
 is_keyword_stage stage.Fill = false
 is_keyword_stage stage.LayOut = false
 
-abbrev pub keyword_given : KeywordReply → Bool
-keyword_given keyword.None = false
-keyword_given (keyword.Both s) = true
-keyword_given (keyword.Width w) = true
-keyword_given (keyword.Height h) = true
-
 abbrev pub StagesMoveForward : Type 0
 StagesMoveForward =
     (container : ContainingBlock) (style : Style) (candidate : OofCandidate) (replies : Replies)
-    → (keyword_given replies.keyword ≡ true → is_keyword_stage (asked_after container style candidate replies).stage ≡ false)
-    × (fill_given replies.fill ≡ true → (asked_after container style candidate replies).stage ≡ stage.LayOut)
+    → (is_some replies.keyword ≡ true → is_keyword_stage (asked_after container style candidate replies).stage ≡ false)
+    × (is_some replies.fill ≡ true → (asked_after container style candidate replies).stage ≡ stage.LayOut)

@@ -1,245 +1,165 @@
 // What a box asks next, and its layout at the end: both from the words and from the replies kept.
-ghost use Rattle.std.specs.Prelude.{◌≡◌, ◌||◌};
-ghost use Rattle.geometry.specs.Geometry.{both_present};
-ghost use Rattle.oof_box.specs.Cut.{both_asked, width_asked, height_asked, keyword_asked, fill_asked, lay_out_asked, fill_given, is_first, size_asked, asked_of, asked_after, layout_after};
+#![tactic(auto, unfolding(crate::specs::Cut::size_by, crate::specs::Cut::keyword_asked, crate::specs::Cut::size_asked, crate::specs::Cut::asked_of, crate::specs::Cut::asked_after, crate::specs::Cut::layout_after))]
 
-use crate::question::{
-    Asked, FillReply, KeywordReply, LayoutInput, MeasureInput, Question, Replies, Stage,
-};
+ghost use Rattle.std.specs.Prelude.{◌≡◌};
+ghost use Rattle.oof_box.specs.Cut.{both_asked, width_asked, height_asked, keyword_asked, fill_asked, lay_out_asked, is_first, size_asked, asked_of, asked_after, layout_after};
+
+use crate::question::{Asked, LayoutInput, MeasureInput, Question, Replies, Stage};
 use crate::sizing;
-use geometry::{MaybeSize, Rect, Size};
-use oof_common::sizing_keyword::{SizingKeywordResolution, SizingKeywords};
+use crate::sizing::Sizing;
+use geometry::{Rect, Size};
+use oof_common::sizing_keyword::SizingKeywordResolution;
+use oof_common::sizing_keyword::SizingKeywordResolution::{Exact, Measure};
 use oof_place;
 use oof_place::OofBoxLayout;
 use oof_resolve;
 use oof_resolve::{ContainingBlock, ResolvedBox};
 use style::Style;
-use style::available_space::{AvailableSize, AvailableSpace};
+use style::available_space::AvailableSpace;
 use tree::layout::OofCandidate;
-use util::math::MaybeF32;
-
-// The question for size keywords, if there is one.
-#[derive(Clone, Copy)]
-pub enum KeywordQuestion {
-    None,
-    Ask(Asked),
-}
 
 // ---- step 4
 
-fn both_asked(node: u32, spacex: AvailableSpace, spacey: AvailableSpace) -> KeywordQuestion
+fn both_asked(node: u32, spacex: AvailableSpace, spacey: AvailableSpace) -> Asked
     ensures { result ≡ both_asked node spacex spacey }
 {
-    let space = AvailableSize {
-        width: spacex,
-        height: spacey,
-    };
     let input = MeasureInput {
-        node: node,
-        known: MaybeSize::NONE,
-        space: space,
+        node,
+        known: Size::NONE,
+        space: Size {
+            width: spacex,
+            height: spacey,
+        },
     };
-    KeywordQuestion::Ask(Asked {
+    Asked {
         stage: Stage::KeywordBoth,
         question: Question::MeasureBoth(input),
-    })
+    }
 }
 
 // A height that isn't known has its stretch size as space.
 fn width_asked(
     node: u32,
     spacex: AvailableSpace,
-    known: MaybeSize,
-    stretch: Size,
-) -> KeywordQuestion
+    known: Size<Option<f32>>,
+    stretch: Size<f32>,
+) -> Asked
     ensures { result ≡ width_asked node spacex known stretch }
 {
-    let space = AvailableSize {
-        width: spacex,
-        height: AvailableSpace::Definite(stretch.height),
-    };
     let input = MeasureInput {
-        node: node,
-        known: known,
-        space: space,
+        node,
+        known,
+        space: Size {
+            width: spacex,
+            height: AvailableSpace::Definite(stretch.height),
+        },
     };
-    KeywordQuestion::Ask(Asked {
+    Asked {
         stage: Stage::KeywordWidth,
         question: Question::MeasureWidth(input),
-    })
+    }
 }
 
 // A width that is known is its space, else its stretch size.
 fn height_asked(
     node: u32,
-    width: MaybeF32,
+    width: Option<f32>,
     spacey: AvailableSpace,
-    known: MaybeSize,
-    stretch: Size,
-) -> KeywordQuestion
+    known: Size<Option<f32>>,
+    stretch: Size<f32>,
+) -> Asked
     ensures { result ≡ height_asked node width spacey known stretch }
 {
-    let height = known.height;
-    let spacex = AvailableSpace::Definite(width.unwrap_or(stretch.width));
-    let space = AvailableSize {
-        width: spacex,
-        height: spacey,
-    };
-    let sizes = MaybeSize {
-        width: width,
-        height: height,
-    };
     let input = MeasureInput {
-        node: node,
-        known: sizes,
-        space: space,
+        node,
+        known: Size { width, ..known },
+        space: Size {
+            width: AvailableSpace::Definite(width.unwrap_or(stretch.width)),
+            height: spacey,
+        },
     };
-    KeywordQuestion::Ask(Asked {
+    Asked {
         stage: Stage::KeywordHeight,
         question: Question::MeasureHeight(input),
-    })
+    }
 }
 
-// Two measured sides are one question. An exact width is filled in before the height is measured.
+// The question for size keywords, if a side is to be measured. Two measured sides are one question. An exact width is filled in
+// before the height is measured.
 fn keyword_asked(
     node: u32,
-    keywords: SizingKeywords,
-    known: MaybeSize,
-    stretch: Size,
-) -> KeywordQuestion
+    keywords: Size<Option<SizingKeywordResolution>>,
+    known: Size<Option<f32>>,
+    stretch: Size<f32>,
+) -> Option<Asked>
     ensures { result ≡ keyword_asked node keywords.width keywords.height known stretch }
 {
-    let wide = keywords.width;
-    let tall = keywords.height;
-    let width = known.width;
-    match wide {
-        SizingKeywordResolution::NoKeyword => match tall {
-            SizingKeywordResolution::NoKeyword => KeywordQuestion::None,
-            SizingKeywordResolution::Exact(_) => KeywordQuestion::None,
-            SizingKeywordResolution::Measure(spacey) => {
-                height_asked(node, width, spacey, known, stretch)
-            }
-        },
-        SizingKeywordResolution::Exact(w) => match tall {
-            SizingKeywordResolution::NoKeyword => KeywordQuestion::None,
-            SizingKeywordResolution::Exact(_) => KeywordQuestion::None,
-            SizingKeywordResolution::Measure(spacey) => {
-                height_asked(node, MaybeF32::Some(w), spacey, known, stretch)
-            }
-        },
-        SizingKeywordResolution::Measure(spacex) => match tall {
-            SizingKeywordResolution::NoKeyword => width_asked(node, spacex, known, stretch),
-            SizingKeywordResolution::Exact(_) => width_asked(node, spacex, known, stretch),
-            SizingKeywordResolution::Measure(spacey) => both_asked(node, spacex, spacey),
-        },
+    match (keywords.width, keywords.height) {
+        (Some(Measure(spacex)), Some(Measure(spacey))) => Some(both_asked(node, spacex, spacey)),
+        (Some(Measure(spacex)), _) => Some(width_asked(node, spacex, known, stretch)),
+        (Some(Exact(w)), Some(Measure(spacey))) => {
+            Some(height_asked(node, Some(w), spacey, known, stretch))
+        }
+        (None, Some(Measure(spacey))) => {
+            Some(height_asked(node, known.width, spacey, known, stretch))
+        }
+        _ => None,
     }
 }
 
 // ---- steps 5 and 6
 
-fn fill_asked(node: u32, known: MaybeSize, space: AvailableSize) -> Asked
+fn fill_asked(node: u32, known: Size<Option<f32>>, space: Size<AvailableSpace>) -> Asked
     ensures { result ≡ fill_asked node known space }
 {
-    let input = MeasureInput {
-        node: node,
-        known: known,
-        space: space,
-    };
+    let input = MeasureInput { node, known, space };
     Asked {
         stage: Stage::Fill,
         question: Question::MeasureBoth(input),
     }
 }
 
-fn lay_out_asked(node: u32, size: Size, space: AvailableSize) -> Asked
+fn lay_out_asked(node: u32, size: Size<f32>, space: Size<AvailableSpace>) -> Asked
     ensures { result ≡ lay_out_asked node size space }
 {
-    let input = LayoutInput {
-        node: node,
-        size: size,
-        space: space,
-    };
+    let input = LayoutInput { node, size, space };
     Asked {
         stage: Stage::LayOut,
         question: Question::LayOut(input),
     }
 }
 
-fn is_filled(reply: FillReply) -> bool
-    ensures { result ≡ fill_given reply }
-{
-    match reply {
-        FillReply::None => false,
-        FillReply::Both(_) => true,
-    }
-}
-
-// Whether nothing is left to measure.
-fn is_sized(reply: FillReply, known: MaybeSize) -> bool
-    ensures { result ≡ (fill_given reply || both_present known) }
-{
-    is_filled(reply) || known.both_axis_defined()
-}
-
 // What is still absent is measured, once; else the box is laid out.
-fn size_asked(
-    node: u32,
-    style: Style,
-    resolved: ResolvedBox,
-    keywords: SizingKeywords,
-    replies: Replies,
-) -> Asked
-    ensures { result ≡ size_asked node style resolved keywords replies }
+fn size_asked(node: u32, sizing: &Sizing) -> Asked
+    ensures { result ≡ size_asked node sizing.now }
 {
-    let reply = replies.fill;
-    let space = resolved.space;
-    let at = sizing::stretched_by(style, resolved, keywords, replies);
-    let known = at.known;
-    if is_sized(reply, known) {
-        return lay_out_asked(node, sizing::fill(resolved, at, reply), space);
+    let space = sizing.resolved.space;
+    let at = sizing.stretched();
+    if sizing.replies.fill.is_some() || at.known.both_axis_defined() {
+        return lay_out_asked(node, sizing.fill(at), space);
     }
-    fill_asked(node, known, space)
+    fill_asked(node, at.known, space)
 }
 
 // ---- the dialogue
 
-fn is_first(keyword: KeywordReply, fill: FillReply) -> bool
-    ensures { result ≡ is_first keyword fill }
+fn is_first(replies: Replies) -> bool
+    ensures { result ≡ is_first replies }
 {
-    match fill {
-        FillReply::Both(_) => false,
-        FillReply::None => match keyword {
-            KeywordReply::None => true,
-            KeywordReply::Both(_) => false,
-            KeywordReply::Width(_) => false,
-            KeywordReply::Height(_) => false,
-        },
-    }
+    replies.fill.is_none() && replies.keyword.is_none()
 }
 
-fn asked_of(
-    node: u32,
-    style: Style,
-    resolved: ResolvedBox,
-    keywords: SizingKeywords,
-    replies: Replies,
-) -> Asked
-    ensures { result ≡ asked_of node style resolved keywords replies }
+fn asked_of(node: u32, sizing: &Sizing) -> Asked
+    ensures { result ≡ asked_of node sizing.now }
 {
-    let known = resolved.size;
-    let keyword = replies.keyword;
-    let fill = replies.fill;
-    if is_first(keyword, fill) {
-        match keyword_asked(node, keywords, known, sizing::keyword_stretch(resolved)) {
-            KeywordQuestion::Ask(asked) => {
-                return asked;
-            }
-            KeywordQuestion::None => {
-                return size_asked(node, style, resolved, keywords, replies);
-            }
+    if is_first(sizing.replies) {
+        let resolved = sizing.resolved;
+        let stretch = sizing::keyword_stretch(resolved);
+        if let Some(first) = keyword_asked(node, sizing.keywords, resolved.size, stretch) {
+            return first;
         }
     }
-    size_asked(node, style, resolved, keywords, replies)
+    size_asked(node, sizing)
 }
 
 // What a box asks, by the replies so far.
@@ -252,8 +172,7 @@ pub fn next_question(
     ensures { result ≡ asked_after container style candidate replies }
 {
     let resolved = oof_resolve::resolve_box(container, style, candidate);
-    let keywords = sizing::size_keywords(style, resolved);
-    asked_of(candidate.node, style, resolved, keywords, replies)
+    asked_of(candidate.node, &Sizing::new(style, resolved, replies))
 }
 
 // The layout of a box that the host has laid out, with its overflow.
@@ -262,12 +181,11 @@ pub fn layout_oof_box(
     style: Style,
     candidate: OofCandidate,
     replies: Replies,
-    overflow: Rect,
+    overflow: Rect<f32>,
 ) -> OofBoxLayout
     ensures { result ≡ layout_after container style candidate replies overflow }
 {
     let resolved = oof_resolve::resolve_box(container, style, candidate);
-    let keywords = sizing::size_keywords(style, resolved);
-    let size = sizing::final_size(style, resolved, keywords, replies);
+    let size = Sizing::new(style, resolved, replies).final_size();
     oof_place::place(container, style, candidate, resolved, size, overflow)
 }

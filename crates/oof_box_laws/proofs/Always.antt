@@ -1,7 +1,7 @@
 -- What holds of a dialogue whatever the host replies: one dialogue after another, and the seven steps. Assumes nothing.
+use Rattle.std.specs.Prelude.{Float, Option}
 use Prim.Native.Nat.{ℕ}
 use Rattle.geometry.specs.declared.Size.{Size}
-use Rattle.geometry.specs.declared.MaybeSize.{MaybeSize}
 use Rattle.style.specs.declared.Style.{Style}
 use Rattle.tree.specs.declared.layout.OofCandidate.{OofCandidate}
 use Rattle.oof_resolve.specs.Resolved.{resolved_box}
@@ -32,14 +32,14 @@ unfolding ◌>>=◌
 alike_bind R (done a) next next' f = f a
 alike_bind R (ask q reply) next next' f = asking (λ r. alike_bind R (reply r) next next' f)
 
-measured_always : (P : Size → Type 0) (node : ℕ) (box : ResolvedBox) (at : Stretched) → ((s : Size) → P (final_size box at s)) → Always P (measured node box at)
+measured_always : (P : Size Float → Type 0) (node : ℕ) (box : ResolvedBox) (at : Stretched) → ((s : Size Float) → P (final_size box at s)) → Always P (measured node box at)
 unfolding measured
-measured_always P node box at f = always_bind (λ (s : Size). Unit {0}) P _ _ (always_any _) (λ s u. now (f s))
+measured_always P node box at f = always_bind (λ (s : Size Float). Unit {0}) P _ _ (always_any _) (λ s u. now (f s))
 
 -- what holds of the final size for any reply, where K holds of the size known after step 4, holds of the layout's size
-pub size_from : (K : MaybeSize → Type 0) (P : Size → Type 0) (container : ContainingBlock) (style : Style) (candidate : OofCandidate)
+pub size_from : (K : Size (Option Float) → Type 0) (P : Size Float → Type 0) (container : ContainingBlock) (style : Style) (candidate : OofCandidate)
     → Always K (keyword_sizes candidate.node style (resolved_box container style candidate) (size_keywords style (resolved_box container style candidate)))
-    → ((known : MaybeSize) → K known → (s : Size) → P (final_size (resolved_box container style candidate) (stretched style (resolved_box container style candidate) known) s))
+    → ((known : Size (Option Float)) → K known → (s : Size Float) → P (final_size (resolved_box container style candidate) (stretched style (resolved_box container style candidate) known) s))
     → SizeAlways P container style candidate
 unfolding placed box_layout layout_of ◌>>=◌
 size_from K P container style candidate a f =
@@ -48,17 +48,17 @@ size_from K P container style candidate a f =
     (λ known k. always_bind P (λ (p : Placed). P p.outcome.layout.size) (measured candidate.node box (stretched style box known)) _ (measured_always P candidate.node box (stretched style box known) (f known k)) (λ size h. later (λ laid. now h)))
 
 -- the same where nothing need be known
-pub size_always : (P : Size → Type 0) (container : ContainingBlock) (style : Style) (candidate : OofCandidate)
-    → ((known : MaybeSize) (s : Size) → P (final_size (resolved_box container style candidate) (stretched style (resolved_box container style candidate) known) s))
+pub size_always : (P : Size Float → Type 0) (container : ContainingBlock) (style : Style) (candidate : OofCandidate)
+    → ((known : Size (Option Float)) (s : Size Float) → P (final_size (resolved_box container style candidate) (stretched style (resolved_box container style candidate) known) s))
     → SizeAlways P container style candidate
-size_always P container style candidate f = size_from (λ (k : MaybeSize). Unit {0}) P container style candidate (always_any _) (λ known u s. f known s)
+size_always P container style candidate f = size_from (λ (k : Size (Option Float)). Unit {0}) P container style candidate (always_any _) (λ known u s. f known s)
 
 -- what holds of the outcome by any final size and any reply to lay out
 pub placed_always : (P : Placed → Type 0) (container : ContainingBlock) (style : Style) (candidate : OofCandidate)
-    → ((size : Size) (laid : Laid) → P (record { outcome = box_layout container style candidate (resolved_box container style candidate) size laid.overflow; surfaced = laid.surfaced }))
+    → ((size : Size Float) (laid : Laid) → P (record { outcome = box_layout container style candidate (resolved_box container style candidate) size laid.overflow; surfaced = laid.surfaced }))
     → Always P (placed container style candidate)
 unfolding placed ◌>>=◌
 placed_always P container style candidate f =
     let box = resolved_box container style candidate in
-    always_bind (λ (k : MaybeSize). Unit {0}) P (keyword_sizes candidate.node style box (size_keywords style box)) _ (always_any _)
-    (λ known u. always_bind (λ (s : Size). Unit {0}) P (measured candidate.node box (stretched style box known)) _ (always_any _) (λ size h. later (λ laid. now (f size laid))))
+    always_bind (λ (k : Size (Option Float)). Unit {0}) P (keyword_sizes candidate.node style box (size_keywords style box)) _ (always_any _)
+    (λ known u. always_bind (λ (s : Size Float). Unit {0}) P (measured candidate.node box (stretched style box known)) _ (always_any _) (λ size h. later (λ laid. now (f size laid))))

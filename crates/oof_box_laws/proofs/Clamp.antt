@@ -1,4 +1,5 @@
 -- A clamp that is done changes nothing when done again. Assumes nothing.
+use Rattle.std.specs.Prelude.{None, Some}
 use mathlib.Core.Path.{◌≡◌, refl, sym, ap, ◌∙◌}
 use mathlib.Core.Logic.{◌⊎◌, inl, inr}
 use mathlib.Core.Bool.{Bool, true, false, false≢true, beq, cond, ◌&&◌}
@@ -6,7 +7,6 @@ use Prim.Native.Nat.{zero, suc}
 use lib.Ieee.{Float, nan, inf, fin, lt, is_nan}
 use Rattle.util.specs.Order.{zero_of, before, larger, smaller}
 use Rattle.util.specs.Maybe.{at_most, at_least, clamped}
-use Rattle.util.specs.declared.math.MaybeF32.TheVariants.{None, Some}
 use Rattle.util.proofs.Laws.{larger_is_one, smaller_is_one, only_two_nans, within_stays}
 use Rattle.util.proofs.Order.{one_before}
 use Rattle.oof_box_laws.specs.Laws.{ClampIsSettled}

@@ -1,4 +1,5 @@
 -- What a box adds to the scrollable overflow. Assumes nothing.
+use Rattle.std.specs.Prelude.{Float}
 use mathlib.Core.Path.{◌≡◌, refl, sym, ap, ap₂, subst, ◌∙◌}
 use mathlib.Core.Logic.{◌⊎◌, inl, inr}
 use mathlib.Core.List.{[], ◌∷◌}
@@ -20,7 +21,6 @@ use Rattle.style.specs.declared.Direction.{Direction}
 use Rattle.style.specs.declared.Direction.TheVariants.{Ltr, Rtl}
 use Rattle.style.specs.declared.Overflow.{Overflow}
 use Rattle.style.specs.declared.Overflow.TheVariants.{Visible, Clip, Hidden, Scroll}
-use Rattle.style.specs.declared.OverflowPoint.{OverflowPoint}
 use Rattle.style.specs.declared.Style.{Style}
 use Rattle.tree.specs.declared.layout.Layout.{Layout}
 use Rattle.oof_resolve.specs.Resolved.{resolved_box}
@@ -46,13 +46,13 @@ or_true true b o = refl
 or_true false b (inl e) = absurd (false≢true e)
 or_true false b (inr e) = e
 
-is_scroller : (o : OverflowPoint) → Scroller o → any_scroll_container o ≡ true
+is_scroller : (o : Point Overflow) → Scroller o → any_scroll_container o ≡ true
 is_scroller o (inl (inl e)) = rw e refl
 is_scroller o (inl (inr e)) = rw e refl
 is_scroller o (inr (inl e)) = or_true (is_scroll_container o.x) (is_scroll_container o.y) (inr (rw e refl))
 is_scroller o (inr (inr e)) = or_true (is_scroll_container o.x) (is_scroll_container o.y) (inr (rw e refl))
 
-scroller : (o : OverflowPoint) → any_scroll_container o ≡ true → Scroller o
+scroller : (o : Point Overflow) → any_scroll_container o ≡ true → Scroller o
 scroller o e = go o.x o.y refl refl e
   where
     go : (x y : Overflow) → o.x ≡ x → o.y ≡ y → is_scroll_container x || is_scroll_container y ≡ true → Scroller o
@@ -67,7 +67,7 @@ scroller o e = go o.x o.y refl refl e
     go Clip Visible p q e = absurd (false≢true e)
     go Clip Clip p q e = absurd (false≢true e)
 
-no_scroller : (o : OverflowPoint) → NoScroller o → any_scroll_container o ≡ false
+no_scroller : (o : Point Overflow) → NoScroller o → any_scroll_container o ≡ false
 no_scroller o (inl e, inl f) = rw (e, f) refl
 no_scroller o (inl e, inr f) = rw (e, f) refl
 no_scroller o (inr e, inl f) = rw (e, f) refl
@@ -78,11 +78,11 @@ not_contained c (e, f) = rw (e, f) refl
 
 -- ---- zeros, or the reach of the box, placed
 
-module _ (at : Point) (size : Size) (own : Rect) (overflow : OverflowPoint) (contain : Contain) where
-  abbrev across : Line
+module _ (at : Point Float) (size : Size Float) (own : Rect Float) (overflow : Point Overflow) (contain : Contain) where
+  abbrev across : Line Float
   across = reach (propagates overflow.x overflow contain) size.width (line_x own)
 
-  abbrev down : Line
+  abbrev down : Line Float
   down = reach (propagates overflow.y overflow contain) size.height (line_y own)
 
   pub zeros_or_placed : (scrolls : Bool) → let r = contribution at size own overflow contain scrolls in (r ≡ zero_rect) ⊎ (r ≡ rect_of (placed_at at.x across) (placed_at at.y down))
@@ -98,7 +98,7 @@ module _ (at : Point) (size : Size) (own : Rect) (overflow : OverflowPoint) (con
   unfolding contribution
   reachable = go (le across.end 0f || le down.end 0f) (placed_at at.x across) (placed_at at.y down) (le (placed_at at.x across).end 0f) (le (placed_at at.y down).end 0f) refl refl
     where
-      go : (b : Bool) (x y : Line) → (p q : Bool) → le x.end 0f ≡ p → le y.end 0f ≡ q
+      go : (b : Bool) (x y : Line Float) → (p q : Bool) → le x.end 0f ≡ p → le y.end 0f ≡ q
           → let r = cond b zero_rect (cond (p || q) zero_rect (rect_of x y)) in (r ≡ zero_rect) ⊎ ((le r.right 0f ≡ false) × (le r.bottom 0f ≡ false))
       go true x y p q e f = inl refl
       go false x y true q e f = inl refl
@@ -112,11 +112,11 @@ scrolling_contribution_is_reachable container style candidate s =
 
 -- ---- what is clipped
 
-unshown : (size : Float) (own own' : Line) (shows : Bool) → shows ≡ false → reach shows size own ≡ reach shows size own'
+unshown : (size : Float) (own own' : Line Float) (shows : Bool) → shows ≡ false → reach shows size own ≡ reach shows size own'
 unfolding reach
 unshown size own own' shows e = rw e refl
 
-abbrev joined : Point → Bool → Line → Line → Rect
+abbrev joined : Point Float → Bool → Line Float → Line Float → Rect Float
 joined at scrolls across down =
     cond (le across.end 0f || le down.end 0f) zero_rect
     (cond (scrolls && (le (placed_at at.x across).end 0f || le (placed_at at.y down).end 0f)) zero_rect (rect_of (placed_at at.x across) (placed_at at.y down)))
@@ -131,15 +131,15 @@ clipped true b c e = refl
 clipped false true c e = refl
 clipped false false c e = e
 
-held_in : (o : OverflowPoint) (c : Contain) → Scroller o ⊎ Contained c → any_scroll_container o || contains_overflow c ≡ true
+held_in : (o : Point Overflow) (c : Contain) → Scroller o ⊎ Contained c → any_scroll_container o || contains_overflow c ≡ true
 held_in o c (inl s) = or_true (any_scroll_container o) (contains_overflow c) (inl (is_scroller o s))
 held_in o c (inr s) = or_true (any_scroll_container o) (contains_overflow c) (inr (or_true c.layout c.paint s))
 
-unseen : (along : Overflow) (o : OverflowPoint) (c : Contain) → Scroller o ⊎ Contained c → propagates along o c ≡ false
+unseen : (along : Overflow) (o : Point Overflow) (c : Contain) → Scroller o ⊎ Contained c → propagates along o c ≡ false
 unfolding propagates
 unseen along o c h = hidden (any_scroll_container o) (contains_overflow c) (is_visible along) (held_in o c h)
 
-clips : (along : Overflow) (o : OverflowPoint) (c : Contain) → along ≡ Clip → propagates along o c ≡ false
+clips : (along : Overflow) (o : Point Overflow) (c : Contain) → along ≡ Clip → propagates along o c ≡ false
 unfolding propagates
 clips along o c e = clipped (any_scroll_container o) (contains_overflow c) (is_visible along) (rw e refl)
 
@@ -174,7 +174,7 @@ zero : Exact 1 bound 0f zero_n
 zero = zero_exact
 
 -- how far a box reaches: over itself, and over its own overflow where that shows
-record Reached (shows : Bool) (size : Float) (own : Line) (u s e : N) : Type 0 where
+record Reached (shows : Bool) (size : Float) (own : Line Float) (u s e : N) : Type 0 where
   first : N
   last : N
   start : Exact 1 bound (reach shows size own).start first
@@ -186,7 +186,7 @@ record Reached (shows : Bool) (size : Float) (own : Line) (u s e : N) : Type 0 w
   low_within : LeN zero_n s → EqN first zero_n
   high_within : LeN e u → EqN last u
 
-reached : (shows : Bool) {size : Float} {own : Line} {u s e : N} → Exact 1 bound size u → Exact 1 bound own.start s → Exact 1 bound own.end e → Reached shows size own u s e
+reached : (shows : Bool) {size : Float} {own : Line Float} {u s e : N} → Exact 1 bound size u → Exact 1 bound own.start s → Exact 1 bound own.end e → Reached shows size own u s e
 unfolding reach
 reached true {size} {own} {u} {s} {e} hu hs he =
     record {
@@ -225,7 +225,7 @@ module _ {offset at : Float} {o ξ : N} (ho : Exact 1 bound offset o) (hx : Exac
 
 -- the reach of a box that stands at `at`, from the area's start edge, holds a line that its own edges hold
 module _ {offset at width size : Float} {o ξ ω u : N} (ho : Exact 1 bound offset o) (hx : Exact 1 bound at ξ) (hw : Exact 1 bound width ω) (hu : Exact 1 bound size u)
-    {r : Line} {σ ε : N} (hs : Exact 1 bound r.start σ) (he : Exact 1 bound r.end ε) {l : Line} {α β : N} (ha : Exact 1 bound l.start α) (hb : Exact 1 bound l.end β)
+    {r : Line Float} {σ ε : N} (hs : Exact 1 bound r.start σ) (he : Exact 1 bound r.end ε) {l : Line Float} {α β : N} (ha : Exact 1 bound l.start α) (hb : Exact 1 bound l.end β)
     (low : LeN σ α) (high : LeN β ε) where
   forwards : HoldsForwards (placed_at (at ⊖ offset) r) offset at l
   unfolding placed_at
@@ -244,7 +244,7 @@ module _ {offset at width size : Float} {o ξ ω u : N} (ho : Exact 1 bound offs
 -- ---- the laws
 
 module _ (container : ContainingBlock) (style : Style) (l : Layout) (h : Fine container l) where
-  abbrev origin : Point
+  abbrev origin : Point Float
   origin = from_origin container l.location l.size
 
   abbrev x_shows : Bool
@@ -253,10 +253,10 @@ module _ (container : ContainingBlock) (style : Style) (l : Layout) (h : Fine co
   abbrev y_shows : Bool
   y_shows = propagates style.overflow.y style.overflow style.contain
 
-  abbrev x_line : Line
+  abbrev x_line : Line Float
   x_line = reach x_shows l.size.width (line_x l.overflow)
 
-  abbrev y_line : Line
+  abbrev y_line : Line Float
   y_line = reach y_shows l.size.height (line_y l.overflow)
 
   x_reach : Reached x_shows l.size.width (line_x l.overflow) (units h.size_x) (units h.left) (units h.right)
@@ -266,24 +266,24 @@ module _ (container : ContainingBlock) (style : Style) (l : Layout) (h : Fine co
   y_reach = reached y_shows (exactly h.size_y) (exactly h.top) (exactly h.bottom)
 
   -- lines that the reach holds
-  across_held : (x : Line) {α β : N} → Exact 1 bound x.start α → Exact 1 bound x.end β → LeN x_reach.first α → LeN β x_reach.last → HoldsAcross container l (placed_at origin.x x_line) x
+  across_held : (x : Line Float) {α β : N} → Exact 1 bound x.start α → Exact 1 bound x.end β → LeN x_reach.first α → LeN β x_reach.last → HoldsAcross container l (placed_at origin.x x_line) x
   unfolding from_origin
   across_held x a b i j = (
     λ e. rw e (forwards (exactly h.offset_x) (exactly h.x) (exactly h.width) (exactly h.size_x) x_reach.start x_reach.end a b i j),
     λ e. rw e (backwards (exactly h.offset_x) (exactly h.x) (exactly h.width) (exactly h.size_x) x_reach.start x_reach.end a b i j),
   )
 
-  down_held : (y : Line) {α β : N} → Exact 1 bound y.start α → Exact 1 bound y.end β → LeN y_reach.first α → LeN β y_reach.last → HoldsDown container l (placed_at origin.y y_line) y
+  down_held : (y : Line Float) {α β : N} → Exact 1 bound y.start α → Exact 1 bound y.end β → LeN y_reach.first α → LeN β y_reach.last → HoldsDown container l (placed_at origin.y y_line) y
   unfolding from_origin
   down_held y a b i j = forwards (exactly h.offset_y) (exactly h.y) (exactly h.width) (exactly h.size_y) y_reach.start y_reach.end a b i j
 
   box_held : HoldsTheBox container l (rect_of (placed_at origin.x x_line) (placed_at origin.y y_line))
   box_held = (across_held (0f to l.size.width) zero (exactly h.size_x) x_reach.low x_reach.high, down_held (0f to l.size.height) zero (exactly h.size_y) y_reach.low y_reach.high)
 
-  abbrev found : Rect
+  abbrev found : Rect Float
   found = contribution origin l.size l.overflow style.overflow style.contain (any_scroll_container container.overflow)
 
-  or_zeros : (P : Rect → Type 0) → P (rect_of (placed_at origin.x x_line) (placed_at origin.y y_line)) → (found ≡ zero_rect) ⊎ P found
+  or_zeros : (P : Rect Float → Type 0) → P (rect_of (placed_at origin.x x_line) (placed_at origin.y y_line)) → (found ≡ zero_rect) ⊎ P found
   or_zeros P k = go (zeros_or_placed origin l.size l.overflow style.overflow style.contain (any_scroll_container container.overflow))
     where
       go : (found ≡ zero_rect) ⊎ (found ≡ rect_of (placed_at origin.x x_line) (placed_at origin.y y_line)) → (found ≡ zero_rect) ⊎ P found
@@ -297,7 +297,7 @@ contribution_holds_the_box container style candidate =
     (λ size laid h. (let l = layout_of container style candidate (resolved_box container style candidate) size laid.overflow in
     or_zeros container style l h (HoldsTheBox container l) (box_held container style l h)))
 
-visible : (o : Overflow) (p : OverflowPoint) (c : Contain) → o ≡ Visible → NoScroller p → NotContained c → propagates o p c ≡ true
+visible : (o : Overflow) (p : Point Overflow) (c : Contain) → o ≡ Visible → NoScroller p → NotContained c → propagates o p c ≡ true
 unfolding propagates
 visible o p c e f n = rw (e, no_scroller p f, not_contained c n) refl
 
@@ -330,7 +330,7 @@ where_scrolling : (s b : Bool) → (s ≡ true → b ≡ false) → s && b ≡ f
 where_scrolling true b f = f refl
 where_scrolling false b f = refl
 
-not_zeros : (at : Point) (size : Size) (own : Rect) (overflow : OverflowPoint) (contain : Contain) (scrolls : Bool)
+not_zeros : (at : Point Float) (size : Size Float) (own : Rect Float) (overflow : Point Overflow) (contain : Contain) (scrolls : Bool)
     → let x = across at size own overflow contain in let y = down at size own overflow contain in
     le x.end 0f || le y.end 0f ≡ false → scrolls && (le (placed_at at.x x).end 0f || le (placed_at at.y y).end 0f) ≡ false
     → contribution at size own overflow contain scrolls ≡ rect_of (placed_at at.x x) (placed_at at.y y)
@@ -396,7 +396,7 @@ contribution_counts container style candidate =
 -- ---- no more than the box
 
 -- a line placed by a reach that is the box's
-as_long : {p size : Float} {o u : N} {r : Line} {σ ε : N} → Exact 1 (4 * bound) p o → Exact 1 bound size u → Exact 1 bound r.start σ → Exact 1 bound r.end ε → EqN σ zero_n → EqN ε u
+as_long : {p size : Float} {o u : N} {r : Line Float} {σ ε : N} → Exact 1 (4 * bound) p o → Exact 1 bound size u → Exact 1 bound r.start σ → Exact 1 bound r.end ε → EqN σ zero_n → EqN ε u
     → (placed_at p r).start ∷ size ∷ [] =Σ (placed_at p r).end ∷ []
 unfolding placed_at
 as_long hp hu hs he i j = equal_sums (add_exact hp hs (lit< tt) and hu and nil) (add_exact hp he (lit< tt) and nil) (omega (arith, i, j))
@@ -432,15 +432,15 @@ contribution_holds_no_more container style candidate =
 
 -- ---- exactly the union
 
-hides : (shows : Bool) (size : Float) (own : Line) → shows ≡ false → reach shows size own ≡ 0f to size
+hides : (shows : Bool) (size : Float) (own : Line Float) → shows ≡ false → reach shows size own ≡ 0f to size
 unfolding reach
 hides shows size own e = rw e refl
 
-shows : (b : Bool) (size : Float) (own : Line) → b ≡ true → reach b size own ≡ smaller 0f own.start to larger size own.end
+shows : (b : Bool) (size : Float) (own : Line Float) → b ≡ true → reach b size own ≡ smaller 0f own.start to larger size own.end
 unfolding reach
 shows b size own e = rw e refl
 
-reaches : (style : Style) (along : Overflow) (size : Float) (own : Line) → Reaches style along size own (reach (propagates along style.overflow style.contain) size own)
+reaches : (style : Style) (along : Overflow) (size : Float) (own : Line Float) → Reaches style along size own (reach (propagates along style.overflow style.contain) size own)
 reaches style along size own =
     record {
       shown = λ e f n. shows _ size own (visible along style.overflow style.contain e f n);
@@ -450,7 +450,7 @@ reaches style along size own =
     }
 
 module _ {offset at width size : Float} {o ξ ω u : N} (ho : Exact 1 bound offset o) (hx : Exact 1 bound at ξ) (hw : Exact 1 bound width ω) (hu : Exact 1 bound size u)
-    {r : Line} {σ ε : N} (hs : Exact 1 bound r.start σ) (he : Exact 1 bound r.end ε) where
+    {r : Line Float} {σ ε : N} (hs : Exact 1 bound r.start σ) (he : Exact 1 bound r.end ε) where
   is_forwards : IsForwards (placed_at (at ⊖ offset) r) offset at r
   unfolding placed_at
   is_forwards = (
@@ -466,10 +466,10 @@ module _ {offset at width size : Float} {o ξ ω u : N} (ho : Exact 1 bound offs
   )
 
 -- zeros, by either test
-empty_zeros : (at : Point) (scrolls : Bool) (x y : Line) → (le x.end 0f ≡ true) ⊎ (le y.end 0f ≡ true) → joined at scrolls x y ≡ zero_rect
+empty_zeros : (at : Point Float) (scrolls : Bool) (x y : Line Float) → (le x.end 0f ≡ true) ⊎ (le y.end 0f ≡ true) → joined at scrolls x y ≡ zero_rect
 empty_zeros at scrolls x y o = rw (or_true (le x.end 0f) (le y.end 0f) o) refl
 
-unreachable_zeros : (at : Point) (scrolls : Bool) (x y : Line) → scrolls ≡ true → (le (placed_at at.x x).end 0f ≡ true) ⊎ (le (placed_at at.y y).end 0f ≡ true) → joined at scrolls x y ≡ zero_rect
+unreachable_zeros : (at : Point Float) (scrolls : Bool) (x y : Line Float) → scrolls ≡ true → (le (placed_at at.x x).end 0f ≡ true) ⊎ (le (placed_at at.y y).end 0f ≡ true) → joined at scrolls x y ≡ zero_rect
 unreachable_zeros at scrolls x y s o = rw (s, or_true (le (placed_at at.x x).end 0f) (le (placed_at at.y y).end 0f) o) (go (le x.end 0f || le y.end 0f))
   where
     go : (b : Bool) → cond b zero_rect zero_rect ≡ zero_rect
@@ -481,7 +481,7 @@ not_before scrolls a b (inl e) = rw e refl
 not_before true a b (inr (e, f)) = neither a b e f
 not_before false a b (inr h) = refl
 
-either_way : (o : OverflowPoint) (A : Type 0) → NoScroller o ⊎ A → (any_scroll_container o ≡ false) ⊎ A
+either_way : (o : Point Overflow) (A : Type 0) → NoScroller o ⊎ A → (any_scroll_container o ≡ false) ⊎ A
 either_way o A (inl n) = inl (no_scroller o n)
 either_way o A (inr a) = inr a
 

@@ -1,4 +1,5 @@
 -- A stretched box fills its block. Assumes nothing.
+use Rattle.std.specs.Prelude.{Float, None, Option, Some, is_some}
 use mathlib.Core.Path.{◌≡◌, refl, ap, ◌∙◌}
 use mathlib.Core.List.{List, [], ◌∷◌}
 use mathlib.Core.Bool.{Bool, true, false, false≢true, cond, ◌&&◌}
@@ -8,9 +9,7 @@ use lib.Dec.{lit<}
 use lib.Ieee.{Float, nan, inf, fin, up, down, lt, is_nan, of_bits}
 use Rattle.util.specs.Number.{◌⊕◌, ◌⊖◌, 0f}
 use Rattle.util.specs.Order.{zero_of, before, larger, smaller}
-use Rattle.util.specs.Maybe.{present, at_most, at_least, clamped}
-use Rattle.util.specs.declared.math.MaybeF32.{MaybeF32}
-use Rattle.util.specs.declared.math.MaybeF32.TheVariants.{None, Some}
+use Rattle.util.specs.Maybe.{at_most, at_least, clamped}
 use Rattle.util.proofs.Order.{eq_self, eq_le, lt_le, le_numbers, not_above_lem, zeros}
 use Rattle.geometry.specs.Geometry.{◌to◌, span}
 use Rattle.geometry.specs.declared.Line.{Line}
@@ -88,7 +87,7 @@ module _ (x : Float) (positive : lt 0f x ≡ true) where
       go true = refl
       go false = refl
 
-  unchanged : (min max : MaybeF32) → ((low : Float) → min ≡ Some low → lt x low ≡ false) → ((high : Float) → max ≡ Some high → lt high x ≡ false) → clamped x min max ≡ x
+  unchanged : (min max : Option Float) → ((low : Float) → min ≡ Some low → lt x low ≡ false) → ((high : Float) → max ≡ Some high → lt high x ≡ false) → clamped x min max ≡ x
   unfolding clamped at_most at_least
   unchanged None None f g = refl
   unchanged (Some low) None f g = above_min low (f low refl)
@@ -137,7 +136,7 @@ without_static a =
       scrolls = a.scrolls;
     }
 
-same_filled : (s t : MaybeF32) (free : Float) (a : OofAxis) → filled_margins s t free (without_static a) ≡ filled_margins s t free a
+same_filled : (s t : Option Float) (free : Float) (a : OofAxis) → filled_margins s t free (without_static a) ≡ filled_margins s t free a
 unfolding filled_margins halves
 same_filled (Some s) (Some t) free a = refl
 same_filled (Some s) None free a = refl
@@ -152,20 +151,20 @@ same_edge align.Start a = refl
 same_edge align.Center a = refl
 same_edge align.End a = refl
 
-same_aligned : (s : AlignmentSafety) (a : OofAxis) (l : Line) (outer : Float) (edge : AxisStaticEdge) → self_aligned s (without_static a) l outer edge ≡ self_aligned s a l outer edge
+same_aligned : (s : AlignmentSafety) (a : OofAxis) (l : Line Float) (outer : Float) (edge : AxisStaticEdge) → self_aligned s (without_static a) l outer edge ≡ self_aligned s a l outer edge
 unfolding self_aligned kept_within limit
 same_aligned Default a l outer edge = refl
 same_aligned Unsafe a l outer edge = refl
 same_aligned Safe a l outer edge = refl
 
 module _ (a : OofAxis) (i : TwoInsets a) where
-  same_inset_block : (s t : MaybeF32) → present s ≡ true → present t ≡ true → inset_block s t (without_static a) ≡ inset_block s t a
-  unfolding inset_block present
+  same_inset_block : (s t : Option Float) → is_some s ≡ true → is_some t ≡ true → inset_block s t (without_static a) ≡ inset_block s t a
+  unfolding inset_block
   same_inset_block None t e f = absurd (false≢true e)
   same_inset_block (Some x) None e f = absurd (false≢true f)
   same_inset_block (Some x) (Some y) e f = refl
 
-  same_weaker : (s t : MaybeF32) → start_is_weaker s t (without_static a) ≡ start_is_weaker s t a
+  same_weaker : (s t : Option Float) → start_is_weaker s t (without_static a) ≡ start_is_weaker s t a
   unfolding start_is_weaker
   same_weaker (Some x) (Some y) = refl
   same_weaker (Some x) None = refl
@@ -184,8 +183,8 @@ module _ (a : OofAxis) (i : TwoInsets a) where
   unfolding margins both_insets
   same_margins size = rw (same_block, same_filled a.margin.start a.margin.end (span (block a) ⊖ size) a) refl
 
-  same_position_in : (s t : MaybeF32) → present s ≡ true → present t ≡ true → (l : Line) (size : Float) (m : Line) → position_in s t (without_static a) l size m ≡ position_in s t a l size m
-  unfolding position_in present
+  same_position_in : (s t : Option Float) → is_some s ≡ true → is_some t ≡ true → (l : Line Float) (size : Float) (m : Line Float) → position_in s t (without_static a) l size m ≡ position_in s t a l size m
+  unfolding position_in
   same_position_in None t e f l size m = absurd (false≢true e)
   same_position_in (Some x) None e f l size m = refl
   same_position_in (Some x) (Some y) e f l size m = rw (same_edge a.alignment a, same_aligned a.safety a l (size ⊕ m.start ⊕ m.end) (align_edge a.alignment a)) refl
@@ -203,14 +202,14 @@ fills_with a offset insets positive q o =
     let h = axis_exact 16384 0 a q in
     let fit : Exact 4 786432 (stretch_fit a) (stretch_fit_n (shape a) (numbers 16384 0 a q)) = stretch_exact 65536 65536 (lit< tt) a _ h in
     let at = any (place_exact 65536 65536 786432 (lit< tt) a _ h fit) in
-    let sums = go (present a.margin.start) (present a.margin.end) refl refl (record { lengths = 16384; static = 0; sizes = 196608; room = tt; axis = q; box = quarters_of 196608 fit }) in
+    let sums = go (is_some a.margin.start) (is_some a.margin.end) refl refl (record { lengths = 16384; static = 0; sizes = 196608; room = tt; axis = q; box = quarters_of 196608 fit }) in
     let by = any (quarters_exact o) in
     let margin = (placement a (stretch_fit a)).margin in (
       moved [] ((block a).start ∷ margin.start ∷ []) at by (lit< tt) sums.0,
       moved (stretch_fit a ∷ margin.end ∷ []) ((block a).end ∷ []) at by (lit< tt) sums.1,
     )
   where
-    go : (b c : Bool) → present a.margin.start ≡ b → present a.margin.end ≡ c → Whole a (stretch_fit a) → BeginsAt a (stretch_fit a) (block a).start × EndsAt a (stretch_fit a) (block a).end
+    go : (b c : Bool) → is_some a.margin.start ≡ b → is_some a.margin.end ≡ c → Whole a (stretch_fit a) → BeginsAt a (stretch_fit a) (block a).start × EndsAt a (stretch_fit a) (block a).end
     go true true e f w =
         stretched_box_is_the_block a (stretch_fit a) w (record { insets = insets; margin_start = e; margin_end = f }) (eq_self (stretch_fit a) (number (stretch_fit a) positive)) positive
     go true false e f w = auto_margins_fill a (stretch_fit a) w insets (rw (e, f) refl)

@@ -1,9 +1,10 @@
 -- Where a box stands. Assumes nothing.
+use Rattle.std.specs.Prelude.{Float}
 use mathlib.Core.Path.{◌≡◌, refl, sym, ap, ap₂, ◌∙◌}
 use mathlib.Core.Bool.{true, false, cond}
 use lib.Ieee.{Float}
 use Rattle.util.specs.Number.{◌⊖◌}
-use Rattle.geometry.specs.Geometry.{maybe_line_x, maybe_line_y}
+use Rattle.geometry.specs.Geometry.{line_x, line_y}
 use Rattle.geometry.specs.declared.Line.{Line}
 use Rattle.geometry.specs.declared.Point.{Point}
 use Rattle.geometry.specs.declared.Size.{Size}
@@ -44,9 +45,9 @@ gutters_and_edges container style candidate =
 
 same_place : (p p' : AxisStaticPosition) (offset offset' : Float) → SamePlace p offset p' offset' → less_offset p' offset' ≡ less_offset p offset
 unfolding less_offset
-same_place p p' offset offset' h = ap₂ (λ (l : Line) (s : AxisStaticAlign). record { area = l; align = s }) h.area h.align
+same_place p p' offset offset' h = ap₂ (λ (l : Line Float) (s : AxisStaticAlign). record { area = l; align = s }) h.area h.align
 
-module _ (container : ContainingBlock) (offset' : Point) (style : Style) (candidate candidate' : OofCandidate) (h : StandAlike candidate container.area.offset candidate' offset') where
+module _ (container : ContainingBlock) (offset' : Point Float) (style : Style) (candidate candidate' : OofCandidate) (h : StandAlike candidate container.area.offset candidate' offset') where
   same_across : horizontal (with_offset offset' container) style candidate' ≡ horizontal container style candidate
   unfolding horizontal
   same_across =
@@ -55,8 +56,8 @@ module _ (container : ContainingBlock) (offset' : Point) (style : Style) (candid
       (λ (p : AxisStaticPosition).
       record {
         size = container.area.size.width;
-        inset = maybe_line_x (of_each_axis style.inset container.area.size);
-        margin = maybe_line_x (of_width field.InsetOrMargin style.margin container.area.size);
+        inset = line_x (of_each_axis style.inset container.area.size);
+        margin = line_x (of_width field.InsetOrMargin style.margin container.area.size);
         place = p;
         alignment = from_resolved justify.keyword;
         safety = justify.safety;
@@ -74,8 +75,8 @@ module _ (container : ContainingBlock) (offset' : Point) (style : Style) (candid
       (λ (p : AxisStaticPosition).
       record {
         size = container.area.size.height;
-        inset = maybe_line_y (of_each_axis style.inset container.area.size);
-        margin = maybe_line_y (of_width field.InsetOrMargin style.margin container.area.size);
+        inset = line_y (of_each_axis style.inset container.area.size);
+        margin = line_y (of_width field.InsetOrMargin style.margin container.area.size);
         place = p;
         alignment = from_resolved align.keyword;
         safety = align.safety;
@@ -93,10 +94,10 @@ module _ (container : ContainingBlock) (offset' : Point) (style : Style) (candid
   box = resolved_box container style candidate
 
   -- from the scroll origin, the offset taken off
-  abbrev counted : Point → Size → Point
+  abbrev counted : Point Float → Size Float → Point Float
   counted p size = record { x = cond (is_rtl container.direction) (container.area.size.width ⊖ p.x ⊖ size.width) p.x; y = p.y }
 
-  moved : (size : Size) (laid : Laid)
+  moved : (size : Size Float) (laid : Laid)
       → MovedAlone container.area.offset offset' (record { outcome = box_layout container style candidate box size laid.overflow; surfaced = laid.surfaced })
       (record { outcome = box_layout (with_offset offset' container) style candidate' box size laid.overflow; surfaced = laid.surfaced })
   unfolding box_layout layout_of from_origin
@@ -107,7 +108,7 @@ module _ (container : ContainingBlock) (offset' : Point) (style : Style) (candid
         layout = rw h.order refl;
         surfaced = refl;
         contribution =
-            λ e e'. ap (λ (p : Point). contribution (counted p size) size laid.overflow style.overflow style.contain (any_scroll_container container.overflow)) (e' ∙ sym e);
+            λ e e'. ap (λ (p : Point Float). contribution (counted p size) size laid.overflow style.overflow style.contain (any_scroll_container container.overflow)) (e' ∙ sym e);
       }
 
 pub offset_moves_alone : OffsetMovesAlone

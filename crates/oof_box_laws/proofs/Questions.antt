@@ -3,16 +3,16 @@ use mathlib.Core.Path.{◌≡◌, refl, ap, ap₂, ◌∙◌}
 use mathlib.Core.Bool.{Bool, true, false, false≢true, cond}
 use Prim.Native.Nat.{ℕ}
 use lib.Ieee.{Float}
+use Rattle.std.specs.Prelude.{Option, Float, Some}
+use Rattle.std.specs.declared.option.Option.TheVariants as option
 use Rattle.util.specs.Order.{smaller}
 use Rattle.util.specs.Maybe.{clamped}
-use Rattle.util.specs.declared.math.MaybeF32.TheVariants.{Some}
 use Rattle.geometry.specs.Geometry.{zero_size, clamped_floats, filled_size, both_present, sum_x, sum_y, rect_or_zero, smaller_size}
 use Rattle.geometry.specs.declared.Size.{Size}
-use Rattle.geometry.specs.declared.MaybeSize.{MaybeSize}
+use Rattle.style.specs.declared.available_space.AvailableSpace.{AvailableSpace}
 use Rattle.style.specs.Resolve.{resolved_rect}
 use Rattle.style.specs.Values.{definite_spaces, clamped_space, clamped_spaces}
 use Rattle.style.specs.declared.Style.{Style}
-use Rattle.style.specs.declared.available_space.AvailableSize.{AvailableSize}
 use Rattle.style.specs.declared.available_space.AvailableSpace.TheVariants.{Definite}
 use Rattle.style.specs.declared.resolve.Field.TheVariants as field
 use Rattle.tree.specs.declared.layout.OofCandidate.{OofCandidate}
@@ -22,7 +22,7 @@ use Rattle.oof_resolve.specs.declared.ContainingBlock.{ContainingBlock}
 use Rattle.oof_resolve.specs.declared.ResolvedBox.{ResolvedBox}
 use Rattle.oof_common.specs.SizingKeyword.{keywords_of}
 use Rattle.oof_common.specs.declared.sizing_keyword.SizingKeywordResolution.{SizingKeywordResolution}
-use Rattle.oof_common.specs.declared.sizing_keyword.SizingKeywordResolution.TheVariants.{NoKeyword, Exact, Measure}
+use Rattle.oof_common.specs.declared.sizing_keyword.SizingKeywordResolution.TheVariants.{Exact, Measure}
 use Rattle.oof_place.specs.Placing.{layout_of, box_layout}
 use Rattle.oof_box.specs.Talk.{Talk, done, ask, Laid, ◌>>=◌}
 use Rattle.oof_box.specs.Box.{Placed, placed, ◌and◌, width_as, height_as, in_turn, by_keywords, stretched, final_size, measured, keyword_sizes, size_keywords}
@@ -50,58 +50,58 @@ measured_asks P node box at p = go (both_present at.known)
     go false = asks p (λ r. ends)
 
 -- step 4, then the question of step 6, then lay out
-module _ (P : Question → Type 0) (K : MaybeSize → Type 0) (container : ContainingBlock) (style : Style) (candidate : OofCandidate) where
+module _ (P : Question → Type 0) (K : Size (Option Float) → Type 0) (container : ContainingBlock) (style : Style) (candidate : OofCandidate) where
   abbrev box : ResolvedBox
   box = resolved_box container style candidate
 
-  abbrev talk : Talk MaybeSize
+  abbrev talk : Talk (Size (Option Float))
   talk = keyword_sizes candidate.node style box (size_keywords style box)
 
   asks_placed : Asks P talk → Always K talk
-      → ((known : MaybeSize) → K known → P (MeasureBoth (record { node = candidate.node; known = (stretched style box known).known; space = box.space })))
-      → ((known : MaybeSize) → K known → (s : Size) → P (LayOut (record { node = candidate.node; size = final_size box (stretched style box known) s; space = box.space })))
+      → ((known : Size (Option Float)) → K known → P (MeasureBoth (record { node = candidate.node; known = (stretched style box known).known; space = box.space })))
+      → ((known : Size (Option Float)) → K known → (s : Size Float) → P (LayOut (record { node = candidate.node; size = final_size box (stretched style box known) s; space = box.space })))
       → Asks P (placed container style candidate)
   unfolding placed ◌>>=◌ measured
   asks_placed a k m l =
       asks_bind P K talk _ a k
-      (λ known h. asks_bind P (λ (size : Size). (s : Size) × (size ≡ final_size box (stretched style box known) s)) (measured candidate.node box (stretched style box known)) _
+      (λ known h. asks_bind P (λ (size : Size Float). (s : Size Float) × (size ≡ final_size box (stretched style box known) s)) (measured candidate.node box (stretched style box known)) _
       (measured_asks P candidate.node box (stretched style box known) (m known h)) (finals known) (λ size f. asks (rw f.1 (l known h f.0)) (λ laid. ends)))
     where
-      finals : (known : MaybeSize) → Always (λ (size : Size). (s : Size) × (size ≡ final_size box (stretched style box known) s)) (measured candidate.node box (stretched style box known))
+      finals : (known : Size (Option Float)) → Always (λ (size : Size Float). (s : Size Float) × (size ≡ final_size box (stretched style box known) s)) (measured candidate.node box (stretched style box known))
       finals known = go (both_present (stretched style box known).known)
         where
           go : (b : Bool)
-              → Always (λ (size : Size). (s : Size) × (size ≡ final_size box (stretched style box known) s))
+              → Always (λ (size : Size Float). (s : Size Float) × (size ≡ final_size box (stretched style box known) s))
               (cond b (done zero_size) (ask (MeasureBoth (record { node = candidate.node; known = (stretched style box known).known; space = box.space })) done) >>= λ size. done (final_size box (stretched style box known) size))
           go true = now (_, refl)
           go false = later (λ r. now (r, refl))
 
 -- ---- a side that is told
 
-asks_with_width : (node : ℕ) (style : Style) (box : ResolvedBox) (x : Float) → box.size.width ≡ Some x → (tall : SizingKeywordResolution)
-    → Asks (WidthTold x) (keyword_sizes node style box (record { width = NoKeyword; height = tall }))
+asks_with_width : (node : ℕ) (style : Style) (box : ResolvedBox) (x : Float) → box.size.width ≡ Some x → (tall : Option SizingKeywordResolution)
+    → Asks (WidthTold x) (keyword_sizes node style box (record { width = option.None; height = tall }))
 unfolding keyword_sizes by_keywords in_turn width_as height_as ◌>>=◌
-asks_with_width node style box x e NoKeyword = ends
-asks_with_width node style box x e (Exact y) = ends
-asks_with_width node style box x e (Measure space) = asks e (λ r. ends)
+asks_with_width node style box x e option.None = ends
+asks_with_width node style box x e (option.Some (Exact y)) = ends
+asks_with_width node style box x e (option.Some (Measure space)) = asks e (λ r. ends)
 
-asks_with_height : (node : ℕ) (style : Style) (box : ResolvedBox) (x : Float) → box.size.height ≡ Some x → (wide : SizingKeywordResolution)
-    → Asks (HeightTold x) (keyword_sizes node style box (record { width = wide; height = NoKeyword }))
+asks_with_height : (node : ℕ) (style : Style) (box : ResolvedBox) (x : Float) → box.size.height ≡ Some x → (wide : Option SizingKeywordResolution)
+    → Asks (HeightTold x) (keyword_sizes node style box (record { width = wide; height = option.None }))
 unfolding keyword_sizes by_keywords in_turn width_as height_as ◌>>=◌
-asks_with_height node style box x e NoKeyword = ends
-asks_with_height node style box x e (Exact y) = ends
-asks_with_height node style box x e (Measure space) = asks e (λ r. ends)
+asks_with_height node style box x e option.None = ends
+asks_with_height node style box x e (option.Some (Exact y)) = ends
+asks_with_height node style box x e (option.Some (Measure space)) = asks e (λ r. ends)
 
 pub given_size_is_told : GivenSizeIsTold
 unfolding size_keywords keywords_of
 given_size_is_told container style candidate x =
     let box = resolved_box container style candidate in (
       λ e. (let c = given_width_settled container style candidate x e in
-          asks_placed (WidthTold x) (λ (k : MaybeSize). k.width ≡ Some x) container style candidate
+          asks_placed (WidthTold x) (λ (k : Size (Option Float)). k.width ≡ Some x) container style candidate
           (rw (no_keyword box.size.width _ x e) (asks_with_width candidate.node style box x e _)) (width_known container style candidate x e)
           (λ known k. told_width style box known x c k) (λ known k s. stretched_width style box known x c k s)),
       λ e. (let c = given_height_settled container style candidate x e in
-          asks_placed (HeightTold x) (λ (k : MaybeSize). k.height ≡ Some x) container style candidate
+          asks_placed (HeightTold x) (λ (k : Size (Option Float)). k.height ≡ Some x) container style candidate
           (rw (no_keyword box.size.height _ x e) (asks_with_height candidate.node style box x e _)) (height_known container style candidate x e)
           (λ known k. told_height style box known x c k) (λ known k s. stretched_height style box known x c k s)),
     )
@@ -113,11 +113,11 @@ nothing_asked P m a e = rw e ends
 plain_asks : (P : Question → Type 0) (container : ContainingBlock) (style : Style) (candidate : OofCandidate) → Plain style
     → let box = resolved_box container style candidate in let at = stretched style box box.size in
     P (MeasureBoth (record { node = candidate.node; known = at.known; space = box.space }))
-    → ((s : Size) → P (LayOut (record { node = candidate.node; size = final_size box at s; space = box.space }))) → Asks P (placed container style candidate)
+    → ((s : Size Float) → P (LayOut (record { node = candidate.node; size = final_size box at s; space = box.space }))) → Asks P (placed container style candidate)
 plain_asks P container style candidate k m l =
     let box = resolved_box container style candidate in
     let e = plain_keywords candidate.node style box k in
-    asks_placed P (λ (known : MaybeSize). known ≡ box.size) container style candidate (nothing_asked P _ box.size e) (known_is _ box.size e) (λ known f. rw f m) (λ known f s. rw f (l s))
+    asks_placed P (λ (known : Size (Option Float)). known ≡ box.size) container style candidate (nothing_asked P _ box.size e) (known_is _ box.size e) (λ known f. rw f m) (λ known f s. rw f (l s))
 
 pub stretched_size_is_told : StretchedSizeIsTold
 unfolding final_size clamped_floats filled_size
@@ -128,16 +128,16 @@ stretched_size_is_told container style candidate k t =
       λ a s. (let h = auto_width style box true k.ratio t (z.width k.ratio a) s in
           let f = ap (λ (x : Float). clamped x box.min.width box.max.width) (fit_across container style candidate) in
           plain_asks (WidthTold (clamped (stretch_fit box.horizontal) box.min.width box.max.width)) container style candidate k (h.0 ∙ ap Some f)
-          (λ s. stretch_side at.known.width box.min.width _ box.max.width box.fit.width s.width h.0 (ap (λ (m : MaybeSize). m.width) h.1) ∙ f)),
+          (λ s. stretch_side at.known.width box.min.width _ box.max.width box.fit.width s.width h.0 (ap (λ (m : Size (Option Float)). m.width) h.1) ∙ f)),
       λ a s. (let h = auto_height style box true k.ratio t (z.height k.ratio a) s in
           let f = ap (λ (x : Float). clamped x box.min.height box.max.height) (fit_down container style candidate) in
           plain_asks (HeightTold (clamped (stretch_fit box.vertical) box.min.height box.max.height)) container style candidate k (h.0 ∙ ap Some f)
-          (λ s. stretch_side at.known.height box.min.height _ box.max.height box.fit.height s.height h.0 (ap (λ (m : MaybeSize). m.height) h.1) ∙ f)),
+          (λ s. stretch_side at.known.height box.min.height _ box.max.height box.fit.height s.height h.0 (ap (λ (m : Size (Option Float)). m.height) h.1) ∙ f)),
     )
 
 -- ---- the space
 
-side_of : (t : Bool) (fit other : Size) → ((cond t (smaller_size fit other) fit).width ≡ cond t (smaller fit.width other.width) fit.width) × ((cond t (smaller_size fit other) fit).height ≡ cond t (smaller fit.height other.height) fit.height)
+side_of : (t : Bool) (fit other : Size Float) → ((cond t (smaller_size fit other) fit).width ≡ cond t (smaller fit.width other.width) fit.width) × ((cond t (smaller_size fit other) fit).height ≡ cond t (smaller fit.height other.height) fit.height)
 unfolding smaller_size
 side_of true fit other = (refl, refl)
 side_of false fit other = (refl, refl)
@@ -149,31 +149,26 @@ space_is container style candidate =
     let s = side_of style.table box.fit (less_margins container.area.size (rect_or_zero (of_width field.InsetOrMargin style.margin container.area.size))) in
     ap₂ (λ (w h : Float). Definite (clamped w box.min.width box.max.width) and Definite (clamped h box.min.height box.max.height)) s.0 s.1
 
-laid_out_alone : {A : Type 0} (space : AvailableSize) (m : Talk A) → Asks (λ q. is_measure q ≡ true) m → Asks (LaidOutIn space) m
+laid_out_alone : {A : Type 0} (space : Size AvailableSpace) (m : Talk A) → Asks (λ q. is_measure q ≡ true) m → Asks (LaidOutIn space) m
 laid_out_alone space _ ends = ends
 laid_out_alone space _ (asks {q = MeasureBoth m} {next = next} p h) = asks {q = MeasureBoth m} {next = next} tt (λ r. laid_out_alone space (next r) (h r))
 laid_out_alone space _ (asks {q = MeasureWidth m} {next = next} p h) = asks {q = MeasureWidth m} {next = next} tt (λ r. laid_out_alone space (next r) (h r))
 laid_out_alone space _ (asks {q = MeasureHeight m} {next = next} p h) = asks {q = MeasureHeight m} {next = next} tt (λ r. laid_out_alone space (next r) (h r))
 laid_out_alone space _ (asks {q = LayOut l} p h) = absurd (false≢true p)
 
-keywords_measure : (node : ℕ) (style : Style) (box : ResolvedBox) (wide tall : SizingKeywordResolution) → Asks (λ q. is_measure q ≡ true) (keyword_sizes node style box (record { width = wide; height = tall }))
+keywords_measure : (node : ℕ) (style : Style) (box : ResolvedBox) (wide tall : Option SizingKeywordResolution) → Asks (λ q. is_measure q ≡ true) (keyword_sizes node style box (record { width = wide; height = tall }))
 unfolding keyword_sizes by_keywords in_turn width_as height_as ◌>>=◌
-keywords_measure node style box NoKeyword NoKeyword = ends
-keywords_measure node style box NoKeyword (Exact y) = ends
-keywords_measure node style box NoKeyword (Measure s) = asks refl (λ r. ends)
-keywords_measure node style box (Exact x) NoKeyword = ends
-keywords_measure node style box (Exact x) (Exact y) = ends
-keywords_measure node style box (Exact x) (Measure s) = asks refl (λ r. ends)
-keywords_measure node style box (Measure s) NoKeyword = asks refl (λ r. ends)
-keywords_measure node style box (Measure s) (Exact y) = asks refl (λ r. ends)
-keywords_measure node style box (Measure s) (Measure s') = asks refl (λ r. ends)
+keywords_measure node style _ (option.Some (Measure s)) (option.Some (Measure s')) = asks refl (λ r. ends)
+keywords_measure node style _ (option.Some (Measure s)) _ = asks refl (λ r. ends)
+keywords_measure node style _ _ (option.Some (Measure s)) = asks refl (λ r. ends)
+keywords_measure node style _ _ _ = ends
 
 pub space_is_the_block : SpaceIsTheBlock
 unfolding size_keywords keywords_of
 space_is_the_block container style candidate =
     let box = resolved_box container style candidate in
     let e = space_is container style candidate in (
-      asks_placed (LaidOutIn (space_of style box)) (λ (k : MaybeSize). Unit {0}) container style candidate
+      asks_placed (LaidOutIn (space_of style box)) (λ (k : Size (Option Float)). Unit {0}) container style candidate
           (laid_out_alone (space_of style box) _ (keywords_measure candidate.node style box _ _)) (always_any _) (λ known u. tt) (λ known u s. e),
       λ k. plain_asks (AskedIn (space_of style box)) container style candidate k e (λ s. e),
     )

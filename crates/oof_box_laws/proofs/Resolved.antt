@@ -1,4 +1,6 @@
 -- What a style comes to before the host is asked. Assumes nothing.
+use Rattle.std.specs.Prelude.{Float, None, Option, Some, option_map, unwrap_or}
+use Rattle.std.specs.Option.{option_or}
 use mathlib.Core.Path.{◌≡◌, refl, sym, ap, ap₂, ◌∙◌}
 use mathlib.Core.Logic.{◌⊎◌, inl, inr}
 use mathlib.Core.Bool.{Bool, true, false, cond}
@@ -6,14 +8,11 @@ use lib.Ieee.{Float, binary32}
 use lib.Ieee.Fits.{mul-fits}
 use Rattle.util.specs.Number.{◌⊕◌, ◌⊗◌, ◌⊘◌}
 use Rattle.util.specs.Order.{larger}
-use Rattle.util.specs.Maybe.{or_else, or_zero, unwrap_or, map, map_add, map_larger, map_clamped, clamped}
+use Rattle.util.specs.Maybe.{or_zero, map_add, map_larger, map_clamped, clamped}
 use Rattle.util.proofs.Laws.{larger_is_one}
 use Rattle.util_exact.proofs.Nothing.{nothing_added}
 use Rattle.geometry.specs.Geometry.{zero_size, definite, first_size, added_size, raised_size, clamped_size, rect_or_zero, completed, with_ratio}
-use Rattle.geometry.specs.declared.MaybeSize.{MaybeSize}
 use Rattle.geometry.specs.declared.Size.{Size}
-use Rattle.util.specs.declared.math.MaybeF32.{MaybeF32}
-use Rattle.util.specs.declared.math.MaybeF32.TheVariants.{None, Some}
 use Rattle.style.proofs.Laws.{percent_in_every_field, sum_in_every_field}
 use Rattle.style.specs.Resolve.{by_tag, resolved, maybe_resolved, resolved_rect, resolved_size}
 use Rattle.style.specs.Values.{is_content_box, is_scroll_container, differs, keyword_relative, self_relative}
@@ -25,7 +24,6 @@ use Rattle.style.specs.declared.Overflow.{Overflow}
 use Rattle.style.specs.declared.Style.{Style}
 use Rattle.style.specs.declared.alignment.AlignItemsKeyword.{AlignItemsKeyword}
 use Rattle.style.specs.declared.compact_length.CompactLength.{CompactLength}
-use Rattle.style.specs.declared.compact_length.LengthSize.{LengthSize}
 use Rattle.style.specs.declared.resolve.Field.{Field}
 use Rattle.style.specs.declared.resolve.Field.TheVariants as field
 use Rattle.style.specs.declared.resolve.Resolved.TheVariants.{Length}
@@ -78,7 +76,6 @@ comes_to f _ basis _ (as_percent) = refl
 comes_to f _ basis _ (as_sum) = refl
 
 comes_or_zero : (f : Field) (l : CompactLength) (basis x : Float) → Comes basis l x → or_zero (maybe_resolved f l basis) ≡ x
-unfolding unwrap_or
 comes_or_zero f l basis x e = rw (comes_to f l basis x e) refl
 
 pub percentages_of_the_width : PercentagesOfTheWidth
@@ -191,62 +188,62 @@ auto_size size l basis (inr e) = rw e refl
 auto_size bound l basis (inl e) = rw e refl
 auto_size bound l basis (inr e) = rw e refl
 
-left_out_lem : (sizing : BoxSizing) (edges : Size) → cond (is_content_box sizing) edges zero_size ≡ left_out sizing edges
+left_out_lem : (sizing : BoxSizing) (edges : Size Float) → cond (is_content_box sizing) edges zero_size ≡ left_out sizing edges
 left_out_lem BorderBox edges = refl
 left_out_lem ContentBox edges = refl
 
 -- a ratio leaves a side that is given
-completed_width : (r : Float) (w h : MaybeF32) (s : MaybeSize) (x : Float) → w ≡ Some x → s.width ≡ Some x → (completed r w h s).width ≡ Some x
+completed_width : (r : Float) (w h : Option Float) (s : Size (Option Float)) (x : Float) → w ≡ Some x → s.width ≡ Some x → (completed r w h s).width ≡ Some x
 unfolding completed
 completed_width r w None s x e f = rw e refl
 completed_width r w (Some h) s x e f = rw e f
 
-completed_height : (r : Float) (w h : MaybeF32) (s : MaybeSize) (x : Float) → h ≡ Some x → s.height ≡ Some x → (completed r w h s).height ≡ Some x
+completed_height : (r : Float) (w h : Option Float) (s : Size (Option Float)) (x : Float) → h ≡ Some x → s.height ≡ Some x → (completed r w h s).height ≡ Some x
 unfolding completed
 completed_height r None h s x e f = rw e refl
 completed_height r (Some w) h s x e f = rw e f
 
-pub ratio_width : (ratio : MaybeF32) (s : MaybeSize) (x : Float) → s.width ≡ Some x → (with_ratio ratio s).width ≡ Some x
+pub ratio_width : (ratio : Option Float) (s : Size (Option Float)) (x : Float) → s.width ≡ Some x → (with_ratio ratio s).width ≡ Some x
 unfolding with_ratio
 ratio_width None s x e = e
 ratio_width (Some r) s x e = completed_width r s.width s.height s x e e
 
-pub ratio_height : (ratio : MaybeF32) (s : MaybeSize) (x : Float) → s.height ≡ Some x → (with_ratio ratio s).height ≡ Some x
+pub ratio_height : (ratio : Option Float) (s : Size (Option Float)) (x : Float) → s.height ≡ Some x → (with_ratio ratio s).height ≡ Some x
 unfolding with_ratio
 ratio_height None s x e = e
 ratio_height (Some r) s x e = completed_height r s.width s.height s x e e
 
-lone_width : (ratio : MaybeF32) (s : MaybeSize) (r x : Float) → ratio ≡ Some r → s.width ≡ Some x → s.height ≡ None → (with_ratio ratio s).height ≡ Some (x ⊘ r)
+lone_width : (ratio : Option Float) (s : Size (Option Float)) (r x : Float) → ratio ≡ Some r → s.width ≡ Some x → s.height ≡ None → (with_ratio ratio s).height ≡ Some (x ⊘ r)
 unfolding with_ratio completed
 lone_width ratio s r x e f g = rw (e, f, g) refl
 
-lone_height : (ratio : MaybeF32) (s : MaybeSize) (r x : Float) → ratio ≡ Some r → s.width ≡ None → s.height ≡ Some x → (with_ratio ratio s).width ≡ Some (x ⊗ r)
+lone_height : (ratio : Option Float) (s : Size (Option Float)) (r x : Float) → ratio ≡ Some r → s.width ≡ None → s.height ≡ Some x → (with_ratio ratio s).width ≡ Some (x ⊗ r)
 unfolding with_ratio completed
 lone_height ratio s r x e f g = rw (e, f, g) refl
 
-no_side : (ratio : MaybeF32) (s : MaybeSize) → s.width ≡ None → s.height ≡ None → with_ratio ratio s ≡ s
+no_side : (ratio : Option Float) (s : Size (Option Float)) → s.width ≡ None → s.height ≡ None → with_ratio ratio s ≡ s
 unfolding with_ratio completed
 no_side None s e f = refl
 no_side (Some r) s e f = rw (e, f) refl
 
-added_is : (m : MaybeF32) (a b x : Float) → m ≡ Some x → a ≡ b → map_add m a ≡ Some (x ⊕ b)
-unfolding map_add map
+added_is : (m : Option Float) (a b x : Float) → m ≡ Some x → a ≡ b → map_add m a ≡ Some (x ⊕ b)
+unfolding map_add
 added_is m a b x e f = rw (e, f) refl
 
-none_added : (m : MaybeF32) (a : Float) → m ≡ None → map_add m a ≡ None
-unfolding map_add map
+none_added : (m : Option Float) (a : Float) → m ≡ None → map_add m a ≡ None
+unfolding map_add
 none_added m a e = rw e refl
 
-clamped_is : (m min max : MaybeF32) (x : Float) → m ≡ Some x → map_clamped m min max ≡ Some (clamped x min max)
-unfolding map_clamped map
+clamped_is : (m min max : Option Float) (x : Float) → m ≡ Some x → map_clamped m min max ≡ Some (clamped x min max)
+unfolding map_clamped
 clamped_is m min max x e = rw e refl
 
-none_clamped : (m min max : MaybeF32) → m ≡ None → map_clamped m min max ≡ None
-unfolding map_clamped map
+none_clamped : (m min max : Option Float) → m ≡ None → map_clamped m min max ≡ None
+unfolding map_clamped
 none_clamped m min max e = rw e refl
 
-raised_is : (m : MaybeF32) (e x : Float) → m ≡ Some x → map_larger (or_else m (Some e)) e ≡ Some (larger x e)
-unfolding map_larger map or_else
+raised_is : (m : Option Float) (e x : Float) → m ≡ Some x → map_larger (option_or m (Some e)) e ≡ Some (larger x e)
+unfolding map_larger
 raised_is m e x p = rw p refl
 
 larger_itself : (x : Float) → larger x x ≡ x
@@ -256,36 +253,36 @@ larger_itself x = go (larger_is_one x x)
     go (inl e) = e
     go (inr e) = e
 
-none_raised : (m : MaybeF32) (e : Float) → m ≡ None → map_larger (or_else m (Some e)) e ≡ Some e
-unfolding map_larger map or_else
+none_raised : (m : Option Float) (e : Float) → m ≡ None → map_larger (option_or m (Some e)) e ≡ Some e
+unfolding map_larger
 none_raised m e p = rw p (ap Some (larger_itself e))
 
 -- the sides of a style's size, min or max, before it is raised or clamped
-module _ (style : Style) (area edges : Size) (f : Field) (lengths : LengthSize) where
-  abbrev across : MaybeF32
+module _ (style : Style) (area edges : Size Float) (f : Field) (lengths : Size CompactLength) where
+  abbrev across : Option Float
   across = (style_size f lengths style area edges).width
 
-  abbrev down : MaybeF32
+  abbrev down : Option Float
   down = (style_size f lengths style area edges).height
 
   given_width : (x : Float) → Comes area.width lengths.width x → across ≡ Some (x ⊕ (left_out style.sizing edges).width)
   unfolding style_size added_size resolved_size
-  given_width x c = added_is _ _ _ x (ratio_width style.ratio _ x (comes_to f lengths.width area.width x c)) (ap (λ (s : Size). s.width) (left_out_lem style.sizing edges))
+  given_width x c = added_is _ _ _ x (ratio_width style.ratio _ x (comes_to f lengths.width area.width x c)) (ap (λ (s : Size Float). s.width) (left_out_lem style.sizing edges))
 
   given_height : (x : Float) → Comes area.height lengths.height x → down ≡ Some (x ⊕ (left_out style.sizing edges).height)
   unfolding style_size added_size resolved_size
-  given_height x c = added_is _ _ _ x (ratio_height style.ratio _ x (comes_to f lengths.height area.height x c)) (ap (λ (s : Size). s.height) (left_out_lem style.sizing edges))
+  given_height x c = added_is _ _ _ x (ratio_height style.ratio _ x (comes_to f lengths.height area.height x c)) (ap (λ (s : Size Float). s.height) (left_out_lem style.sizing edges))
 
   module _ (sizing : Sizing f) where
     width_by_ratio : (r x : Float) → style.ratio ≡ Some r → IsAutoSize lengths.width → Comes area.height lengths.height x → across ≡ Some (x ⊗ r ⊕ (left_out style.sizing edges).width)
     unfolding style_size added_size resolved_size
     width_by_ratio r x e a c =
-        added_is _ _ _ (x ⊗ r) (lone_height style.ratio _ r x e (auto_size sizing lengths.width area.width a) (comes_to f lengths.height area.height x c)) (ap (λ (s : Size). s.width) (left_out_lem style.sizing edges))
+        added_is _ _ _ (x ⊗ r) (lone_height style.ratio _ r x e (auto_size sizing lengths.width area.width a) (comes_to f lengths.height area.height x c)) (ap (λ (s : Size Float). s.width) (left_out_lem style.sizing edges))
 
     height_by_ratio : (r x : Float) → style.ratio ≡ Some r → IsAutoSize lengths.height → Comes area.width lengths.width x → down ≡ Some (x ⊘ r ⊕ (left_out style.sizing edges).height)
     unfolding style_size added_size resolved_size
     height_by_ratio r x e a c =
-        added_is _ _ _ (x ⊘ r) (lone_width style.ratio _ r x e (comes_to f lengths.width area.width x c) (auto_size sizing lengths.height area.height a)) (ap (λ (s : Size). s.height) (left_out_lem style.sizing edges))
+        added_is _ _ _ (x ⊘ r) (lone_width style.ratio _ r x e (comes_to f lengths.width area.width x c) (auto_size sizing lengths.height area.height a)) (ap (λ (s : Size Float). s.height) (left_out_lem style.sizing edges))
 
     auto_width_lem : style.ratio ≡ None → IsAutoSize lengths.width → across ≡ None
     unfolding style_size added_size resolved_size with_ratio
@@ -301,7 +298,7 @@ module _ (style : Style) (area edges : Size) (f : Field) (lengths : LengthSize) 
         let p = auto_size sizing lengths.width area.width a in
         let q = auto_size sizing lengths.height area.height b in
         let e = no_side style.ratio _ p q in
-        (none_added _ _ (ap (λ (s : MaybeSize). s.width) e ∙ p), none_added _ _ (ap (λ (s : MaybeSize). s.height) e ∙ q))
+        (none_added _ _ (ap (λ (s : Size (Option Float)). s.width) e ∙ p), none_added _ _ (ap (λ (s : Size (Option Float)). s.height) e ∙ q))
 
 pub sizes_of_its_box : SizesOfItsBox
 unfolding resolved_box clamped_size min_size raised_size first_size definite
@@ -331,7 +328,7 @@ ratio_completes container style candidate r x e =
       height = λ a c. clamped_is _ _ _ _ (height_by_ratio style area edges field.Size style.size size r x e a c);
     }
 
-two_sides : (w w' h h' : MaybeF32) → w ≡ w' → h ≡ h' → w by h ≡ w' by h'
+two_sides : (w w' h h' : Option Float) → w ≡ w' → h ≡ h' → w by h ≡ w' by h'
 two_sides w w' h h' e f = ap₂ ◌by◌ e f
 
 pub auto_is_no_size : AutoIsNoSize

@@ -1,4 +1,5 @@
 -- A second value has no say but in a sum, in the whole dialogue of a box. Assumes nothing.
+use Rattle.std.specs.Prelude.{Float}
 use mathlib.Core.Path.{◌≡◌, refl}
 use mathlib.Core.Bool.{Bool, true, false, cond}
 use lib.Dec.{eqb}
@@ -10,8 +11,7 @@ use Rattle.style.specs.Resolve.{resolved, maybe_resolved, resolved_rect, resolve
 use Rattle.style.proofs.Laws.{second_is_of_sums}
 use Rattle.style.specs.declared.Style.{Style}
 use Rattle.style.specs.declared.compact_length.CompactLength.{CompactLength}
-use Rattle.style.specs.declared.compact_length.LengthRect.{LengthRect}
-use Rattle.style.specs.declared.compact_length.LengthSize.{LengthSize}
+use Rattle.geometry.specs.declared.Rect.{Rect}
 use Rattle.style.specs.declared.resolve.Field.{Field}
 use Rattle.style.specs.declared.resolve.Field.TheVariants as field
 use Rattle.tree.specs.declared.layout.OofCandidate.{OofCandidate}
@@ -29,11 +29,11 @@ same f l basis = go (eqb l.tag 129) refl
     go true e = refl
     go false e = second_is_of_sums f _ l basis (eqb-false l.tag 129 e) refl refl
 
-same_rect : (f : Field) (r : LengthRect) (x y : Float) → resolved_rect f (rect_without_seconds r) x y ≡ resolved_rect f r x y
+same_rect : (f : Field) (r : Rect CompactLength) (x y : Float) → resolved_rect f (rect_without_seconds r) x y ≡ resolved_rect f r x y
 unfolding resolved_rect maybe_resolved
 same_rect f r x y = rw (same f r.left x, same f r.right x, same f r.top y, same f r.bottom y) refl
 
-same_size : (f : Field) (s : LengthSize) (basis : Size) → resolved_size f (size_without_seconds s) basis ≡ resolved_size f s basis
+same_size : (f : Field) (s : Size CompactLength) (basis : Size Float) → resolved_size f (size_without_seconds s) basis ≡ resolved_size f s basis
 unfolding resolved_size maybe_resolved
 same_size f s basis = rw (same f s.width basis.width, same f s.height basis.height) refl
 

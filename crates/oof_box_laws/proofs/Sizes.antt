@@ -4,15 +4,14 @@ use mathlib.Core.Logic.{◌⊎◌, inl, inr}
 use mathlib.Core.Bool.{Bool, true, false, false≢true, cond, not, ◌&&◌}
 use Prim.Native.Nat.{ℕ}
 use lib.Ieee.{Float, lt}
+use Rattle.std.specs.Prelude.{Option, Float, None, Some, is_some, option_map, unwrap_or}
+use Rattle.std.specs.declared.option.Option.TheVariants as option
 use Rattle.util.specs.Order.{larger}
-use Rattle.util.specs.Maybe.{present, unwrap_or, map, map_clamped, clamped}
+use Rattle.util.specs.Maybe.{map_clamped, clamped}
 use Rattle.util.specs.Laws.{AtOrAbove, AtOrBelow}
-use Rattle.util.specs.declared.math.MaybeF32.{MaybeF32}
-use Rattle.util.specs.declared.math.MaybeF32.TheVariants.{None, Some}
-use Rattle.util.proofs.Laws.{larger_bounds, larger_is_one, min_wins, max_binds, at_most_is_transitive}
+use Rattle.util.proofs.Laws.{larger_bounds, larger_is_one, min_wins, max_binds}
 use Rattle.geometry.specs.Geometry.{both_present, filled_size, clamped_size, clamped_floats, with_ratio}
 use Rattle.geometry.specs.declared.Size.{Size}
-use Rattle.geometry.specs.declared.MaybeSize.{MaybeSize}
 use Rattle.style.specs.Resolve.{by_tag, resolved}
 use Rattle.style.specs.declared.Style.{Style}
 use Rattle.style.specs.declared.compact_length.CompactLength.{CompactLength}
@@ -23,9 +22,8 @@ use Rattle.oof_resolve.specs.Resolved.{resolved_box}
 use Rattle.oof_resolve.specs.declared.ContainingBlock.{ContainingBlock}
 use Rattle.oof_resolve.specs.declared.ResolvedBox.{ResolvedBox}
 use Rattle.oof_common.specs.SizingKeyword.{if_absent, of_resolved, keyword_of, keywords_of}
-use Rattle.oof_common.specs.declared.sizing_keyword.SizingKeywords.{SizingKeywords}
 use Rattle.oof_common.specs.declared.sizing_keyword.SizingKeywordResolution.{SizingKeywordResolution}
-use Rattle.oof_common.specs.declared.sizing_keyword.SizingKeywordResolution.TheVariants.{NoKeyword, Exact, Measure}
+use Rattle.oof_common.specs.declared.sizing_keyword.SizingKeywordResolution.TheVariants.{Exact, Measure}
 use Rattle.oof_place.specs.Placing.{layout_of, box_layout}
 use Rattle.oof_box.specs.Talk.{Talk, done, ask, ◌>>=◌}
 use Rattle.oof_box.specs.Box.{placed, width_as, height_as, in_turn, by_keywords, raised_min, stretched, final_size, measured, keyword_sizes, size_keywords, stretch_ratio, ignores_ratio, widened, heightened, settled, ◌by◌}
@@ -33,21 +31,19 @@ use Rattle.oof_box.specs.declared.question.MeasureInput.{MeasureInput}
 use Rattle.oof_box.specs.declared.question.Question.TheVariants.{MeasureBoth}
 use Rattle.oof_box.specs.declared.sizing.Stretched.{Stretched}
 use Rattle.oof_box_laws.specs.Laws.{Always, now, later, SizeAlways, Measures, measures, MinHolds, MaxHolds, GivenSizeStays, NoSizeKeyword, Plain, stretchable, StretchFills, MeasuredIsTheReply, table_min, TableIsMeasured}
+use Rattle.oof_box.proofs.Floor.{onwards}
 use Rattle.oof_box_laws.proofs.Always.{always_map, always_any, size_from, size_always}
 use Rattle.oof_box_laws.proofs.Resolved.{ratio_width, ratio_height, auto_is_no_size}
 use Rattle.oof_box_laws.proofs.Clamp.{clamp_is_settled}
 
 -- ---- min: as step 2 has it, or raised for a table
 
-onwards : (e low x : Float) → AtOrAbove e low → AtOrAbove low x → AtOrAbove e x
-onwards e low x h k p = let a = h p in let b = k a.0 in (b.0, at_most_is_transitive e low x a.1 b.1)
-
-raised_keeps : (b : Bool) (min : MaybeF32) (fit low x : Float) (max : MaybeF32) → min ≡ Some low → AtOrAbove low (clamped x (raised_min b min fit) max)
-unfolding raised_min unwrap_or
+raised_keeps : (b : Bool) (min : Option Float) (fit low x : Float) (max : Option Float) → min ≡ Some low → AtOrAbove low (clamped x (raised_min b min fit) max)
+unfolding raised_min
 raised_keeps true min fit low x max e = rw e (onwards low (larger low fit) (clamped x (Some (larger low fit)) max) (larger_bounds low fit).0 (min_wins x (larger low fit) max))
 raised_keeps false min fit low x max e = rw e (min_wins x low max)
 
-kept_above : (min : MaybeF32) (low x : Float) (max : MaybeF32) → min ≡ Some low → AtOrAbove low (clamped x min max)
+kept_above : (min : Option Float) (low x : Float) (max : Option Float) → min ≡ Some low → AtOrAbove low (clamped x min max)
 kept_above min low x max e = rw e (min_wins x low max)
 
 -- what holds of a table's step 5 and of any other box's
@@ -76,13 +72,13 @@ not_above_larger low fit high h k = go (larger_is_one low fit)
     go (inl e) = rw (e, h) refl
     go (inr e) = rw (e, k) refl
 
-raised_binds : (b : Bool) (x low fit high : Float) (min max : MaybeF32) → min ≡ Some low → max ≡ Some high → lt high low ≡ false → (b ≡ true → lt high fit ≡ false)
+raised_binds : (b : Bool) (x low fit high : Float) (min max : Option Float) → min ≡ Some low → max ≡ Some high → lt high low ≡ false → (b ≡ true → lt high fit ≡ false)
     → AtOrBelow high (clamped x (raised_min b min fit) max)
-unfolding raised_min unwrap_or
+unfolding raised_min
 raised_binds true x low fit high min max e f h k = rw (e, f) (max_binds x high (Some (larger low fit)) (not_above_larger low fit high h (k refl)))
 raised_binds false x low fit high min max e f h k = rw (e, f) (max_binds x high (Some low) (rw h refl))
 
-kept_binds : (x low high : Float) (min max : MaybeF32) → min ≡ Some low → max ≡ Some high → lt high low ≡ false → AtOrBelow high (clamped x min max)
+kept_binds : (x low high : Float) (min max : Option Float) → min ≡ Some low → max ≡ Some high → lt high low ≡ false → AtOrBelow high (clamped x min max)
 kept_binds x low high min max e f h = rw (e, f) (max_binds x high (Some low) (rw h refl))
 
 -- the stretch-fit sizes are those of the axes
@@ -96,10 +92,10 @@ fit_down container style candidate = refl
 
 -- ---- a size that is given: clamped already
 
-settled_once : (m min max : MaybeF32) (x : Float) → map_clamped m min max ≡ Some x → clamped x min max ≡ x
-unfolding map_clamped map present unwrap_or
-settled_once None min max x e = absurd (false≢true (ap present e))
-settled_once (Some y) min max x e = let f = ap (λ (m : MaybeF32). unwrap_or m x) e in subst (λ (z : Float). clamped z min max ≡ z) f (clamp_is_settled y min max)
+settled_once : (m min max : Option Float) (x : Float) → map_clamped m min max ≡ Some x → clamped x min max ≡ x
+unfolding map_clamped
+settled_once None min max x e = absurd (false≢true (ap is_some e))
+settled_once (Some y) min max x e = let f = ap (λ (m : Option Float). unwrap_or m x) e in subst (λ (z : Float). clamped z min max ≡ z) f (clamp_is_settled y min max)
 
 pub given_width_settled : (container : ContainingBlock) (style : Style) (candidate : OofCandidate) (x : Float)
     → let box = resolved_box container style candidate in box.size.width ≡ Some x → clamped x box.min.width box.max.width ≡ x
@@ -111,114 +107,112 @@ pub given_height_settled : (container : ContainingBlock) (style : Style) (candid
 unfolding resolved_box clamped_size
 given_height_settled container style candidate x e = settled_once _ _ _ x e
 
-clamped_stays : (m min max : MaybeF32) (x : Float) → m ≡ Some x → clamped x min max ≡ x → map_clamped m min max ≡ Some x
-unfolding map_clamped map
+clamped_stays : (m min max : Option Float) (x : Float) → m ≡ Some x → clamped x min max ≡ x → map_clamped m min max ≡ Some x
+unfolding map_clamped
 clamped_stays m min max x e c = rw (e, c) refl
 
-settled_width : (ratio : MaybeF32) (box : ResolvedBox) (s : MaybeSize) (x : Float) → clamped x box.min.width box.max.width ≡ x → s.width ≡ Some x → (settled ratio box s).width ≡ Some x
+settled_width : (ratio : Option Float) (box : ResolvedBox) (s : Size (Option Float)) (x : Float) → clamped x box.min.width box.max.width ≡ x → s.width ≡ Some x → (settled ratio box s).width ≡ Some x
 unfolding settled clamped_size
 settled_width ratio box s x c e = clamped_stays _ box.min.width box.max.width x (ratio_width ratio s x e) c
 
-settled_height : (ratio : MaybeF32) (box : ResolvedBox) (s : MaybeSize) (x : Float) → clamped x box.min.height box.max.height ≡ x → s.height ≡ Some x → (settled ratio box s).height ≡ Some x
+settled_height : (ratio : Option Float) (box : ResolvedBox) (s : Size (Option Float)) (x : Float) → clamped x box.min.height box.max.height ≡ x → s.height ≡ Some x → (settled ratio box s).height ≡ Some x
 unfolding settled clamped_size
 settled_height ratio box s x c e = clamped_stays _ box.min.height box.max.height x (ratio_height ratio s x e) c
 
 -- step 4: the other side's keyword
-known_width : (node : ℕ) (style : Style) (box : ResolvedBox) (x : Float) → clamped x box.min.width box.max.width ≡ x → box.size.width ≡ Some x → (tall : SizingKeywordResolution)
-    → Always (λ (k : MaybeSize). k.width ≡ Some x) (keyword_sizes node style box (record { width = NoKeyword; height = tall }))
+known_width : (node : ℕ) (style : Style) (box : ResolvedBox) (x : Float) → clamped x box.min.width box.max.width ≡ x → box.size.width ≡ Some x → (tall : Option SizingKeywordResolution)
+    → Always (λ (k : Size (Option Float)). k.width ≡ Some x) (keyword_sizes node style box (record { width = option.None; height = tall }))
 unfolding keyword_sizes by_keywords in_turn width_as height_as ◌>>=◌
-known_width node style box x c e NoKeyword = now e
-known_width node style box x c e (Exact y) = now (settled_width style.ratio box (box.size.width by Some y) x c e)
-known_width node style box x c e (Measure space) = later (λ r. now (settled_width style.ratio box (box.size.width by Some r) x c e))
+known_width node style box x c e option.None = now e
+known_width node style box x c e (option.Some (Exact y)) = now (settled_width style.ratio box (box.size.width by Some y) x c e)
+known_width node style box x c e (option.Some (Measure space)) = later (λ r. now (settled_width style.ratio box (box.size.width by Some r) x c e))
 
-known_height : (node : ℕ) (style : Style) (box : ResolvedBox) (x : Float) → clamped x box.min.height box.max.height ≡ x → box.size.height ≡ Some x → (wide : SizingKeywordResolution)
-    → Always (λ (k : MaybeSize). k.height ≡ Some x) (keyword_sizes node style box (record { width = wide; height = NoKeyword }))
+known_height : (node : ℕ) (style : Style) (box : ResolvedBox) (x : Float) → clamped x box.min.height box.max.height ≡ x → box.size.height ≡ Some x → (wide : Option SizingKeywordResolution)
+    → Always (λ (k : Size (Option Float)). k.height ≡ Some x) (keyword_sizes node style box (record { width = wide; height = option.None }))
 unfolding keyword_sizes by_keywords in_turn width_as height_as ◌>>=◌
-known_height node style box x c e NoKeyword = now e
-known_height node style box x c e (Exact y) = now (settled_height style.ratio box (Some y by box.size.height) x c e)
-known_height node style box x c e (Measure space) = later (λ r. now (settled_height style.ratio box (Some r by box.size.height) x c e))
+known_height node style box x c e option.None = now e
+known_height node style box x c e (option.Some (Exact y)) = now (settled_height style.ratio box (Some y by box.size.height) x c e)
+known_height node style box x c e (option.Some (Measure space)) = later (λ r. now (settled_height style.ratio box (Some r by box.size.height) x c e))
 
-pub no_keyword : (m : MaybeF32) (k : SizingKeywordResolution) (x : Float) → m ≡ Some x → if_absent m k ≡ NoKeyword
+pub no_keyword : (m : Option Float) (k : Option SizingKeywordResolution) (x : Float) → m ≡ Some x → if_absent m k ≡ option.None
 unfolding if_absent
 no_keyword m k x e = rw e refl
 
 -- step 5
-is_present : (m : MaybeF32) (x : Float) → m ≡ Some x → present m ≡ true
-unfolding present
+is_present : (m : Option Float) (x : Float) → m ≡ Some x → is_some m ≡ true
 is_present m x e = rw e refl
 
-tall_width : (ratio : MaybeF32) (box : ResolvedBox) (down : Bool) (known : MaybeSize) (x : Float) → clamped x box.min.width box.max.width ≡ x → known.width ≡ Some x → (heightened ratio box down known).width ≡ Some x
+tall_width : (ratio : Option Float) (box : ResolvedBox) (down : Bool) (known : Size (Option Float)) (x : Float) → clamped x box.min.width box.max.width ≡ x → known.width ≡ Some x → (heightened ratio box down known).width ≡ Some x
 unfolding heightened
-tall_width ratio box down known x c e = go (down && not (present known.height))
+tall_width ratio box down known x c e = go (down && not (is_some known.height))
   where
     go : (b : Bool) → (cond b (settled ratio box (known.width by Some box.fit.height)) known).width ≡ Some x
     go true = settled_width ratio box (known.width by Some box.fit.height) x c e
     go false = e
 
-wide_height : (ratio : MaybeF32) (box : ResolvedBox) (across : Bool) (known : MaybeSize) (x : Float) → clamped x box.min.height box.max.height ≡ x → known.height ≡ Some x → (widened ratio box across known).height ≡ Some x
+wide_height : (ratio : Option Float) (box : ResolvedBox) (across : Bool) (known : Size (Option Float)) (x : Float) → clamped x box.min.height box.max.height ≡ x → known.height ≡ Some x → (widened ratio box across known).height ≡ Some x
 unfolding widened
 wide_height ratio box true known x c e = settled_height ratio box (Some box.fit.width by known.height) x c e
 wide_height ratio box false known x c e = e
 
-not_widened : (ratio : MaybeF32) (box : ResolvedBox) (across : Bool) (known : MaybeSize) → across ≡ false → widened ratio box across known ≡ known
+not_widened : (ratio : Option Float) (box : ResolvedBox) (across : Bool) (known : Size (Option Float)) → across ≡ false → widened ratio box across known ≡ known
 unfolding widened
 not_widened ratio box across known a = rw a refl
 
-not_heightened : (ratio : MaybeF32) (box : ResolvedBox) (down : Bool) (known : MaybeSize) → down ≡ false → heightened ratio box down known ≡ known
+not_heightened : (ratio : Option Float) (box : ResolvedBox) (down : Bool) (known : Size (Option Float)) → down ≡ false → heightened ratio box down known ≡ known
 unfolding heightened
 not_heightened ratio box down known d = rw d refl
 
-present_and : (m : MaybeF32) (x : Float) (b : Bool) → m ≡ Some x → not (present m) && b ≡ false
+present_and : (m : Option Float) (x : Float) (b : Bool) → m ≡ Some x → not (is_some m) && b ≡ false
 present_and m x b e = rw (is_present m x e) refl
 
-unraised : (b : Bool) (min : MaybeF32) (fit : Float) → b ≡ false → raised_min b min fit ≡ min
+unraised : (b : Bool) (min : Option Float) (fit : Float) → b ≡ false → raised_min b min fit ≡ min
 unfolding raised_min
 unraised b min fit e = rw e refl
 
 -- a side of the final size that is known, with the min of step 2
-filled_by : (m min min' max : MaybeF32) (x y : Float) → clamped x min max ≡ x → m ≡ Some x → min' ≡ min → clamped (unwrap_or m y) min' max ≡ x
-unfolding unwrap_or
+filled_by : (m min min' max : Option Float) (x y : Float) → clamped x min max ≡ x → m ≡ Some x → min' ≡ min → clamped (unwrap_or m y) min' max ≡ x
 filled_by m min min' max x y c e f = rw (e, f) c
 
 -- a side that is known stays known
-pub told_width : (style : Style) (box : ResolvedBox) (known : MaybeSize) (x : Float) → clamped x box.min.width box.max.width ≡ x → known.width ≡ Some x
+pub told_width : (style : Style) (box : ResolvedBox) (known : Size (Option Float)) (x : Float) → clamped x box.min.width box.max.width ≡ x → known.width ≡ Some x
     → (stretched style box known).known.width ≡ Some x
 unfolding stretched
 told_width style box known x c e =
     either (λ at. at.known.width ≡ Some x) style.table _ _ (λ t. e)
-    (λ t. tall_width _ box _ _ x c (ap (λ (k : MaybeSize). k.width) (not_widened _ box _ known (present_and known.width x _ e)) ∙ e))
+    (λ t. tall_width _ box _ _ x c (ap (λ (k : Size (Option Float)). k.width) (not_widened _ box _ known (present_and known.width x _ e)) ∙ e))
 
-pub told_height : (style : Style) (box : ResolvedBox) (known : MaybeSize) (x : Float) → clamped x box.min.height box.max.height ≡ x → known.height ≡ Some x
+pub told_height : (style : Style) (box : ResolvedBox) (known : Size (Option Float)) (x : Float) → clamped x box.min.height box.max.height ≡ x → known.height ≡ Some x
     → (stretched style box known).known.height ≡ Some x
 unfolding stretched
 told_height style box known x c e =
     either (λ at. at.known.height ≡ Some x) style.table _ _ (λ t. e)
-    (λ t. ap (λ (k : MaybeSize). k.height) (not_heightened _ box _ _ (present_and known.height x _ e)) ∙ wide_height _ box _ known x c e)
+    (λ t. ap (λ (k : Size (Option Float)). k.height) (not_heightened _ box _ _ (present_and known.height x _ e)) ∙ wide_height _ box _ known x c e)
 
 -- with the min of step 2
-own_min_width : (style : Style) (box : ResolvedBox) (known : MaybeSize) (x : Float) → known.width ≡ Some x → (stretched style box known).min.width ≡ box.min.width
+own_min_width : (style : Style) (box : ResolvedBox) (known : Size (Option Float)) (x : Float) → known.width ≡ Some x → (stretched style box known).min.width ≡ box.min.width
 unfolding stretched
 own_min_width style box known x e =
     either (λ at. at.min.width ≡ box.min.width) style.table _ _ (λ t. unraised _ box.min.width box.fit.width (present_and known.width x _ e)) (λ t. refl)
 
-own_min_height : (style : Style) (box : ResolvedBox) (known : MaybeSize) (x : Float) → known.height ≡ Some x → (stretched style box known).min.height ≡ box.min.height
+own_min_height : (style : Style) (box : ResolvedBox) (known : Size (Option Float)) (x : Float) → known.height ≡ Some x → (stretched style box known).min.height ≡ box.min.height
 unfolding stretched
 own_min_height style box known x e =
     either (λ at. at.min.height ≡ box.min.height) style.table _ _ (λ t. unraised _ box.min.height box.fit.height (present_and known.height x _ e)) (λ t. refl)
 
-pub stretched_width : (style : Style) (box : ResolvedBox) (known : MaybeSize) (x : Float) → clamped x box.min.width box.max.width ≡ x → known.width ≡ Some x → (s : Size)
+pub stretched_width : (style : Style) (box : ResolvedBox) (known : Size (Option Float)) (x : Float) → clamped x box.min.width box.max.width ≡ x → known.width ≡ Some x → (s : Size Float)
     → (final_size box (stretched style box known) s).width ≡ x
 unfolding final_size clamped_floats filled_size
 stretched_width style box known x c e s = filled_by _ box.min.width _ box.max.width x s.width c (told_width style box known x c e) (own_min_width style box known x e)
 
-pub stretched_height : (style : Style) (box : ResolvedBox) (known : MaybeSize) (x : Float) → clamped x box.min.height box.max.height ≡ x → known.height ≡ Some x → (s : Size)
+pub stretched_height : (style : Style) (box : ResolvedBox) (known : Size (Option Float)) (x : Float) → clamped x box.min.height box.max.height ≡ x → known.height ≡ Some x → (s : Size Float)
     → (final_size box (stretched style box known) s).height ≡ x
 unfolding final_size clamped_floats filled_size
 stretched_height style box known x c e s = filled_by _ box.min.height _ box.max.height x s.height c (told_height style box known x c e) (own_min_height style box known x e)
 
 pub width_known : (container : ContainingBlock) (style : Style) (candidate : OofCandidate) (x : Float)
     → let box = resolved_box container style candidate in
-    box.size.width ≡ Some x → Always (λ (k : MaybeSize). k.width ≡ Some x) (keyword_sizes candidate.node style box (size_keywords style box))
+    box.size.width ≡ Some x → Always (λ (k : Size (Option Float)). k.width ≡ Some x) (keyword_sizes candidate.node style box (size_keywords style box))
 unfolding size_keywords keywords_of
 width_known container style candidate x e =
     let box = resolved_box container style candidate in
@@ -226,7 +220,7 @@ width_known container style candidate x e =
 
 pub height_known : (container : ContainingBlock) (style : Style) (candidate : OofCandidate) (x : Float)
     → let box = resolved_box container style candidate in
-    box.size.height ≡ Some x → Always (λ (k : MaybeSize). k.height ≡ Some x) (keyword_sizes candidate.node style box (size_keywords style box))
+    box.size.height ≡ Some x → Always (λ (k : Size (Option Float)). k.height ≡ Some x) (keyword_sizes candidate.node style box (size_keywords style box))
 unfolding size_keywords keywords_of
 height_known container style candidate x e =
     let box = resolved_box container style candidate in
@@ -234,19 +228,19 @@ height_known container style candidate x e =
 
 pub given_size_stays : GivenSizeStays
 given_size_stays container style candidate x = (
-  λ e. size_from (λ (k : MaybeSize). k.width ≡ Some x) (λ s. s.width ≡ x) container style candidate (width_known container style candidate x e)
+  λ e. size_from (λ (k : Size (Option Float)). k.width ≡ Some x) (λ s. s.width ≡ x) container style candidate (width_known container style candidate x e)
       (λ known k s. stretched_width style (resolved_box container style candidate) known x (given_width_settled container style candidate x e) k s),
-  λ e. size_from (λ (k : MaybeSize). k.height ≡ Some x) (λ s. s.height ≡ x) container style candidate (height_known container style candidate x e)
+  λ e. size_from (λ (k : Size (Option Float)). k.height ≡ Some x) (λ s. s.height ≡ x) container style candidate (height_known container style candidate x e)
       (λ known k s. stretched_height style (resolved_box container style candidate) known x (given_height_settled container style candidate x e) k s),
 )
 
 -- ---- max
 
 -- a side that step 2 has is known after step 4
-known_or_absent : (m : MaybeF32) (known : MaybeSize → MaybeF32) (talk : Talk MaybeSize) → ((x : Float) → m ≡ Some x → Always (λ (k : MaybeSize). known k ≡ Some x) talk)
-    → Always (λ (k : MaybeSize). (m ≡ None) ⊎ (present (known k) ≡ true)) talk
-known_or_absent None known talk f = always_map (λ (k : MaybeSize). Unit {0}) _ talk (λ k u. inl refl) (always_any talk)
-known_or_absent (Some x) known talk f = always_map (λ (k : MaybeSize). known k ≡ Some x) _ talk (λ k e. inr (is_present (known k) x e)) (f x refl)
+known_or_absent : (m : Option Float) (known : Size (Option Float) → Option Float) (talk : Talk (Size (Option Float))) → ((x : Float) → m ≡ Some x → Always (λ (k : Size (Option Float)). known k ≡ Some x) talk)
+    → Always (λ (k : Size (Option Float)). (m ≡ None) ⊎ (is_some (known k) ≡ true)) talk
+known_or_absent None known talk f = always_map (λ (k : Size (Option Float)). Unit {0}) _ talk (λ k u. inl refl) (always_any talk)
+known_or_absent (Some x) known talk f = always_map (λ (k : Size (Option Float)). known k ≡ Some x) _ talk (λ k e. inr (is_present (known k) x e)) (f x refl)
 
 and_false : (b c : Bool) → c ≡ false → b && c ≡ false
 and_false true c e = e
@@ -256,8 +250,8 @@ not_stretchable : (style : Style) → style.table ≡ true → stretchable style
 not_stretchable style t = and_false (not style.replaced) (not style.table) (ap not t)
 
 -- a table's min is raised where its side is absent and stretches
-raised_where : (m k : MaybeF32) (a : OofAxis) (plain : Bool) → (m ≡ None) ⊎ (present k ≡ true) → plain ≡ false → not (present k) && stretches a plain ≡ true → (m ≡ None) × (stretches a false ≡ true)
-raised_where m k a plain o p t = subst (λ (b : Bool). (m ≡ None) × (stretches a b ≡ true)) p (go (present k) (stretches a plain) o t)
+raised_where : (m k : Option Float) (a : OofAxis) (plain : Bool) → (m ≡ None) ⊎ (is_some k ≡ true) → plain ≡ false → not (is_some k) && stretches a plain ≡ true → (m ≡ None) × (stretches a false ≡ true)
+raised_where m k a plain o p t = subst (λ (b : Bool). (m ≡ None) × (stretches a b ≡ true)) p (go (is_some k) (stretches a plain) o t)
   where
     go : (b c : Bool) → (m ≡ None) ⊎ (b ≡ true) → not b && c ≡ true → (m ≡ None) × (c ≡ true)
     go true c o t = absurd (false≢true t)
@@ -268,14 +262,14 @@ pub max_holds : MaxHolds
 unfolding final_size clamped_floats stretched
 max_holds container style candidate low high =
     let box = resolved_box container style candidate in (
-      λ e f h k. size_from (λ (known : MaybeSize). (box.size.width ≡ None) ⊎ (present known.width ≡ true)) (λ s. AtOrBelow high s.width) container style candidate
-          (known_or_absent box.size.width (λ (known : MaybeSize). known.width) _ (width_known container style candidate))
+      λ e f h k. size_from (λ (known : Size (Option Float)). (box.size.width ≡ None) ⊎ (is_some known.width ≡ true)) (λ s. AtOrBelow high s.width) container style candidate
+          (known_or_absent box.size.width (λ (known : Size (Option Float)). known.width) _ (width_known container style candidate))
           (λ known o s. either (λ at. AtOrBelow high (clamped (filled_size at.known s).width at.min.width box.max.width)) style.table _ _
           (λ t. raised_binds _ _ low box.fit.width high box.min.width box.max.width e f h
           (λ b. (let w = raised_where box.size.width known.width box.horizontal _ o (not_stretchable style t) b in rw (fit_across container style candidate) (k t w.0 w.1))))
           (λ t. kept_binds _ low high box.min.width box.max.width e f h)),
-      λ e f h k. size_from (λ (known : MaybeSize). (box.size.height ≡ None) ⊎ (present known.height ≡ true)) (λ s. AtOrBelow high s.height) container style candidate
-          (known_or_absent box.size.height (λ (known : MaybeSize). known.height) _ (height_known container style candidate))
+      λ e f h k. size_from (λ (known : Size (Option Float)). (box.size.height ≡ None) ⊎ (is_some known.height ≡ true)) (λ s. AtOrBelow high s.height) container style candidate
+          (known_or_absent box.size.height (λ (known : Size (Option Float)). known.height) _ (height_known container style candidate))
           (λ known o s. either (λ at. AtOrBelow high (clamped (filled_size at.known s).height at.min.height box.max.height)) style.table _ _
           (λ t. raised_binds _ _ low box.fit.height high box.min.height box.max.height e f h
           (λ b. (let w = raised_where box.size.height known.height box.vertical _ o (not_stretchable style t) b in rw (fit_down container style candidate) (k t w.0 w.1))))
@@ -284,11 +278,11 @@ max_holds container style candidate low high =
 
 -- ---- an auto size, without ratio and keyword: stretched to its stretch-fit size, clamped, or still absent
 
-no_keywords : (node : ℕ) (style : Style) (box : ResolvedBox) (keywords : SizingKeywords) → keywords.width ≡ NoKeyword → keywords.height ≡ NoKeyword → keyword_sizes node style box keywords ≡ done box.size
+no_keywords : (node : ℕ) (style : Style) (box : ResolvedBox) (keywords : Size (Option SizingKeywordResolution)) → keywords.width ≡ option.None → keywords.height ≡ option.None → keyword_sizes node style box keywords ≡ done box.size
 unfolding keyword_sizes
 no_keywords node style box keywords p q = rw (p, q) refl
 
-or_none : (b : Bool) (ratio : MaybeF32) → ratio ≡ None → cond b None ratio ≡ None
+or_none : (b : Bool) (ratio : Option Float) → ratio ≡ None → cond b None ratio ≡ None
 or_none true ratio e = refl
 or_none false ratio e = e
 
@@ -296,41 +290,40 @@ no_ratio : (style : Style) (box : ResolvedBox) (across down : Bool) → style.ra
 unfolding stretch_ratio
 no_ratio style box across down e = or_none (ignores_ratio box across down) style.ratio e
 
-absent_and : (m : MaybeF32) (b c : Bool) → m ≡ None → b ≡ c → not (present m) && b ≡ c
-unfolding present
+absent_and : (m : Option Float) (b c : Bool) → m ≡ None → b ≡ c → not (is_some m) && b ≡ c
 absent_and m b c e f = rw e f
 
-abbrev pub fit_if : Bool → Float → MaybeF32 → MaybeF32 → MaybeF32
+abbrev pub fit_if : Bool → Float → Option Float → Option Float → Option Float
 fit_if b fit min max = cond b (Some (clamped fit min max)) None
 
 -- clamped again
-again : (b : Bool) (fit : Float) (min max m : MaybeF32) → m ≡ fit_if b fit min max → map_clamped m min max ≡ fit_if b fit min max
-unfolding map_clamped map
+again : (b : Bool) (fit : Float) (min max m : Option Float) → m ≡ fit_if b fit min max → map_clamped m min max ≡ fit_if b fit min max
+unfolding map_clamped
 again true fit min max m e = rw (e, clamp_is_settled fit min max) refl
 again false fit min max m e = rw e refl
 
-wide_auto : (ratio : MaybeF32) (box : ResolvedBox) (across b : Bool) (known : MaybeSize) → ratio ≡ None → across ≡ b → known.width ≡ None → (widened ratio box across known).width ≡ fit_if b box.fit.width box.min.width box.max.width
-unfolding widened settled clamped_size with_ratio map_clamped map
+wide_auto : (ratio : Option Float) (box : ResolvedBox) (across b : Bool) (known : Size (Option Float)) → ratio ≡ None → across ≡ b → known.width ≡ None → (widened ratio box across known).width ≡ fit_if b box.fit.width box.min.width box.max.width
+unfolding widened settled clamped_size with_ratio map_clamped
 wide_auto ratio box across true known r a e = rw (r, a) refl
 wide_auto ratio box across false known r a e = rw (r, a) e
 
-tall_auto : (ratio : MaybeF32) (box : ResolvedBox) (down b : Bool) (known : MaybeSize) → ratio ≡ None → known.width ≡ fit_if b box.fit.width box.min.width box.max.width
+tall_auto : (ratio : Option Float) (box : ResolvedBox) (down b : Bool) (known : Size (Option Float)) → ratio ≡ None → known.width ≡ fit_if b box.fit.width box.min.width box.max.width
     → (heightened ratio box down known).width ≡ fit_if b box.fit.width box.min.width box.max.width
 unfolding heightened settled clamped_size with_ratio
-tall_auto ratio box down b known r e = rw r (go (down && not (present known.height)))
+tall_auto ratio box down b known r e = rw r (go (down && not (is_some known.height)))
   where
     go : (d : Bool) → (cond d (settled None box (known.width by Some box.fit.height)) known).width ≡ fit_if b box.fit.width box.min.width box.max.width
     go true = again b box.fit.width box.min.width box.max.width known.width e
     go false = e
 
-wide_leaves : (ratio : MaybeF32) (box : ResolvedBox) (across : Bool) (known : MaybeSize) → ratio ≡ None → known.height ≡ None → (widened ratio box across known).height ≡ None
-unfolding widened settled clamped_size with_ratio map_clamped map
+wide_leaves : (ratio : Option Float) (box : ResolvedBox) (across : Bool) (known : Size (Option Float)) → ratio ≡ None → known.height ≡ None → (widened ratio box across known).height ≡ None
+unfolding widened settled clamped_size with_ratio map_clamped
 wide_leaves ratio box true known r e = rw (r, e) refl
 wide_leaves ratio box false known r e = e
 
-tall_fills : (ratio : MaybeF32) (box : ResolvedBox) (down b : Bool) (known : MaybeSize) → ratio ≡ None → down ≡ b → known.height ≡ None
+tall_fills : (ratio : Option Float) (box : ResolvedBox) (down b : Bool) (known : Size (Option Float)) → ratio ≡ None → down ≡ b → known.height ≡ None
     → (heightened ratio box down known).height ≡ fit_if b box.fit.height box.min.height box.max.height
-unfolding heightened settled clamped_size with_ratio map_clamped map present
+unfolding heightened settled clamped_size with_ratio map_clamped
 tall_fills ratio box down true known r d e = rw (r, d, e) refl
 tall_fills ratio box down false known r d e = rw (r, d) e
 
@@ -356,7 +349,7 @@ module _ (style : Style) (box : ResolvedBox) (b : Bool) (ratio : style.ratio ≡
 pub known_is : {A : Type 0} (m : Talk A) (a : A) → m ≡ done a → Always (λ (k : A). k ≡ a) m
 known_is m a e = rw e (now refl)
 
-no_size_keyword : (l : CompactLength) (stretch basis : Float) → NoSizeKeyword l → keyword_of l stretch basis ≡ NoKeyword
+no_size_keyword : (l : CompactLength) (stretch basis : Float) → NoSizeKeyword l → keyword_of l stretch basis ≡ option.None
 unfolding keyword_of of_resolved resolved by_tag
 no_size_keyword l stretch basis (inl e) = rw e refl
 no_size_keyword l stretch basis (inr (inl e)) = rw e refl
@@ -364,7 +357,7 @@ no_size_keyword l stretch basis (inr (inr (inl e))) = rw e refl
 no_size_keyword l stretch basis (inr (inr (inr (inl e)))) = rw e refl
 no_size_keyword l stretch basis (inr (inr (inr (inr e)))) = rw e refl
 
-none_if_absent : (m : MaybeF32) (k : SizingKeywordResolution) → k ≡ NoKeyword → if_absent m k ≡ NoKeyword
+none_if_absent : (m : Option Float) (k : Option SizingKeywordResolution) → k ≡ option.None → if_absent m k ≡ option.None
 unfolding if_absent
 none_if_absent None k e = e
 none_if_absent (Some x) k e = refl
@@ -376,17 +369,16 @@ plain_keywords node style box k =
     (none_if_absent box.size.height _ (no_size_keyword style.size.height _ _ k.height))
 
 -- the final size by the size that step 2 left
-from_step_two : (P : Size → Type 0) (container : ContainingBlock) (style : Style) (candidate : OofCandidate)
+from_step_two : (P : Size Float → Type 0) (container : ContainingBlock) (style : Style) (candidate : OofCandidate)
     → let box = resolved_box container style candidate in
-    Plain style → ((s : Size) → P (final_size box (stretched style box box.size) s)) → SizeAlways P container style candidate
+    Plain style → ((s : Size Float) → P (final_size box (stretched style box box.size) s)) → SizeAlways P container style candidate
 from_step_two P container style candidate k f =
     let box = resolved_box container style candidate in
-    size_from (λ (known : MaybeSize). known ≡ box.size) P container style candidate
+    size_from (λ (known : Size (Option Float)). known ≡ box.size) P container style candidate
     (known_is (keyword_sizes candidate.node style box (size_keywords style box)) box.size (plain_keywords candidate.node style box k))
     (λ known e s. rw e (f s))
 
-pub stretch_side : (m min min' max : MaybeF32) (fit y : Float) → m ≡ fit_if true fit min max → min' ≡ min → clamped (unwrap_or m y) min' max ≡ clamped fit min max
-unfolding unwrap_or
+pub stretch_side : (m min min' max : Option Float) (fit y : Float) → m ≡ fit_if true fit min max → min' ≡ min → clamped (unwrap_or m y) min' max ≡ clamped fit min max
 stretch_side m min min' max fit y e f = rw (e, f) (clamp_is_settled fit min max)
 
 pub stretch_fills : StretchFills
@@ -396,23 +388,23 @@ stretch_fills container style candidate k t =
     let box = resolved_box container style candidate in (
       λ e s. (let h = auto_width style box true k.ratio t (z.width k.ratio e) s in
           from_step_two (λ z. z.width ≡ clamped (stretch_fit box.horizontal) box.min.width box.max.width) container style candidate k
-          (λ s. stretch_side (stretched style box box.size).known.width box.min.width _ box.max.width box.fit.width s.width h.0 (ap (λ (m : MaybeSize). m.width) h.1)
+          (λ s. stretch_side (stretched style box box.size).known.width box.min.width _ box.max.width box.fit.width s.width h.0 (ap (λ (m : Size (Option Float)). m.width) h.1)
           ∙ ap (λ (x : Float). clamped x box.min.width box.max.width) (fit_across container style candidate))),
       λ e s. (let h = auto_height style box true k.ratio t (z.height k.ratio e) s in
           from_step_two (λ z. z.height ≡ clamped (stretch_fit box.vertical) box.min.height box.max.height) container style candidate k
-          (λ s. stretch_side (stretched style box box.size).known.height box.min.height _ box.max.height box.fit.height s.height h.0 (ap (λ (m : MaybeSize). m.height) h.1)
+          (λ s. stretch_side (stretched style box box.size).known.height box.min.height _ box.max.height box.fit.height s.height h.0 (ap (λ (m : Size (Option Float)). m.height) h.1)
           ∙ ap (λ (x : Float). clamped x box.min.height box.max.height) (fit_down container style candidate))),
     )
 
 -- ---- a side that is still absent: step 6 asks
 
-not_both_width : (a : MaybeSize) → a.width ≡ None → both_present a ≡ false
-unfolding both_present present
+not_both_width : (a : Size (Option Float)) → a.width ≡ None → both_present a ≡ false
+unfolding both_present
 not_both_width a e = rw e refl
 
-not_both_height : (a : MaybeSize) → a.height ≡ None → both_present a ≡ false
-unfolding both_present present
-not_both_height a e = and_false (present a.width) (present a.height) (ap present e)
+not_both_height : (a : Size (Option Float)) → a.height ≡ None → both_present a ≡ false
+unfolding both_present
+not_both_height a e = and_false (is_some a.width) (is_some a.height) (ap is_some e)
 
 asks : (node : ℕ) (box : ResolvedBox) (at : Stretched) → both_present at.known ≡ false
     → measured node box at ≡ ask (MeasureBoth (record { node = node; known = at.known; space = box.space })) (λ r. done (final_size box at r))
@@ -420,10 +412,10 @@ unfolding measured ◌>>=◌
 asks node box at e = rw e refl
 
 -- the question, its reply and the outcome
-asks_both : (P : MeasureInput → Size → Size → Type 0) (container : ContainingBlock) (style : Style) (candidate : OofCandidate)
+asks_both : (P : MeasureInput → Size Float → Size Float → Type 0) (container : ContainingBlock) (style : Style) (candidate : OofCandidate)
     → let box = resolved_box container style candidate in let at = stretched style box box.size in
     Plain style → both_present at.known ≡ false
-    → ((r : Size) → P (record { node = candidate.node; known = at.known; space = box.space }) r (final_size box at r))
+    → ((r : Size Float) → P (record { node = candidate.node; known = at.known; space = box.space }) r (final_size box at r))
     → Measures (λ m r p. P m r p.outcome.layout.size) (placed container style candidate)
 unfolding placed box_layout layout_of ◌>>=◌
 asks_both P container style candidate k n f =
@@ -431,8 +423,7 @@ asks_both P container style candidate k n f =
     rw (plain_keywords candidate.node style box k, asks candidate.node box (stretched style box box.size) n)
     (measures (λ r. later (λ laid. now (f r))))
 
-absent_side : (m min min' max : MaybeF32) (y : Float) → m ≡ None → min' ≡ min → clamped (unwrap_or m y) min' max ≡ clamped y min max
-unfolding unwrap_or
+absent_side : (m min min' max : Option Float) (y : Float) → m ≡ None → min' ≡ min → clamped (unwrap_or m y) min' max ≡ clamped y min max
 absent_side m min min' max y e f = rw (e, f) refl
 
 pub measured_is_the_reply : MeasuredIsTheReply
@@ -443,10 +434,10 @@ measured_is_the_reply container style candidate k t =
     let at = stretched style box box.size in (
       λ e s. (let h = auto_width style box false k.ratio t (z.width k.ratio e) s in
           asks_both (λ m r z. (m.known.width ≡ None) × (z.width ≡ clamped r.width box.min.width box.max.width)) container style candidate k (not_both_width at.known h.0)
-          (λ r. (h.0, absent_side at.known.width box.min.width _ box.max.width r.width h.0 (ap (λ (m : MaybeSize). m.width) h.1)))),
+          (λ r. (h.0, absent_side at.known.width box.min.width _ box.max.width r.width h.0 (ap (λ (m : Size (Option Float)). m.width) h.1)))),
       λ e s. (let h = auto_height style box false k.ratio t (z.height k.ratio e) s in
           asks_both (λ m r z. (m.known.height ≡ None) × (z.height ≡ clamped r.height box.min.height box.max.height)) container style candidate k (not_both_height at.known h.0)
-          (λ r. (h.0, absent_side at.known.height box.min.height _ box.max.height r.height h.0 (ap (λ (m : MaybeSize). m.height) h.1)))),
+          (λ r. (h.0, absent_side at.known.height box.min.height _ box.max.height r.height h.0 (ap (λ (m : Size (Option Float)). m.height) h.1)))),
     )
 
 -- ---- a table
@@ -454,12 +445,12 @@ measured_is_the_reply container style candidate k t =
 is_table_lem : (t : Bool) (a b : Stretched) → t ≡ true → cond t a b ≡ a
 is_table_lem t a b e = rw e refl
 
-raised : (b : Bool) (min : MaybeF32) (low fit : Float) → min ≡ Some low → raised_min b min fit ≡ Some (table_min b low fit)
-unfolding raised_min unwrap_or
+raised : (b : Bool) (min : Option Float) (low fit : Float) → min ≡ Some low → raised_min b min fit ≡ Some (table_min b low fit)
+unfolding raised_min
 raised true min low fit e = rw e refl
 raised false min low fit e = e
 
-raised_absent : (m : MaybeF32) (s b : Bool) (min : MaybeF32) (low fit : Float) → m ≡ None → s ≡ b → min ≡ Some low → raised_min (not (present m) && s) min fit ≡ Some (table_min b low fit)
+raised_absent : (m : Option Float) (s b : Bool) (min : Option Float) (low fit : Float) → m ≡ None → s ≡ b → min ≡ Some low → raised_min (not (is_some m) && s) min fit ≡ Some (table_min b low fit)
 raised_absent m s b min low fit e f g = ap (λ (c : Bool). raised_min c min fit) (absent_and m s b e f) ∙ raised b min low fit g
 
 module _ (style : Style) (box : ResolvedBox) (table : style.table ≡ true) where
@@ -481,14 +472,14 @@ table_is_measured container style candidate low k t =
     let z = (auto_is_no_size container style candidate).0 in
     let box = resolved_box container style candidate in
     let at = stretched style box box.size in (
-      λ e m. (let h = ap (λ (s : MaybeSize). s.width) (table_known style box t) ∙ z.width k.ratio e in
+      λ e m. (let h = ap (λ (s : Size (Option Float)). s.width) (table_known style box t) ∙ z.width k.ratio e in
           asks_both (λ m r z. (m.known.width ≡ None) × (z.width ≡ clamped r.width (Some (table_min (stretches box.horizontal false) low (stretch_fit box.horizontal))) box.max.width)) container style candidate k (not_both_width at.known h)
           (λ r. (
             h,
             absent_side at.known.width _ _ box.max.width r.width h
                 (table_width style box t low (z.width k.ratio e) m ∙ ap (λ (x : Float). Some (table_min (stretches box.horizontal false) low x)) (fit_across container style candidate)),
           ))),
-      λ e m. (let h = ap (λ (s : MaybeSize). s.height) (table_known style box t) ∙ z.height k.ratio e in
+      λ e m. (let h = ap (λ (s : Size (Option Float)). s.height) (table_known style box t) ∙ z.height k.ratio e in
           asks_both (λ m r z. (m.known.height ≡ None) × (z.height ≡ clamped r.height (Some (table_min (stretches box.vertical false) low (stretch_fit box.vertical))) box.max.height)) container style candidate k (not_both_height at.known h)
           (λ r. (
             h,

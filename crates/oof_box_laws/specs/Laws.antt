@@ -3,28 +3,25 @@
 -- (Three are of a part: `ClampIsSettled` of a clamp, `SizeIsSettled` of ratio and clamp, `ClippedOverflowIsNotCounted` of `contribution`.)
 -- What the style comes to first is said by Resolved.antt; where a box stands in an axis by the laws of one axis (oof_axis/specs/Laws.antt,
 -- oof_axis_laws/specs/Laws.antt), to which `StandsByItsAxes` leads. `proofs/` proves each, under its name in small letters. Assumes nothing.
-use Rattle.std.specs.Prelude.{◌≡◌, ◌⊎◌, [], ◌∷◌, Bool, true, false, cond, not, ◌&&◌, ℕ, ◌≤◌, Float}
+use Rattle.std.specs.Prelude.{◌≡◌, ◌⊎◌, [], ◌∷◌, Bool, true, false, cond, not, ◌&&◌, ℕ, ◌≤◌, Float, None, Option, Some}
 use Rattle.std.specs.Float.Ieee.{lt, le}
 use Rattle.std.specs.Float.Ieee.Exact.{HasValue}
 use Rattle.util.specs.Number.{◌⊕◌, ◌⊖◌, 0f}
 use Rattle.util.specs.Order.{larger, smaller}
 use Rattle.util.specs.Maybe.{clamped, or_zero}
 use Rattle.util.specs.Laws.{AtOrAbove, AtOrBelow}
-use Rattle.util.specs.declared.math.MaybeF32.{MaybeF32}
-use Rattle.util.specs.declared.math.MaybeF32.TheVariants.{None, Some}
 use Rattle.geometry.specs.Geometry.{◌to◌, zero_rect, rect_of, counted_from, line_x, line_y}
 use Rattle.geometry.specs.declared.Line.{Line}
 use Rattle.geometry.specs.declared.Point.{Point}
 use Rattle.geometry.specs.declared.Rect.{Rect}
 use Rattle.geometry.specs.declared.Size.{Size}
+use Rattle.style.specs.declared.available_space.AvailableSpace.{AvailableSpace}
 use Rattle.style.specs.declared.Contain.{Contain}
 use Rattle.style.specs.declared.Direction.TheVariants.{Ltr, Rtl}
 use Rattle.style.specs.declared.Overflow.{Overflow}
 use Rattle.style.specs.declared.Overflow.TheVariants.{Visible, Clip, Hidden, Scroll}
-use Rattle.style.specs.declared.OverflowPoint.{OverflowPoint}
 use Rattle.style.specs.declared.Style.{Style}
 use Rattle.style.specs.declared.compact_length.CompactLength.{CompactLength}
-use Rattle.style.specs.declared.available_space.AvailableSize.{AvailableSize}
 use Rattle.style.specs.declared.available_space.AvailableSpace.TheVariants.{Definite}
 use Rattle.tree.specs.declared.layout.AxisStaticPosition.{AxisStaticPosition}
 use Rattle.tree.specs.declared.layout.Layout.{Layout}
@@ -53,12 +50,12 @@ pub data Always {A : Type 0} (P : A → Type 0) : Talk A → Type 0 where
   later : {q : Question} {next : ReplyTo q → Talk A} → ((r : ReplyTo q) → Always P (next r)) → Always P (ask q next)
 
 -- of the laid-out size
-abbrev pub SizeAlways : (Size → Type 0) → ContainingBlock → Style → OofCandidate → Type 0
+abbrev pub SizeAlways : (Size Float → Type 0) → ContainingBlock → Style → OofCandidate → Type 0
 SizeAlways P container style candidate = Always (λ (p : Placed). P p.outcome.layout.size) (placed container style candidate)
 
 -- the dialogue opens with the question for both sizes, and P holds of the question, of its reply and of the outcome
-pub data Measures (P : MeasureInput → Size → Placed → Type 0) : Talk Placed → Type 0 where
-  measures : {m : MeasureInput} {next : Size → Talk Placed} → ((r : Size) → Always (P m r) (next r)) → Measures P (ask (MeasureBoth m) next)
+pub data Measures (P : MeasureInput → Size Float → Placed → Type 0) : Talk Placed → Type 0 where
+  measures : {m : MeasureInput} {next : Size Float → Talk Placed} → ((r : Size Float) → Always (P m r) (next r)) → Measures P (ask (MeasureBoth m) next)
 
 -- ---- sizes. Min, max and size are those of step 2, as Resolved.antt says on the style's words.
 
@@ -156,20 +153,20 @@ abbrev pub room_of : Bool → OofAxis → Float
 room_of table a = cond table (smaller (stretch_fit a) (larger (a.size ⊖ (or_zero a.margin.start ⊕ or_zero a.margin.end)) 0f)) (stretch_fit a)
 
 -- the available space is that room, clamped as a size of the box is
-abbrev pub space_of : Style → ResolvedBox → AvailableSize
+abbrev pub space_of : Style → ResolvedBox → Size AvailableSpace
 space_of style box =
     record {
       width = Definite (clamped (room_of style.table box.horizontal) box.min.width box.max.width);
       height = Definite (clamped (room_of style.table box.vertical) box.min.height box.max.height);
     }
 
-abbrev pub AskedIn : AvailableSize → Question → Type 0
+abbrev pub AskedIn : Size AvailableSpace → Question → Type 0
 AskedIn space (MeasureBoth m) = m.space ≡ space
 AskedIn space (MeasureWidth m) = m.space ≡ space
 AskedIn space (MeasureHeight m) = m.space ≡ space
 AskedIn space (LayOut l) = l.space ≡ space
 
-abbrev pub LaidOutIn : AvailableSize → Question → Type 0
+abbrev pub LaidOutIn : Size AvailableSpace → Question → Type 0
 LaidOutIn space (MeasureBoth m) = Unit {0}
 LaidOutIn space (MeasureWidth m) = Unit {0}
 LaidOutIn space (MeasureHeight m) = Unit {0}
@@ -230,7 +227,7 @@ LayoutIsTheReply =
 
 -- a clamp that is done changes nothing when done again
 abbrev pub ClampIsSettled : Type 0
-ClampIsSettled = (x : Float) (min max : MaybeF32) → clamped (clamped x min max) min max ≡ clamped x min max
+ClampIsSettled = (x : Float) (min max : Option Float) → clamped (clamped x min max) min max ≡ clamped x min max
 
 -- nor do ratio and clamp change the size that step 2 resolved
 abbrev pub SizeIsSettled : Type 0
@@ -252,7 +249,7 @@ StandsByItsAxes =
 
 -- an auto size stretches (between two insets, by its alignment: `StretchesBetweenInsets`), to a stretch-fit size above 0 that neither min nor max
 -- changes. An auto min is padding plus border, an auto max is none (`AutoIsNoSize`).
-pub record StretchesFreely (a : OofAxis) (plain : Bool) (min max : MaybeF32) : Type 0 where
+pub record StretchesFreely (a : OofAxis) (plain : Bool) (min max : Option Float) : Type 0 where
   pub stretching : stretches a plain ≡ true
   pub room : lt 0f (stretch_fit a) ≡ true
   pub at_least_min : (low : Float) → min ≡ Some low → lt (stretch_fit a) low ≡ false
@@ -268,7 +265,7 @@ pub record InQuarters (a : OofAxis) (offset : Float) : Type 0 where
   pub margin_end : MaybeQuarters 16384 a.margin.end
 
 -- the margin box, of a border box that begins at `at`, is the line l, which counts from the area's edge: it begins and ends where l does
-abbrev pub MarginBoxIs : Line → Float → Float → Float → Line → Type 0
+abbrev pub MarginBoxIs : Line Float → Float → Float → Float → Line Float → Type 0
 MarginBoxIs l offset at size margin = (at ∷ [] =Σ offset ∷ l.start ∷ margin.start ∷ []) × (at ∷ size ∷ margin.end ∷ [] =Σ offset ∷ l.end ∷ [])
 
 -- a stretched box fills its block: its margin box is the block, with no rounding, whatever is replied, whatever direction, safety, scrolling
@@ -307,7 +304,7 @@ GuttersAndEdges =
     (placed container style candidate)
 
 -- the same block at another offset
-abbrev pub with_offset : Point → ContainingBlock → ContainingBlock
+abbrev pub with_offset : Point Float → ContainingBlock → ContainingBlock
 with_offset offset container = record { area = record { size = container.area.size; offset = offset }; direction = container.direction; overflow = container.overflow }
 
 -- two static positions that, counted from their areas' edges, are one
@@ -315,7 +312,7 @@ pub record SamePlace (p : AxisStaticPosition) (offset : Float) (p' : AxisStaticP
   pub area : counted_from p'.area offset' ≡ counted_from p.area offset
   pub align : p'.align ≡ p.align
 
-pub record StandAlike (c : OofCandidate) (offset : Point) (c' : OofCandidate) (offset' : Point) : Type 0 where
+pub record StandAlike (c : OofCandidate) (offset : Point Float) (c' : OofCandidate) (offset' : Point Float) : Type 0 where
   pub node : c'.node ≡ c.node
   pub order : c'.order ≡ c.order
   pub x : SamePlace c.place.x offset.x c'.place.x offset'.x
@@ -326,13 +323,13 @@ pub data Alike (R : Placed → Placed → Type 0) : Talk Placed → Talk Placed 
   ended : {p p' : Placed} → R p p' → Alike R (done p) (done p')
   asking : {q : Question} {next next' : ReplyTo q → Talk Placed} → ((r : ReplyTo q) → Alike R (next r) (next' r)) → Alike R (ask q next) (ask q next')
 
-abbrev pub plus : Point → Point → Point
+abbrev pub plus : Point Float → Point Float → Point Float
 plus p q = record { x = p.x ⊕ q.x; y = p.y ⊕ q.y }
 
-abbrev pub less : Point → Point → Point
+abbrev pub less : Point Float → Point Float → Point Float
 less p q = record { x = p.x ⊖ q.x; y = p.y ⊖ q.y }
 
-abbrev pub located_at : Point → Layout → Layout
+abbrev pub located_at : Point Float → Layout → Layout
 located_at location l =
     record {
       order = l.order;
@@ -347,8 +344,8 @@ located_at location l =
 
 -- one place in the area: the layouts are the same but for the offset in their location, and they add the same to the overflow where an offset
 -- that is added and taken off again rounds nothing
-pub record MovedAlone (offset offset' : Point) (p p' : Placed) : Type 0 where
-  pub place : Point
+pub record MovedAlone (offset offset' : Point Float) (p p' : Placed) : Type 0 where
+  pub place : Point Float
   pub location : p.outcome.layout.location ≡ plus place offset
   pub layout : p'.outcome.layout ≡ located_at (plus place offset') p.outcome.layout
   pub surfaced : p'.surfaced ≡ p.surfaced
@@ -358,17 +355,17 @@ pub record MovedAlone (offset offset' : Point) (p p' : Placed) : Type 0 where
 -- layouts move with the offset alone
 abbrev pub OffsetMovesAlone : Type 0
 OffsetMovesAlone =
-    (container : ContainingBlock) (offset' : Point) (style : Style) (candidate candidate' : OofCandidate) → StandAlike candidate container.area.offset candidate' offset'
+    (container : ContainingBlock) (offset' : Point Float) (style : Style) (candidate candidate' : OofCandidate) → StandAlike candidate container.area.offset candidate' offset'
     → Alike (MovedAlone container.area.offset offset') (placed container style candidate) (placed (with_offset offset' container) style candidate')
 
 -- ---- the contribution to the scrollable overflow
 
 -- overflow hidden or scroll, in either axis, makes a scroll container
-abbrev pub Scroller : OverflowPoint → Type 0
+abbrev pub Scroller : Point Overflow → Type 0
 Scroller o = ((o.x ≡ Hidden) ⊎ (o.x ≡ Scroll)) ⊎ ((o.y ≡ Hidden) ⊎ (o.y ≡ Scroll))
 
 -- visible or clip, in both, makes none
-abbrev pub NoScroller : OverflowPoint → Type 0
+abbrev pub NoScroller : Point Overflow → Type 0
 NoScroller o = ((o.x ≡ Visible) ⊎ (o.x ≡ Clip)) × ((o.y ≡ Visible) ⊎ (o.y ≡ Clip))
 
 -- layout and paint containment each hold overflow in
@@ -410,23 +407,23 @@ pub record Fine (container : ContainingBlock) (l : Layout) : Type 0 where
 
 -- r holds, or is, what reaches from l.start to l.end of the box's start edge: in y, and in x left-to-right, from the area's top or left
 -- edge on; in x right-to-left, from its right edge leftwards
-abbrev pub HoldsForwards : Line → Float → Float → Line → Type 0
+abbrev pub HoldsForwards : Line Float → Float → Float → Line Float → Type 0
 HoldsForwards r offset at l = (r.start ∷ offset ∷ [] ≤Σ at ∷ l.start ∷ []) × (at ∷ l.end ∷ [] ≤Σ r.end ∷ offset ∷ [])
 
-abbrev pub HoldsBackwards : Line → Float → Float → Float → Float → Line → Type 0
+abbrev pub HoldsBackwards : Line Float → Float → Float → Float → Float → Line Float → Type 0
 HoldsBackwards r offset width at size l =
     (r.start ∷ at ∷ size ∷ [] ≤Σ offset ∷ width ∷ l.start ∷ []) × (offset ∷ width ∷ l.end ∷ [] ≤Σ r.end ∷ at ∷ size ∷ [])
 
-abbrev pub HoldsAcross : ContainingBlock → Layout → Line → Line → Type 0
+abbrev pub HoldsAcross : ContainingBlock → Layout → Line Float → Line Float → Type 0
 HoldsAcross container l r x =
     (container.direction ≡ Ltr → HoldsForwards r container.area.offset.x l.location.x x)
     × (container.direction ≡ Rtl → HoldsBackwards r container.area.offset.x container.area.size.width l.location.x l.size.width x)
 
-abbrev pub HoldsDown : ContainingBlock → Layout → Line → Line → Type 0
+abbrev pub HoldsDown : ContainingBlock → Layout → Line Float → Line Float → Type 0
 HoldsDown container l r y = HoldsForwards r container.area.offset.y l.location.y y
 
 -- the border box, from its start edges
-abbrev pub HoldsTheBox : ContainingBlock → Layout → Rect → Type 0
+abbrev pub HoldsTheBox : ContainingBlock → Layout → Rect Float → Type 0
 HoldsTheBox container l r = HoldsAcross container l (line_x r) (0f to l.size.width) × HoldsDown container l (line_y r) (0f to l.size.height)
 
 -- it is zeros, or it holds the border box, in both directions
@@ -483,27 +480,27 @@ ContributionHoldsNoMore =
 -- that one
 abbrev pub ClippedOverflowIsNotCounted : Type 0
 ClippedOverflowIsNotCounted =
-    (location : Point) (size : Size) (own own' : Rect) (overflow : OverflowPoint) (contain : Contain) (parentScrolls : Bool)
+    (location : Point Float) (size : Size Float) (own own' : Rect Float) (overflow : Point Overflow) (contain : Contain) (parentScrolls : Bool)
     → (Scroller overflow ⊎ Contained contain → contribution location size own overflow contain parentScrolls ≡ contribution location size own' overflow contain parentScrolls)
     × (overflow.x ≡ Clip → line_y own ≡ line_y own' → contribution location size own overflow contain parentScrolls ≡ contribution location size own' overflow contain parentScrolls)
     × (overflow.y ≡ Clip → line_x own ≡ line_x own' → contribution location size own overflow contain parentScrolls ≡ contribution location size own' overflow contain parentScrolls)
 
 -- how far a box reaches along an axis, from its own start edge: over its border box, and over its own overflow where that shows
-pub record Reaches (style : Style) (along : Overflow) (size : Float) (own reach : Line) : Type 0 where
+pub record Reaches (style : Style) (along : Overflow) (size : Float) (own reach : Line Float) : Type 0 where
   pub shown : along ≡ Visible → NoScroller style.overflow → NotContained style.contain → reach ≡ smaller 0f own.start to larger size own.end
   pub clipped : along ≡ Clip → reach ≡ 0f to size
   pub scrolled : Scroller style.overflow → reach ≡ 0f to size
   pub contained : Contained style.contain → reach ≡ 0f to size
 
 -- r is what reaches from l.start to l.end of the box's start edge, as `HoldsForwards` and `HoldsBackwards` count it
-abbrev pub IsForwards : Line → Float → Float → Line → Type 0
+abbrev pub IsForwards : Line Float → Float → Float → Line Float → Type 0
 IsForwards r offset at l = (r.start ∷ offset ∷ [] =Σ at ∷ l.start ∷ []) × (r.end ∷ offset ∷ [] =Σ at ∷ l.end ∷ [])
 
-abbrev pub IsBackwards : Line → Float → Float → Float → Float → Line → Type 0
+abbrev pub IsBackwards : Line Float → Float → Float → Float → Float → Line Float → Type 0
 IsBackwards r offset width at size l =
     (r.start ∷ at ∷ size ∷ [] =Σ offset ∷ width ∷ l.start ∷ []) × (r.end ∷ at ∷ size ∷ [] =Σ offset ∷ width ∷ l.end ∷ [])
 
-abbrev pub IsAcross : ContainingBlock → Layout → Line → Line → Type 0
+abbrev pub IsAcross : ContainingBlock → Layout → Line Float → Line Float → Type 0
 IsAcross container l r x =
     (container.direction ≡ Ltr → IsForwards r container.area.offset.x l.location.x x)
     × (container.direction ≡ Rtl → IsBackwards r container.area.offset.x container.area.size.width l.location.x l.size.width x)
@@ -511,12 +508,12 @@ IsAcross container l r x =
 -- The union of border box and own overflow that shows, counted from the area's start edges, is the contribution; but that is zeros where the
 -- union's extent beyond the box's start edge is at most 0 in an axis (document 01; css-overflow-3 counts boxes without an area), and, in a
 -- scrolling parent, where the union ends at or before a start edge of the area, to which nothing scrolls.
-pub record Counted (container : ContainingBlock) (style : Style) (l : Layout) (r : Rect) : Type 0 where
-  pub x : Line
-  pub y : Line
+pub record Counted (container : ContainingBlock) (style : Style) (l : Layout) (r : Rect Float) : Type 0 where
+  pub x : Line Float
+  pub y : Line Float
   pub reach_x : Reaches style style.overflow.x l.size.width (line_x l.overflow) x
   pub reach_y : Reaches style style.overflow.y l.size.height (line_y l.overflow) y
-  pub union : Rect
+  pub union : Rect Float
   pub union_x : Fine container l → IsAcross container l (line_x union) x
   pub union_y : Fine container l → IsForwards (line_y union) container.area.offset.y l.location.y y
   pub empty : (le x.end 0f ≡ true) ⊎ (le y.end 0f ≡ true) → r ≡ zero_rect

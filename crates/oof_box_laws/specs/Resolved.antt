@@ -1,15 +1,12 @@
 -- What a style comes to before the host is asked (document 01, "One box", steps 1 to 3), as laws of `resolved_box` on the style's own words:
 -- css-position-3 #abspos-layout, css-align-3 #self-alignment, css-writing-modes-4 #logical-to-physical (of a horizontal writing mode),
 -- css-sizing-3, css-sizing-4 #aspect-ratio, css-box-4. `proofs/` proves each, under its name in small letters. Assumes nothing.
-use Rattle.std.specs.Prelude.{◌≡◌, ◌⊎◌, Bool, true, false, cond, eqb, Float}
+use Rattle.std.specs.Prelude.{◌≡◌, ◌⊎◌, Bool, true, false, cond, eqb, Float, None, Option, Some}
 use Rattle.util.specs.Number.{◌⊕◌, ◌⊗◌, ◌⊘◌, 0f}
 use Rattle.util.specs.Order.{larger}
 use Rattle.util.specs.Maybe.{clamped}
-use Rattle.util.specs.declared.math.MaybeF32.{MaybeF32}
-use Rattle.util.specs.declared.math.MaybeF32.TheVariants.{None, Some}
 use Rattle.util_exact.specs.Value.{−0f}
 use Rattle.geometry.specs.Geometry.{zero_size, absent_size, definite, rect_sum, sums, counted_from}
-use Rattle.geometry.specs.declared.MaybeSize.{MaybeSize}
 use Rattle.geometry.specs.declared.Size.{Size}
 use Rattle.style.specs.Resolve.{resolved}
 use Rattle.style.specs.declared.BoxSizing.{BoxSizing}
@@ -21,8 +18,7 @@ use Rattle.style.specs.declared.Style.{Style}
 use Rattle.style.specs.declared.alignment.AlignItemsKeyword.{AlignItemsKeyword}
 use Rattle.style.specs.declared.alignment.AlignItemsKeyword.TheVariants as keyword
 use Rattle.style.specs.declared.compact_length.CompactLength.{CompactLength}
-use Rattle.style.specs.declared.compact_length.LengthRect.{LengthRect}
-use Rattle.style.specs.declared.compact_length.LengthSize.{LengthSize}
+use Rattle.geometry.specs.declared.Rect.{Rect}
 use Rattle.style.specs.declared.resolve.Field.{Field}
 use Rattle.tree.specs.declared.layout.OofCandidate.{OofCandidate}
 use Rattle.oof_axis.specs.declared.OofAlignment.{OofAlignment}
@@ -109,7 +105,7 @@ PercentagesOfTheWidth =
     (container : ContainingBlock) (style : Style) (candidate : OofCandidate) (x : Float) → OfTheWidth container.area.size.width x style (resolved_box container style candidate)
 
 -- insets are their pixels; percentages and sums are of their own axis
-pub record OfTheirAxis (area : Size) (x : Float) (style : Style) (box : ResolvedBox) : Type 0 where
+pub record OfTheirAxis (area : Size Float) (x : Float) (style : Style) (box : ResolvedBox) : Type 0 where
   pub left : Comes area.width style.inset.left x → box.horizontal.inset.start ≡ Some x
   pub right : Comes area.width style.inset.right x → box.horizontal.inset.end ≡ Some x
   pub top : Comes area.height style.inset.top x → box.vertical.inset.start ≡ Some x
@@ -165,20 +161,20 @@ AlignmentOfTheStyle = (container : ContainingBlock) (style : Style) (candidate :
 -- ---- size, min and max
 
 -- padding plus border
-abbrev pub padding_border_of : ResolvedBox → Size
+abbrev pub padding_border_of : ResolvedBox → Size Float
 padding_border_of box = sums (rect_sum box.padding box.border)
 
 -- what a length of a box sizing leaves out: padding plus border where it is of the content box
-abbrev pub left_out : BoxSizing → Size → Size
+abbrev pub left_out : BoxSizing → Size Float → Size Float
 left_out BorderBox paddingBorder = zero_size
 left_out ContentBox paddingBorder = paddingBorder
 
-abbrev pub to_border_box : Style → ResolvedBox → Size
+abbrev pub to_border_box : Style → ResolvedBox → Size Float
 to_border_box style box = left_out style.sizing (padding_border_of box)
 
 -- Size, min and max take percentages and sums of their own axis. Lengths are of the content box where the box sizing says so: padding plus border is
 -- added. Min is at least padding plus border, and the size is clamped. A ratio changes no side that is given.
-pub record OfItsBox (area : Size) (x : Float) (style : Style) (box : ResolvedBox) : Type 0 where
+pub record OfItsBox (area : Size Float) (x : Float) (style : Style) (box : ResolvedBox) : Type 0 where
   pub max_width : Comes area.width style.max.width x → box.max.width ≡ Some (x ⊕ (to_border_box style box).width)
   pub max_height : Comes area.height style.max.height x → box.max.height ≡ Some (x ⊕ (to_border_box style box).height)
   pub min_width : Comes area.width style.min.width x → box.min.width ≡ Some (larger (x ⊕ (to_border_box style box).width) (padding_border_of box).width)
@@ -191,7 +187,7 @@ SizesOfItsBox =
     (container : ContainingBlock) (style : Style) (candidate : OofCandidate) (x : Float) → OfItsBox container.area.size x style (resolved_box container style candidate)
 
 -- auto is no size and no max, and a min of padding plus border: of a side without a ratio, and of two sides with or without one
-pub record AutoIs (absent : MaybeSize) (ratio : MaybeF32) (lengths : LengthSize) (found : MaybeSize) : Type 0 where
+pub record AutoIs (absent : Size (Option Float)) (ratio : Option Float) (lengths : Size CompactLength) (found : Size (Option Float)) : Type 0 where
   pub width : ratio ≡ None → IsAutoSize lengths.width → found.width ≡ absent.width
   pub height : ratio ≡ None → IsAutoSize lengths.height → found.height ≡ absent.height
   pub both : IsAutoSize lengths.width → IsAutoSize lengths.height → found ≡ absent
@@ -204,7 +200,7 @@ AutoIsNoSize =
     × AutoIs (definite (padding_border_of box)) style.ratio style.min box.min
 
 -- a ratio r, of width to height, completes a lone side: width = r × height, height = width ÷ r; of size, min and max
-pub record RatioOf (area : Size) (r x : Float) (style : Style) (box : ResolvedBox) : Type 0 where
+pub record RatioOf (area : Size Float) (r x : Float) (style : Style) (box : ResolvedBox) : Type 0 where
   pub max_width : IsAutoSize style.max.width → Comes area.height style.max.height x → box.max.width ≡ Some (x ⊗ r ⊕ (to_border_box style box).width)
   pub max_height : IsAutoSize style.max.height → Comes area.width style.max.width x → box.max.height ≡ Some (x ⊘ r ⊕ (to_border_box style box).height)
   pub min_width : IsAutoSize style.min.width → Comes area.height style.min.height x → box.min.width ≡ Some (larger (x ⊗ r ⊕ (to_border_box style box).width) (padding_border_of box).width)
@@ -222,11 +218,11 @@ RatioCompletes =
 abbrev pub without_second : CompactLength → CompactLength
 without_second l = record { tag = l.tag; value = l.value; second = cond (eqb l.tag 129) l.second 0f }
 
-abbrev pub rect_without_seconds : LengthRect → LengthRect
+abbrev pub rect_without_seconds : Rect CompactLength → Rect CompactLength
 rect_without_seconds r =
     record { left = without_second r.left; right = without_second r.right; top = without_second r.top; bottom = without_second r.bottom }
 
-abbrev pub size_without_seconds : LengthSize → LengthSize
+abbrev pub size_without_seconds : Size CompactLength → Size CompactLength
 size_without_seconds s = record { width = without_second s.width; height = without_second s.height }
 
 -- a style with 0 for the second value of every length that is no sum

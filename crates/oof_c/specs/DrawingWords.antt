@@ -1,8 +1,8 @@
 -- What `oof_drawing_order` leaves, of a state's words. Assumes nothing.
-use Rattle.std.specs.Prelude.{ℕ, List}
+use Rattle.std.specs.Prelude.{ℕ, List, Ok, Err}
 use Rattle.refusal.specs.Refusal.{number_of}
 use Rattle.run.specs.Call.{Lent}
-use Rattle.run.specs.Refusals.{Verdict, accepted, refused}
+use Rattle.run.specs.Refusals.{Verdict}
 use Rattle.drawing.specs.Drawing.{Drawn, drawn}
 use Rattle.oof_c_words.specs.StateWords.{state_of}
 
@@ -12,8 +12,8 @@ pub record DrawingReturned : Type 0 where
   pub order : List ℕ
 
 abbrev pub verdict_number : Verdict → ℕ
-verdict_number accepted = 0
-verdict_number (refused refusal) = number_of refusal
+verdict_number (Ok tt) = 0
+verdict_number (Err refusal) = number_of refusal
 
 abbrev pub drawn_told : Drawn → DrawingReturned
 drawn_told left = record { result = verdict_number left.verdict; order = left.order }

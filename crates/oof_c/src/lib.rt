@@ -8,7 +8,6 @@ ghost use Rattle.std.specs.Prelude.{◌≡◌, []};
 ghost use Rattle.oof_c_words.specs.Entry.{returned, opening_of, opened_in_words, replied_in_words, words};
 ghost use Rattle.oof_c_words.specs.PixelWords.{pixels_returned, pixels_in_words};
 ghost use Rattle.run.specs.Call.{lent};
-ghost use Rattle.placer_check.specs.Verdict.{verdict_of};
 ghost use Rattle.oof_c.specs.ReachWords.{reach_returned, reach_in_words};
 ghost use Rattle.oof_c.specs.DrawingWords.{verdict_number, drawing_returned, drawing_in_words};
 ghost use Rattle.oof_c_words.specs.CheckWords.{check_returned, check_in_words};
@@ -19,8 +18,8 @@ use oof_c_words::answer::ANSWER_WORDS;
 use oof_c_words::check::FOUND;
 use oof_c_words::state::STATE_WORDS;
 use pixels::lent::EDGES;
-use placer_check::Verdict;
 use reach::lent::VERDICT;
+use refusal::Refusal;
 use run::Opening;
 use tree::layout::OofPositioningArea;
 use tree_record::layout::LAYOUT_WORDS;
@@ -57,11 +56,8 @@ pub fn oof_open(
         overflowy: overflow_y,
     };
     let step = placer::open(opening, styles, candidates, layouts, working, unclaimed);
-    let s = step.state;
-    let a = step.answer;
-    let opened = oof_c_words::state::state_words(s);
-    *state = opened;
-    oof_c_words::tell(a, answer)
+    *state = oof_c_words::state::state_words(step.state);
+    oof_c_words::tell(step.answer, answer)
 }
 
 // A reply to the open question.
@@ -79,9 +75,8 @@ fn respond(
 {
     let s = oof_c_words::state::state_of(&*state);
     let step = placer::reply(s, reply, surfaced, styles, layouts, working, unclaimed);
-    let a = step.answer;
     oof_c_words::keep(step, state);
-    oof_c_words::tell(a, answer)
+    oof_c_words::tell(step.answer, answer)
 }
 
 // Both sizes, measured.
@@ -215,12 +210,12 @@ pub fn oof_reach(
 }
 
 // 0, or the refusal's number.
-fn number(verdict: Verdict) -> u32
-    ensures { result ≡ verdict_number (verdict_of verdict) }
+fn number(verdict: Result<(), Refusal>) -> u32
+    ensures { result ≡ verdict_number verdict }
 {
     match verdict {
-        Verdict::Accepted => 0,
-        Verdict::Refused(refusal) => refusal.number(),
+        Ok(()) => 0,
+        Err(refusal) => u32::from(refusal),
     }
 }
 
@@ -236,8 +231,7 @@ pub fn oof_drawing_order(
     ensures { drawing_returned result order.new ≡ drawing_in_words (lent styles.now layouts.now working.now unclaimed.now) state.now order.old }
 {
     let s = oof_c_words::state::state_of(state);
-    let verdict = drawing::drawing_order(s, styles, layouts, working, unclaimed, order);
-    number(verdict)
+    number(drawing::drawing_order(s, styles, layouts, working, unclaimed, order))
 }
 
 // The first word of a table of styles that breaks a code rule.

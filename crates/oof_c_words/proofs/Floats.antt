@@ -1,4 +1,5 @@
 -- The floats of a state are f32s: those that words hold, those of a reply, and what a laid out box adds. Assumes nothing.
+use Rattle.std.specs.Prelude.{Option, None, Some, unwrap_or, Float}
 use Prim.Native.Nat.{ℕ}
 use mathlib.Core.Bool.{Bool, true, false, cond, ◌||◌, ◌&&◌}
 use mathlib.Core.List.{List}
@@ -11,13 +12,13 @@ use lib.Ieee.Fits.{add-fits}
 use Rattle.util.specs.Number.{0f}
 use Rattle.util.specs.Order.{larger, smaller}
 use Rattle.util.proofs.Laws.{larger_is_one, smaller_is_one}
-use Rattle.geometry.specs.Geometry.{union_of, zero_rect, line_x, line_y, rect_of}
+use Rattle.geometry.specs.Geometry.{zero_size, union_of, zero_rect, line_x, line_y, rect_of}
 use Rattle.geometry.specs.declared.Line.{Line}
 use Rattle.geometry.specs.declared.Point.{Point}
+use Rattle.style.specs.declared.Overflow.{Overflow}
 use Rattle.geometry.specs.declared.Rect.{Rect}
 use Rattle.geometry.specs.declared.Size.{Size}
 use Rattle.style.specs.declared.Contain.{Contain}
-use Rattle.style.specs.declared.OverflowPoint.{OverflowPoint}
 use Rattle.style.specs.declared.Style.{Style}
 use Rattle.tree.specs.declared.layout.OofCandidate.{OofCandidate}
 use Rattle.records.specs.Records.{float_at}
@@ -33,14 +34,13 @@ use Rattle.oof_box.specs.declared.question.Replies.{Replies}
 use Rattle.oof_box.specs.declared.question.Stage.{Stage}
 use Rattle.oof_box.specs.declared.question.Stage.TheVariants.{KeywordBoth, KeywordWidth, KeywordHeight, Fill, LayOut}
 use Rattle.oof_box.specs.declared.question.KeywordReply.TheVariants as keyword
-use Rattle.oof_box.specs.declared.question.FillReply.TheVariants as fill
 use Rattle.oof_box.specs.declared.question.Taken.{Taken}
-use Rattle.oof_box.specs.declared.question.Taken.TheVariants.{Wrong, Kept, Laid}
+use Rattle.oof_box.specs.declared.question.Taken.TheVariants.{Kept, Laid}
 use Rattle.run.specs.Run.{taken_in, taken_by}
 use Rattle.run.specs.declared.Progress.{Progress}
 use Rattle.run.specs.declared.Progress.TheVariants.{Finished, Asking}
 use Rattle.run.specs.declared.State.{State}
-use Rattle.oof_c_words.specs.StateWords.{at, keyword_reply_of, keyword_width, keyword_height, fill_reply_of, fill_size, replies_in, overflow_in, container_in, opened_in, state_of}
+use Rattle.oof_c_words.specs.StateWords.{at, keyword_reply_of, keyword_width, keyword_height, fill_reply_of, replies_in, overflow_in, container_in, opened_in, state_of}
 use Rattle.oof_c_words.specs.Laws.{Floats, FitsReply}
 
 pub zero_fits : T (fits binary32 0f)
@@ -51,10 +51,10 @@ zero_fits = of_bits-fits binary32 0
 pub record FitsReplies (r : Replies) : Type 0 where
   pub width : T (fits binary32 (keyword_width r.keyword))
   pub height : T (fits binary32 (keyword_height r.keyword))
-  pub fill : FitsSize (fill_size r.fill)
+  pub fill : FitsSize (unwrap_or r.fill zero_size)
 
 pub none_fit : FitsReplies no_replies
-unfolding keyword_width keyword_height fill_size
+unfolding keyword_width keyword_height
 none_fit = record { width = zero_fits; height = zero_fits; fill = (zero_fits, zero_fits) }
 
 keyword_fits : (kind : ℕ) (x y : Float) → T (fits binary32 x) → T (fits binary32 y)
@@ -63,18 +63,18 @@ unfolding keyword_reply_of keyword_width keyword_height
 keyword_fits kind x y f g = go (eqb kind 1) (eqb kind 2) (eqb kind 3)
   where
     go : (a b c : Bool)
-        → T (fits binary32 (keyword_width (cond a (keyword.Both (record { width = x; height = y })) (cond b (keyword.Width x) (cond c (keyword.Height y) keyword.None)))))
-        × T (fits binary32 (keyword_height (cond a (keyword.Both (record { width = x; height = y })) (cond b (keyword.Width x) (cond c (keyword.Height y) keyword.None)))))
+        → T (fits binary32 (keyword_width (cond a (Some (keyword.Both (record { width = x; height = y }))) (cond b (Some (keyword.Width x)) (cond c (Some (keyword.Height y)) None)))))
+        × T (fits binary32 (keyword_height (cond a (Some (keyword.Both (record { width = x; height = y }))) (cond b (Some (keyword.Width x)) (cond c (Some (keyword.Height y)) None)))))
     go true b c = (f, g)
     go false true c = (f, zero_fits)
     go false false true = (zero_fits, g)
     go false false false = (zero_fits, zero_fits)
 
-fill_fits : (kind : ℕ) (x y : Float) → T (fits binary32 x) → T (fits binary32 y) → FitsSize (fill_size (fill_reply_of kind x y))
-unfolding fill_reply_of fill_size
+fill_fits : (kind : ℕ) (x y : Float) → T (fits binary32 x) → T (fits binary32 y) → FitsSize (unwrap_or (fill_reply_of kind x y) zero_size)
+unfolding fill_reply_of
 fill_fits kind x y f g = go (eqb kind 1)
   where
-    go : (a : Bool) → FitsSize (fill_size (cond a (fill.Both (record { width = x; height = y })) fill.None))
+    go : (a : Bool) → FitsSize (unwrap_or (cond a (Some (record { width = x; height = y })) None) zero_size)
     go true = (f, g)
     go false = (zero_fits, zero_fits)
 
@@ -94,35 +94,21 @@ words_fit w =
     }
 
 -- a reply that is kept
-abbrev kept_or : Replies → Taken → Replies
-kept_or d Wrong = d
-kept_or d (Kept replies) = replies
-kept_or d (Laid overflow) = d
+abbrev kept_or : Replies → Option Taken → Replies
+kept_or d None = d
+kept_or d (Some (Kept replies)) = replies
+kept_or d (Some (Laid overflow)) = d
 
 taken_fits : (r : Replies) (stage : Stage) (given : Reply) → FitsReplies r → FitsReply given → FitsReplies (kept_or r (taken r stage given))
-unfolding taken keyword_width keyword_height fill_size
+unfolding taken keyword_width keyword_height
 taken_fits r KeywordBoth (reply.Both s) f g = record { width = g.0; height = g.1; fill = f.fill }
-taken_fits r KeywordWidth (reply.Both s) f g = f
-taken_fits r KeywordHeight (reply.Both s) f g = f
-taken_fits r Fill (reply.Both s) f g = record { width = f.width; height = f.height; fill = g }
-taken_fits r LayOut (reply.Both s) f g = f
-taken_fits r KeywordBoth (reply.Width w) f g = f
 taken_fits r KeywordWidth (reply.Width w) f g = record { width = g; height = zero_fits; fill = f.fill }
-taken_fits r KeywordHeight (reply.Width w) f g = f
-taken_fits r Fill (reply.Width w) f g = f
-taken_fits r LayOut (reply.Width w) f g = f
-taken_fits r KeywordBoth (reply.Height h) f g = f
-taken_fits r KeywordWidth (reply.Height h) f g = f
 taken_fits r KeywordHeight (reply.Height h) f g = record { width = zero_fits; height = g; fill = f.fill }
-taken_fits r Fill (reply.Height h) f g = f
-taken_fits r LayOut (reply.Height h) f g = f
-taken_fits r KeywordBoth (reply.LaidOut o) f g = f
-taken_fits r KeywordWidth (reply.LaidOut o) f g = f
-taken_fits r KeywordHeight (reply.LaidOut o) f g = f
-taken_fits r Fill (reply.LaidOut o) f g = f
+taken_fits r Fill (reply.Both s) f g = record { width = f.width; height = f.height; fill = g }
 taken_fits r LayOut (reply.LaidOut o) f g = f
+taken_fits r _ _ f g = f
 
-pub kept_fit : (s : State) (given : Reply) (replies : Replies) → FitsReplies s.replies → FitsReply given → taken_by s given ≡ Kept replies → FitsReplies replies
+pub kept_fit : (s : State) (given : Reply) (replies : Replies) → FitsReplies s.replies → FitsReply given → taken_by s given ≡ Some (Kept replies) → FitsReplies replies
 unfolding taken_by
 kept_fit s given replies f g e = rw (ap (kept_or s.replies) e) at (go s.progress)
   where
@@ -138,7 +124,7 @@ larger_fits a b f g = ⊎_elim (λ e. rw e f) (λ e. rw e g) (larger_is_one a b)
 smaller_fits : (a b : Float) → T (fits binary32 a) → T (fits binary32 b) → T (fits binary32 (smaller a b))
 smaller_fits a b f g = ⊎_elim (λ e. rw e f) (λ e. rw e g) (smaller_is_one a b)
 
-pub union_fits : (a b : Rect) → FitsRect a → FitsRect b → FitsRect (union_of a b)
+pub union_fits : (a b : Rect Float) → FitsRect a → FitsRect b → FitsRect (union_of a b)
 unfolding union_of
 union_fits a b f g = (
   smaller_fits a.left b.left f.0 g.0,
@@ -151,7 +137,7 @@ pub zeros_fit : FitsRect zero_rect
 zeros_fit = (zero_fits, zero_fits, zero_fits, zero_fits)
 
 -- zeros, or sums
-sums_fit : (location : Point) (across down : Line) (a b : Bool)
+sums_fit : (location : Point Float) (across down : Line Float) (a b : Bool)
     → FitsRect (cond a zero_rect (cond b zero_rect (rect_of (placed_at location.x across) (placed_at location.y down))))
 unfolding placed_at
 sums_fit location across down true b = zeros_fit
@@ -163,7 +149,7 @@ sums_fit location across down false false = (
   add-fits binary32 location.y down.end,
 )
 
-contribution_fits : (location : Point) (size : Size) (own : Rect) (overflow : OverflowPoint) (contain : Contain) (scrolls : Bool)
+contribution_fits : (location : Point Float) (size : Size Float) (own : Rect Float) (overflow : Point Overflow) (contain : Contain) (scrolls : Bool)
     → FitsRect (contribution location size own overflow contain scrolls)
 unfolding contribution
 contribution_fits location size own overflow contain scrolls =
@@ -173,7 +159,7 @@ contribution_fits location size own overflow contain scrolls =
     let y = placed_at location.y down in
     sums_fit location across down (le across.end 0f || le down.end 0f) (scrolls && (le x.end 0f || le y.end 0f))
 
-pub added_fits : (container : ContainingBlock) (style : Style) (candidate : OofCandidate) (replies : Replies) (overflow : Rect)
+pub added_fits : (container : ContainingBlock) (style : Style) (candidate : OofCandidate) (replies : Replies) (overflow : Rect Float)
     → FitsRect (layout_after container style candidate replies overflow).contribution
 unfolding layout_after box_layout
 added_fits container style candidate replies overflow = contribution_fits _ _ _ _ _ _

@@ -1,4 +1,5 @@
 -- A run by C calls is the run of the definition: the words that a call leaves mean the state that the definition returns. Assumes nothing.
+use Rattle.std.specs.Prelude.{Some, is_none, Float}
 use Prim.Native.Nat.{ℕ, ◌+◌, ◌*◌, ◌/◌, ◌<◌, ◌≤◌}
 use native.Mathlib.Nat.{lt-mul-div-succ}
 use native.Mathlib.Omega.{arith}
@@ -8,6 +9,7 @@ use mathlib.Core.Path.{◌≡◌, refl, sym, ap, subst, ◌∙◌}
 use lib.Dec.{ltb, eqb, lit<}
 use lib.ListN.{length}
 use borrow.Author.Tests.{ltb-false, eqb-true, leb-true, not-false}
+use Rattle.std.specs.Prelude.{Some}
 use Rattle.geometry.specs.declared.Rect.{Rect}
 use Rattle.style.specs.declared.ContainingBlockClaims.{ContainingBlockClaims}
 use Rattle.records.specs.Records.{room}
@@ -18,7 +20,6 @@ use Rattle.tree_record.specs.Laws.{FitsSize, FitsPoint, FitsRect}
 use Rattle.tree_record.specs.Layout.{layout_width}
 use Rattle.sweep.specs.Sweep.{candidates_in, keep}
 use Rattle.sweep.specs.declared.Filled.{Filled}
-use Rattle.sweep.specs.declared.Shift.TheVariants.{By}
 use Rattle.sweep.proofs.Steps.{kept_moved}
 use Rattle.oof_box.specs.Cut.{layout_after}
 use Rattle.oof_box.specs.declared.question.Replies.{Replies}
@@ -27,7 +28,7 @@ use Rattle.oof_box.specs.declared.question.Reply.TheVariants.{LaidOut}
 use Rattle.oof_box.specs.declared.question.Taken.TheVariants.{Kept}
 use Rattle.run.specs.Call.{Lent, Outcome}
 use Rattle.run.specs.Refusals.{accepted, ragged, bad_table, bad_list, bad_slices, other_lengths, list_full, lent_by, wrong_counts}
-use Rattle.run.specs.Run.{asking, finishing, proceeding, claims_of, none_filled, opening_verdict, closed, begun, opened, box_at_hand, is_wrong, taken_by, reply_verdict, measured_on, laid_out, replied}
+use Rattle.run.specs.Run.{asking, finishing, proceeding, claims_of, none_filled, opening_verdict, closed, begun, opened, box_at_hand, taken_by, reply_verdict, measured_on, laid_out, replied}
 use Rattle.run.specs.Theorems.{is_refused, Asked, asked_at_opening, asked_with}
 use Rattle.run.specs.declared.Counts.{Counts}
 use Rattle.run.specs.declared.Extents.{Extents}
@@ -115,7 +116,7 @@ record Whole (s : State) : Type 0 where
   counts : Counted s
 
 -- what the next box, or the finish, keeps
-record Ready (run : Opened) (c : Counts) (joined : Rect) : Type 0 where
+record Ready (run : Opened) (c : Counts) (joined : Rect Float) : Type 0 where
   size : FitsSize run.container.area.size
   offset : FitsPoint run.container.area.offset
   lengths : Lengths run.extents
@@ -150,7 +151,7 @@ whole_of s f r =
           };
     }
 
-proceeding_whole : (styles working : List ℕ) (run : Opened) (c : Counts) (overflow : Rect) → Ready run c overflow
+proceeding_whole : (styles working : List ℕ) (run : Opened) (c : Counts) (overflow : Rect Float) → Ready run c overflow
     → Whole (proceeding styles working run c overflow).state
 unfolding asking finishing
 proceeding_whole styles working run c overflow r = go (next_way styles working run c overflow)
@@ -227,7 +228,7 @@ past s reply surfaced l e =
     record {
       lent = n;
       lengths = lengths_of_lem l s.opened.extents n (same_lengths s.opened.extents l slices.1);
-      counts = (neither (is_wrong (taken_by s reply)) (wrong_counts l s.counts) answer.0).1;
+      counts = (neither (is_none (taken_by s reply)) (wrong_counts l s.counts) answer.0).1;
       room = full;
     }
 
@@ -235,7 +236,7 @@ replies_of_lem : (s : State) → Floats s → FitsReplies s.replies
 replies_of_lem s f = record { width = f.keyword_width; height = f.keyword_height; fill = f.fill }
 
 measured_whole : (s : State) (reply : Reply) (replies : Replies) (surfaced : List ℕ) (l : Lent) → Floats s → FitsReply reply → Past s reply surfaced l
-    → taken_by s reply ≡ Kept replies
+    → taken_by s reply ≡ Some (Kept replies)
     → Whole (measured_on s replies l).step.state
 unfolding measured_on asking
 measured_whole s reply replies surfaced l f g p t =
@@ -252,7 +253,7 @@ measured_whole s reply replies surfaced l f g p t =
       overflow = f.overflow;
     })
 
-laid_whole : (s : State) (overflow : Rect) (surfaced : List ℕ) (l : Lent) → Floats s → Past s (LaidOut overflow) surfaced l
+laid_whole : (s : State) (overflow : Rect Float) (surfaced : List ℕ) (l : Lent) → Floats s → Past s (LaidOut overflow) surfaced l
     → Whole (laid_out s overflow surfaced l).step.state
 unfolding laid_out
 laid_whole s overflow surfaced l f p =
@@ -260,7 +261,7 @@ laid_whole s overflow surfaced l f p =
     let by = s.opened.claims in
     let box = box_at_hand l.working s.counts in
     let placed = layout_after s.opened.container (style_at l.styles box.node) box s.replies overflow in
-    let shift = By placed.layout.location in
+    let shift = Some placed.layout.location in
     let held = found by l s.counts.filled surfaced p.room in
     let inside = kept_moved by true shift (candidates_in surfaced) in
     let outside = kept_moved by false shift (candidates_in surfaced) in

@@ -1,4 +1,5 @@
 -- The laws of `specs/Laws.antt`. Assumes nothing.
+use Rattle.std.specs.Prelude.{Option, None, Some, unwrap_or, Float}
 use Prim.Native.Nat.{ℕ}
 use native.Mathlib.Nat.{mod-eq_of_lt}
 use native.Mathlib.Omega.{arith}
@@ -9,6 +10,7 @@ use lib.Dec.{T}
 use lib.Ieee.{Float, fits, of_bits, to_bits, binary32}
 use Rattle.util.proofs.Floats.{no}
 use Rattle.util.proofs.Laws.{float_back}
+use Rattle.geometry.specs.Geometry.{zero_size}
 use Rattle.geometry.specs.declared.Size.{Size}
 use Rattle.refusal.specs.Refusal.{number_of}
 use Rattle.refusal.specs.declared.Refusal.{Refusal}
@@ -21,8 +23,6 @@ use Rattle.tree_record.specs.Laws.{FitsSize}
 use Rattle.oof_box.specs.declared.question.Stage.TheVariants.{KeywordBoth, KeywordWidth, KeywordHeight, Fill, LayOut}
 use Rattle.oof_box.specs.declared.question.KeywordReply.{KeywordReply}
 use Rattle.oof_box.specs.declared.question.KeywordReply.TheVariants as keyword
-use Rattle.oof_box.specs.declared.question.FillReply.{FillReply}
-use Rattle.oof_box.specs.declared.question.FillReply.TheVariants as fill
 use Rattle.run.specs.Call.{Lent, Outcome}
 use Rattle.run.specs.Run.{claims_in, closed}
 use Rattle.run.specs.Theorems.{is_refused}
@@ -33,7 +33,7 @@ use Rattle.run.specs.declared.Answer.{Answer}
 use Rattle.run.specs.declared.Answer.TheVariants.{Ask, Finish, Refused}
 use Rattle.run.specs.declared.Progress.{Progress}
 use Rattle.run.specs.declared.Progress.TheVariants.{Finished, Asking}
-use Rattle.oof_c_words.specs.StateWords.{count_word, progress_of, stage_code, progress_code, keyword_reply_of, keyword_kind, keyword_width, keyword_height, fill_reply_of, fill_kind, fill_size, claims_code, replies_in, counts_in, overflow_in, container_in, extents_in, opened_in, state_of, opening_codes, state_words}
+use Rattle.oof_c_words.specs.StateWords.{count_word, progress_of, stage_code, progress_code, keyword_reply_of, keyword_kind, keyword_width, keyword_height, fill_reply_of, fill_kind, claims_code, replies_in, counts_in, overflow_in, container_in, extents_in, opened_in, state_of, opening_codes, state_words}
 use Rattle.oof_c_words.specs.Entry.{result_of, state_left, answer_left, Words, words, in_words, lent_in, opened_in_words, replied_in_words}
 use Rattle.oof_c_words.specs.Laws.{InAWord, StateBack, ZeroState, RefusedOpeningCloses, NoReplyAfterRefusedOpening, RefusedReplyWritesNothing}
 
@@ -55,21 +55,21 @@ progress_back (Asking LayOut) = refl
 abbrev again : Float → Float
 again x = of_bits binary32 (to_bits binary32 x)
 
-size_back : (s : Size) → FitsSize s → ◌≡◌ {A = Size} (record { width = again s.width; height = again s.height }) s
+size_back : (s : Size Float) → FitsSize s → ◌≡◌ {A = Size Float} (record { width = again s.width; height = again s.height }) s
 size_back s f = λ j. record { width = float_back s.width f.0 j; height = float_back s.height f.1 j }
 
-keyword_back : (k : KeywordReply) → T (fits binary32 (keyword_width k)) → T (fits binary32 (keyword_height k))
+keyword_back : (k : Option KeywordReply) → T (fits binary32 (keyword_width k)) → T (fits binary32 (keyword_height k))
     → keyword_reply_of (keyword_kind k) (again (keyword_width k)) (again (keyword_height k)) ≡ k
 unfolding keyword_reply_of keyword_kind keyword_width keyword_height
-keyword_back keyword.None f g = refl
-keyword_back (keyword.Both size) f g = ap keyword.Both (size_back size (f, g))
-keyword_back (keyword.Width width) f g = ap keyword.Width (float_back width f)
-keyword_back (keyword.Height height) f g = ap keyword.Height (float_back height g)
+keyword_back None f g = refl
+keyword_back (Some (keyword.Both size)) f g = ap (λ (size : Size Float). Some (keyword.Both size)) (size_back size (f, g))
+keyword_back (Some (keyword.Width width)) f g = ap (λ (width : Float). Some (keyword.Width width)) (float_back width f)
+keyword_back (Some (keyword.Height height)) f g = ap (λ (height : Float). Some (keyword.Height height)) (float_back height g)
 
-fill_back : (r : FillReply) → FitsSize (fill_size r) → fill_reply_of (fill_kind r) (again (fill_size r).width) (again (fill_size r).height) ≡ r
-unfolding fill_reply_of fill_kind fill_size
-fill_back fill.None f = refl
-fill_back (fill.Both size) f = ap fill.Both (size_back size f)
+fill_back : (r : Option (Size Float)) → FitsSize (unwrap_or r zero_size) → fill_reply_of (fill_kind r) (again (unwrap_or r zero_size).width) (again (unwrap_or r zero_size).height) ≡ r
+unfolding fill_reply_of fill_kind
+fill_back None f = refl
+fill_back (Some size) f = ap Some (size_back size f)
 
 claims_back : (c : ContainingBlockClaims) → claims_in (claims_code c) ≡ c
 unfolding claims_code

@@ -1,14 +1,11 @@
 -- What comes next, in 10 words: a question or the finish (document 01, "The dialogue"). Assumes nothing.
-use Rattle.std.specs.Prelude.{ℕ, List, [], ◌∷◌, ◌++◌, Float}
+use Rattle.std.specs.Prelude.{ℕ, List, [], ◌∷◌, ◌++◌, Float, None, Option, Some}
 use Rattle.util.specs.Number.{0f}
 use Rattle.util.specs.Maybe.{or_zero}
-use Rattle.util.specs.declared.math.MaybeF32.{MaybeF32}
-use Rattle.util.specs.declared.math.MaybeF32.TheVariants.{None, Some}
 use Rattle.geometry.specs.Geometry.{definite}
-use Rattle.geometry.specs.declared.MaybeSize.{MaybeSize}
+use Rattle.geometry.specs.declared.Size.{Size}
 use Rattle.style.specs.declared.available_space.AvailableSpace.{AvailableSpace}
 use Rattle.style.specs.declared.available_space.AvailableSpace.TheVariants.{Definite, MinContent, MaxContent}
-use Rattle.style.specs.declared.available_space.AvailableSize.{AvailableSize}
 use Rattle.tree_record.specs.Layout.{rect_words}
 use Rattle.oof_box.specs.declared.question.MeasureInput.{MeasureInput}
 use Rattle.oof_box.specs.declared.question.LayoutInput.{LayoutInput}
@@ -19,11 +16,11 @@ use Rattle.oof_c_words.specs.StateWords.{float_word, count_word}
 
 -- ---- words 2 to 5: known sizes, each 0 none or 1 given, then its float; 0 if none
 
-unfoldable pub given : MaybeF32 → ℕ
+unfoldable pub given : Option Float → ℕ
 given None = 0
 given (Some size) = 1
 
-abbrev pub known_words : MaybeSize → List ℕ
+abbrev pub known_words : Size (Option Float) → List ℕ
 known_words known =
     given known.width ∷ float_word (or_zero known.width) ∷ given known.height ∷ float_word (or_zero known.height) ∷ []
 
@@ -39,7 +36,7 @@ space_size (Definite size) = size
 space_size MinContent = 0f
 space_size MaxContent = 0f
 
-abbrev pub space_words : AvailableSize → List ℕ
+abbrev pub space_words : Size AvailableSpace → List ℕ
 space_words space =
     space_kind space.width ∷ float_word (space_size space.width) ∷ space_kind space.height ∷ float_word (space_size space.height) ∷ []
 

@@ -1,9 +1,8 @@
 -- What `oof_first_bad_word` leaves, of a table's words: two words, the first item with a word that breaks a rule and its first such word, or,
 -- where there is none, what stood there. So they name a word only where the result is 1. Assumes nothing.
-use Rattle.std.specs.Prelude.{ℕ, List, [], ◌∷◌}
+use Rattle.std.specs.Prelude.{ℕ, List, [], ◌∷◌, Result, Ok, Err, ⊤}
 use Rattle.style_record.specs.Check.{checked}
-use Rattle.style_record.specs.declared.check.TableCheck.{TableCheck}
-use Rattle.style_record.specs.declared.check.TableCheck.TheVariants.{Good, Bad}
+use Rattle.style_record.specs.declared.check.BadWord.{BadWord}
 use Rattle.oof_c_words.specs.StateWords.{count_word}
 
 -- 1 if there is such a word, or 0, and the two words
@@ -12,9 +11,9 @@ pub record CheckReturned : Type 0 where
   pub found : List ℕ
 
 -- which item of the table, then which word of it, each from 0
-unfoldable pub check_told : TableCheck → List ℕ → CheckReturned
-check_told Good before = record { result = 0; found = before }
-check_told (Bad i k) before = record { result = 1; found = count_word i ∷ count_word k ∷ [] }
+unfoldable pub check_told : Result ⊤ BadWord → List ℕ → CheckReturned
+check_told (Ok _) before = record { result = 0; found = before }
+check_told (Err bad) before = record { result = 1; found = count_word bad.item ∷ count_word bad.word ∷ [] }
 
 -- of a table of styles, and the two words as they came
 unfoldable pub check_in_words : List ℕ → List ℕ → CheckReturned

@@ -1,9 +1,10 @@
 -- What the words of a C call mean, as statements. `proofs/` proves each, under its name in small letters.
 -- `fits binary32 x` says that x is a value of an f32, written in its one way: true of every f32 of a program. Assumes nothing.
-use Rattle.std.specs.Prelude.{ℕ, ◌<◌, ◌≡◌, T, ℤ, length, replicate}
+use Rattle.std.specs.Prelude.{ℕ, ◌<◌, ◌≡◌, T, ℤ, length, replicate, unwrap_or, Float}
 use mathlib.Core.List.{List, [], map, foldl}
 use Rattle.std.specs.Float.Ieee.{fits}
 use Rattle.std.specs.Float.{binary32}
+use Rattle.geometry.specs.Geometry.{zero_size}
 use Rattle.geometry.specs.declared.Point.{Point}
 use Rattle.tree_record.specs.Laws.{FitsSize, FitsPoint, FitsRect}
 use Rattle.oof_box.specs.declared.question.Reply.{Reply}
@@ -13,7 +14,7 @@ use Rattle.run.specs.Run.{closed, opened, replied}
 use Rattle.run.specs.Theorems.{Call, asked_at_opening, asked_with}
 use Rattle.run.specs.declared.Opening.{Opening}
 use Rattle.run.specs.declared.State.{State}
-use Rattle.oof_c_words.specs.StateWords.{at, keyword_width, keyword_height, fill_size, state_of, state_words}
+use Rattle.oof_c_words.specs.StateWords.{at, keyword_width, keyword_height, state_of, state_words}
 use Rattle.oof_c_words.specs.Entry.{Words, words, lent_in, opened_in_words, replied_in_words}
 use Rattle.oof_c_words.specs.PixelWords.{pixels_in_words}
 
@@ -23,7 +24,7 @@ use Rattle.oof_c_words.specs.PixelWords.{pixels_in_words}
 pub record Floats (s : State) : Type 0 where
   pub keyword_width : T (fits binary32 (keyword_width s.replies.keyword))
   pub keyword_height : T (fits binary32 (keyword_height s.replies.keyword))
-  pub fill : FitsSize (fill_size s.replies.fill)
+  pub fill : FitsSize (unwrap_or s.replies.fill zero_size)
   pub overflow : FitsRect s.overflow
   pub size : FitsSize s.opened.container.area.size
   pub offset : FitsPoint s.opened.container.area.offset
@@ -139,6 +140,6 @@ RunIsKept =
 
 abbrev pub OnlyFourWordsAreRead : Type 0
 OnlyFourWordsAreRead =
-    (a b : List ℕ) (offset : Point) (before : List ℤ)
+    (a b : List ℕ) (offset : Point Float) (before : List ℤ)
     → at a 9 ≡ at b 9 → at a 10 ≡ at b 10 → at a 1 ≡ at b 1 → at a 2 ≡ at b 2
     → pixels_in_words a offset before ≡ pixels_in_words b offset before

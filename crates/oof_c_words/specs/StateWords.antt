@@ -1,6 +1,6 @@
 -- The state of a run in 27 words (document 01, "The dialogue": a small state by value). Read `state_of` and `state_words`, the last of each part, as
 -- one table. Assumes nothing.
-use Rattle.std.specs.Prelude.{ℕ, ◌%◌, cond, List, [], ◌∷◌, ◌++◌, eqb, get_or, Float}
+use Rattle.std.specs.Prelude.{ℕ, ◌%◌, cond, List, [], ◌∷◌, ◌++◌, eqb, get_or, Float, Option, None, Some, unwrap_or}
 use Rattle.std.specs.Float.Ieee.{to_bits}
 use Rattle.std.specs.Float.{binary32}
 use Rattle.util.specs.Number.{0f}
@@ -17,8 +17,6 @@ use Rattle.oof_box.specs.declared.question.Stage.{Stage}
 use Rattle.oof_box.specs.declared.question.Stage.TheVariants.{KeywordBoth, KeywordWidth, KeywordHeight, Fill, LayOut}
 use Rattle.oof_box.specs.declared.question.KeywordReply.{KeywordReply}
 use Rattle.oof_box.specs.declared.question.KeywordReply.TheVariants as keyword
-use Rattle.oof_box.specs.declared.question.FillReply.{FillReply}
-use Rattle.oof_box.specs.declared.question.FillReply.TheVariants as fill
 use Rattle.oof_box.specs.declared.question.Replies.{Replies}
 use Rattle.run.specs.Run.{claims_in}
 use Rattle.run.specs.declared.Progress.{Progress}
@@ -65,42 +63,38 @@ progress_code (Asking stage) = stage_code stage
 
 -- ---- the keyword reply: 1 both, 2 a width, 3 a height; any other code is none, and a size that isn't used is 0
 
-unfoldable pub keyword_reply_of : ℕ → Float → Float → KeywordReply
+unfoldable pub keyword_reply_of : ℕ → Float → Float → Option KeywordReply
 keyword_reply_of kind width height =
-    cond (eqb kind 1) (keyword.Both (record { width = width; height = height }))
-    (cond (eqb kind 2) (keyword.Width width)
-    (cond (eqb kind 3) (keyword.Height height) keyword.None))
+    cond (eqb kind 1) (Some (keyword.Both (record { width = width; height = height })))
+    (cond (eqb kind 2) (Some (keyword.Width width))
+    (cond (eqb kind 3) (Some (keyword.Height height)) None))
 
-unfoldable pub keyword_kind : KeywordReply → ℕ
-keyword_kind keyword.None = 0
-keyword_kind (keyword.Both size) = 1
-keyword_kind (keyword.Width width) = 2
-keyword_kind (keyword.Height height) = 3
+unfoldable pub keyword_kind : Option KeywordReply → ℕ
+keyword_kind None = 0
+keyword_kind (Some (keyword.Both size)) = 1
+keyword_kind (Some (keyword.Width width)) = 2
+keyword_kind (Some (keyword.Height height)) = 3
 
-unfoldable pub keyword_width : KeywordReply → Float
-keyword_width keyword.None = 0f
-keyword_width (keyword.Both size) = size.width
-keyword_width (keyword.Width width) = width
-keyword_width (keyword.Height height) = 0f
+unfoldable pub keyword_width : Option KeywordReply → Float
+keyword_width None = 0f
+keyword_width (Some (keyword.Both size)) = size.width
+keyword_width (Some (keyword.Width width)) = width
+keyword_width (Some (keyword.Height height)) = 0f
 
-unfoldable pub keyword_height : KeywordReply → Float
-keyword_height keyword.None = 0f
-keyword_height (keyword.Both size) = size.height
-keyword_height (keyword.Width width) = 0f
-keyword_height (keyword.Height height) = height
+unfoldable pub keyword_height : Option KeywordReply → Float
+keyword_height None = 0f
+keyword_height (Some (keyword.Both size)) = size.height
+keyword_height (Some (keyword.Width width)) = 0f
+keyword_height (Some (keyword.Height height)) = height
 
 -- ---- the fill reply: 1 both; any other code is none
 
-unfoldable pub fill_reply_of : ℕ → Float → Float → FillReply
-fill_reply_of kind width height = cond (eqb kind 1) (fill.Both (record { width = width; height = height })) fill.None
+unfoldable pub fill_reply_of : ℕ → Float → Float → Option (Size Float)
+fill_reply_of kind width height = cond (eqb kind 1) (Some (record { width = width; height = height })) None
 
-unfoldable pub fill_kind : FillReply → ℕ
-fill_kind fill.None = 0
-fill_kind (fill.Both size) = 1
-
-unfoldable pub fill_size : FillReply → Size
-fill_size fill.None = zero_size
-fill_size (fill.Both size) = size
+unfoldable pub fill_kind : Option (Size Float) → ℕ
+fill_kind None = 0
+fill_kind (Some size) = 1
 
 -- ---- claims; `claims_in` of run/specs/Run.antt reads their code
 
@@ -116,7 +110,7 @@ replies_in w =
 unfoldable pub counts_in : List ℕ → Counts
 counts_in w = record { filled = record { working = at w 7; unclaimed = at w 8 }; begun = at w 9; answered = at w 10 }
 
-unfoldable pub overflow_in : List ℕ → Rect
+unfoldable pub overflow_in : List ℕ → Rect Float
 overflow_in w = rect_of w 11
 
 unfoldable pub container_in : List ℕ → ContainingBlock
@@ -146,12 +140,12 @@ state_of w =
 -- ---- the words of a state
 
 -- words 1 to 3
-abbrev pub keyword_words : KeywordReply → List ℕ
+abbrev pub keyword_words : Option KeywordReply → List ℕ
 keyword_words reply = keyword_kind reply ∷ float_word (keyword_width reply) ∷ float_word (keyword_height reply) ∷ []
 
 -- 4 to 6
-abbrev pub fill_words : FillReply → List ℕ
-fill_words reply = fill_kind reply ∷ float_word (fill_size reply).width ∷ float_word (fill_size reply).height ∷ []
+abbrev pub fill_words : Option (Size Float) → List ℕ
+fill_words reply = fill_kind reply ∷ float_word (unwrap_or reply zero_size).width ∷ float_word (unwrap_or reply zero_size).height ∷ []
 
 -- 7 to 10
 abbrev pub counts_words : Counts → List ℕ

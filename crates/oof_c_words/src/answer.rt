@@ -7,20 +7,21 @@ use oof_box::question::{LayoutInput, MeasureInput, Question};
 use run::Finish;
 use style::available_space::AvailableSpace;
 use util::bits;
-use util::math::MaybeF32;
 
 pub const ANSWER_WORDS: usize = 10;
 
 // 1 for a size that is known, else 0.
-fn given(size: MaybeF32) -> u32
+#[tactic(auto, unfolding(crate::specs::AnswerWords::given))]
+fn given(size: Option<f32>) -> u32
     ensures { result ≡ given size }
 {
     match size {
-        MaybeF32::None => 0,
-        MaybeF32::Some(_) => 1,
+        None => 0,
+        Some(_) => 1,
     }
 }
 
+#[tactic(auto, unfolding(crate::specs::AnswerWords::space_kind))]
 fn space_kind(space: AvailableSpace) -> u32
     ensures { result ≡ space_kind space }
 {
@@ -31,6 +32,7 @@ fn space_kind(space: AvailableSpace) -> u32
     }
 }
 
+#[tactic(auto, unfolding(crate::specs::AnswerWords::space_size))]
 fn space_size(space: AvailableSpace) -> f32
     ensures { result ≡ space_size space }
 {
@@ -41,50 +43,39 @@ fn space_size(space: AvailableSpace) -> f32
     }
 }
 
+#[tactic(auto, unfolding(crate::specs::AnswerWords::measure_words))]
 fn measure_words(kind: u32, ask: MeasureInput) -> [u32; ANSWER_WORDS]
     ensures { result ≡ measure_words kind ask }
 {
-    let known = ask.known;
-    let known_width = known.width;
-    let known_height = known.height;
-    let space = ask.space;
-    let width = space.width;
-    let height = space.height;
     [
         kind,
         ask.node,
-        given(known_width),
-        bits::to_word(known_width.unwrap_or(0.0)),
-        given(known_height),
-        bits::to_word(known_height.unwrap_or(0.0)),
-        space_kind(width),
-        bits::to_word(space_size(width)),
-        space_kind(height),
-        bits::to_word(space_size(height)),
+        given(ask.known.width),
+        bits::to_word(ask.known.width.unwrap_or(0.0)),
+        given(ask.known.height),
+        bits::to_word(ask.known.height.unwrap_or(0.0)),
+        space_kind(ask.space.width),
+        bits::to_word(space_size(ask.space.width)),
+        space_kind(ask.space.height),
+        bits::to_word(space_size(ask.space.height)),
     ]
 }
 
+// The final size stands where a question's known sizes do.
+#[tactic(auto, unfolding(crate::specs::AnswerWords::measure_words, crate::specs::AnswerWords::lay_out_words))]
 fn lay_out_words(ask: LayoutInput) -> [u32; ANSWER_WORDS]
     ensures { result ≡ lay_out_words ask }
 {
-    let space = ask.space;
-    let width = space.width;
-    let height = space.height;
-    [
-        4,
-        ask.node,
-        1,
-        bits::to_word(ask.size.width),
-        1,
-        bits::to_word(ask.size.height),
-        space_kind(width),
-        bits::to_word(space_size(width)),
-        space_kind(height),
-        bits::to_word(space_size(height)),
-    ]
+    let input = MeasureInput {
+        node: ask.node,
+        known: ask.size.some(),
+        space: ask.space,
+    };
+    measure_words(4, input)
 }
 
 // The words of a question.
+#[tactic(auto, unfolding(crate::specs::AnswerWords::question_words))]
 pub fn question_words(question: Question) -> [u32; ANSWER_WORDS]
     ensures { result ≡ question_words question }
 {
@@ -97,6 +88,7 @@ pub fn question_words(question: Question) -> [u32; ANSWER_WORDS]
 }
 
 // The words of a finish.
+#[tactic(auto, unfolding(crate::specs::AnswerWords::finish_words))]
 pub fn finish_words(f: Finish) -> [u32; ANSWER_WORDS]
     ensures { result ≡ finish_words f }
 {

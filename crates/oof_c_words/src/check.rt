@@ -3,18 +3,19 @@ ghost use Rattle.std.specs.Prelude.{◌≡◌};
 ghost use Rattle.oof_c_words.specs.CheckWords.{check_told};
 
 use crate::state::count_word;
-use style_record::check::TableCheck;
+use style_record::check::BadWord;
 
 pub const FOUND: usize = 2;
 
 // 1, and item and word are written, if a word breaks a rule; else 0, and nothing is.
-pub fn tell(check: TableCheck, found: &mut [u32; FOUND]) -> u32
+#[tactic(auto, unfolding(crate::specs::CheckWords::check_told))]
+pub fn tell(check: Result<(), BadWord>, found: &mut [u32; FOUND]) -> u32
     ensures { record { result = result; found = found.new } ≡ check_told check found.old }
 {
     match check {
-        TableCheck::Good => 0,
-        TableCheck::Bad { item, word } => {
-            *found = [count_word(item), count_word(word)];
+        Ok(()) => 0,
+        Err(bad) => {
+            *found = [count_word(bad.item), count_word(bad.word)];
             1
         }
     }

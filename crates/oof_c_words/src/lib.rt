@@ -17,7 +17,7 @@ pub fn tell(a: Answer, answer: &mut [u32; answer::ANSWER_WORDS]) -> u32
     ensures { told result answer.new ≡ told (result_of a) (answer_left a answer.old) }
 {
     match a {
-        Answer::Refused(refusal) => refusal.number(),
+        Answer::Refused(refusal) => u32::from(refusal),
         Answer::Ask(question) => {
             *answer = answer::question_words(question);
             0

@@ -1,14 +1,14 @@
 // The state of a run in 27 lent words, by the table of specs/StateWords.antt.
 ghost use Rattle.std.specs.Prelude.{◌≡◌};
 ghost use Rattle.run.specs.Run.{claims_in};
-ghost use Rattle.oof_c_words.specs.StateWords.{count_word, progress_of, stage_code, progress_code, keyword_reply_of, keyword_kind, keyword_width, keyword_height, fill_reply_of, fill_kind, fill_size, replies_in, counts_in, overflow_in, container_in, claims_code, extents_in, opened_in, opening_codes, state_of, state_words};
+ghost use Rattle.oof_c_words.specs.StateWords.{count_word, progress_of, stage_code, progress_code, keyword_reply_of, keyword_kind, keyword_width, keyword_height, fill_reply_of, fill_kind, replies_in, counts_in, overflow_in, container_in, claims_code, extents_in, opened_in, opening_codes, state_of, state_words};
 ghost use Rattle.style.specs.Codes.{direction_code, overflow_code};
 
 use geometry::{Point, Rect, Size};
-use oof_box::question::{FillReply, KeywordReply, Replies, Stage};
+use oof_box::question::{KeywordReply, Replies, Stage};
 use oof_resolve::ContainingBlock;
 use run::{Counts, Extents, Opened, Progress, State};
-use style::{ContainingBlockClaims, Direction, Overflow, OverflowPoint, bits as low};
+use style::{ContainingBlockClaims, Direction, Overflow, bits as low};
 use sweep::Filled;
 use tree::layout::OofPositioningArea;
 use util::bits;
@@ -16,13 +16,6 @@ use util::bits;
 pub const STATE_WORDS: usize = 27;
 
 // ---- codes and counts
-
-// A word as a count.
-fn count(word: u32) -> usize
-    ensures { result ≡ word }
-{
-    word as usize
-}
 
 // A count as a word, modulo 2 ^ 32.
 pub fn count_word(n: usize) -> u32
@@ -44,16 +37,11 @@ fn progress_of(code: u32) -> Progress
     }
 }
 
+#[tactic(auto, unfolding(crate::specs::StateWords::stage_code))]
 fn stage_code(stage: Stage) -> u32
     ensures { result ≡ stage_code stage }
 {
-    match stage {
-        Stage::KeywordBoth => 1,
-        Stage::KeywordWidth => 2,
-        Stage::KeywordHeight => 3,
-        Stage::Fill => 4,
-        Stage::LayOut => 5,
-    }
+    stage as u32 + 1
 }
 
 fn progress_code(progress: Progress) -> u32
@@ -65,111 +53,94 @@ fn progress_code(progress: Progress) -> u32
     }
 }
 
+#[tactic(auto, unfolding(style::specs::Codes::direction_code))]
 fn direction_code(direction: Direction) -> u32
     ensures { result ≡ direction_code direction }
 {
-    match direction {
-        Direction::Ltr => 0,
-        Direction::Rtl => 1,
-    }
+    direction as u32
 }
 
+#[tactic(auto, unfolding(style::specs::Codes::overflow_code))]
 fn overflow_code(overflow: Overflow) -> u32
     ensures { result ≡ overflow_code overflow }
 {
-    match overflow {
-        Overflow::Visible => 0,
-        Overflow::Clip => 1,
-        Overflow::Hidden => 2,
-        Overflow::Scroll => 3,
-    }
+    overflow as u32
 }
 
+#[tactic(auto, unfolding(crate::specs::StateWords::claims_code, style::specs::Codes::bits_code))]
 fn claims_code(claims: ContainingBlockClaims) -> u32
     ensures { result ≡ claims_code claims }
 {
-    if claims.absolute {
-        if claims.fixed {
-            return 3;
-        }
-        return 1;
-    }
-    if claims.fixed {
-        return 2;
-    }
-    0
+    u32::from(claims.absolute) + 2 * u32::from(claims.fixed)
 }
 
 // ---- replies kept
 
-fn keyword_reply_of(kind: u32, width: f32, height: f32) -> KeywordReply
+#[tactic(auto, unfolding(crate::specs::StateWords::keyword_reply_of))]
+fn keyword_reply_of(kind: u32, width: f32, height: f32) -> Option<KeywordReply>
     ensures { result ≡ keyword_reply_of kind width height }
 {
     match kind {
-        1 => KeywordReply::Both(Size { width, height }),
-        2 => KeywordReply::Width(width),
-        3 => KeywordReply::Height(height),
-        _ => KeywordReply::None,
+        1 => Some(KeywordReply::Both(Size { width, height })),
+        2 => Some(KeywordReply::Width(width)),
+        3 => Some(KeywordReply::Height(height)),
+        _ => None,
     }
 }
 
-fn keyword_kind(reply: KeywordReply) -> u32
+#[tactic(auto, unfolding(crate::specs::StateWords::keyword_kind))]
+fn keyword_kind(reply: Option<KeywordReply>) -> u32
     ensures { result ≡ keyword_kind reply }
 {
     match reply {
-        KeywordReply::None => 0,
-        KeywordReply::Both(_) => 1,
-        KeywordReply::Width(_) => 2,
-        KeywordReply::Height(_) => 3,
+        None => 0,
+        Some(KeywordReply::Both(_)) => 1,
+        Some(KeywordReply::Width(_)) => 2,
+        Some(KeywordReply::Height(_)) => 3,
     }
 }
 
-fn keyword_width(reply: KeywordReply) -> f32
+#[tactic(auto, unfolding(crate::specs::StateWords::keyword_width))]
+fn keyword_width(reply: Option<KeywordReply>) -> f32
     ensures { result ≡ keyword_width reply }
 {
     match reply {
-        KeywordReply::None => 0.0,
-        KeywordReply::Both(size) => size.width,
-        KeywordReply::Width(width) => width,
-        KeywordReply::Height(_) => 0.0,
+        None => 0.0,
+        Some(KeywordReply::Both(size)) => size.width,
+        Some(KeywordReply::Width(width)) => width,
+        Some(KeywordReply::Height(_)) => 0.0,
     }
 }
 
-fn keyword_height(reply: KeywordReply) -> f32
+#[tactic(auto, unfolding(crate::specs::StateWords::keyword_height))]
+fn keyword_height(reply: Option<KeywordReply>) -> f32
     ensures { result ≡ keyword_height reply }
 {
     match reply {
-        KeywordReply::None => 0.0,
-        KeywordReply::Both(size) => size.height,
-        KeywordReply::Width(_) => 0.0,
-        KeywordReply::Height(height) => height,
+        None => 0.0,
+        Some(KeywordReply::Both(size)) => size.height,
+        Some(KeywordReply::Width(_)) => 0.0,
+        Some(KeywordReply::Height(height)) => height,
     }
 }
 
-fn fill_reply_of(kind: u32, width: f32, height: f32) -> FillReply
+#[tactic(auto, unfolding(crate::specs::StateWords::fill_reply_of))]
+fn fill_reply_of(kind: u32, width: f32, height: f32) -> Option<Size<f32>>
     ensures { result ≡ fill_reply_of kind width height }
 {
     match kind {
-        1 => FillReply::Both(Size { width, height }),
-        _ => FillReply::None,
+        1 => Some(Size { width, height }),
+        _ => None,
     }
 }
 
-fn fill_kind(reply: FillReply) -> u32
+#[tactic(auto, unfolding(crate::specs::StateWords::fill_kind))]
+fn fill_kind(reply: Option<Size<f32>>) -> u32
     ensures { result ≡ fill_kind reply }
 {
     match reply {
-        FillReply::None => 0,
-        FillReply::Both(_) => 1,
-    }
-}
-
-fn fill_size(reply: FillReply) -> Size
-    ensures { result ≡ fill_size reply }
-{
-    match reply {
-        FillReply::None => Size::ZERO,
-        FillReply::Both(size) => size,
+        None => 0,
+        Some(_) => 1,
     }
 }
 
@@ -184,21 +155,22 @@ fn replies_in(w: &[u32; STATE_WORDS]) -> Replies
     }
 }
 
+#[tactic(auto, unfolding(crate::specs::StateWords::counts_in))]
 fn counts_in(w: &[u32; STATE_WORDS]) -> Counts
     ensures { result ≡ counts_in w.now }
 {
-    let filled = Filled {
-        working: count(w[7]),
-        unclaimed: count(w[8]),
-    };
     Counts {
-        filled: filled,
-        begun: count(w[9]),
-        answered: count(w[10]),
+        filled: Filled {
+            working: w[7] as usize,
+            unclaimed: w[8] as usize,
+        },
+        begun: w[9] as usize,
+        answered: w[10] as usize,
     }
 }
 
-fn overflow_in(w: &[u32; STATE_WORDS]) -> Rect
+#[tactic(auto, unfolding(crate::specs::StateWords::overflow_in, tree_record::specs::Layout::rect_of))]
+fn overflow_in(w: &[u32; STATE_WORDS]) -> Rect<f32>
     ensures { result ≡ overflow_in w.now }
 {
     Rect {
@@ -209,29 +181,26 @@ fn overflow_in(w: &[u32; STATE_WORDS]) -> Rect
     }
 }
 
+#[tactic(auto, unfolding(crate::specs::StateWords::container_in))]
 fn container_in(w: &[u32; STATE_WORDS]) -> ContainingBlock
     ensures { result ≡ container_in w.now }
 {
-    let size = Size {
-        width: bits::from_word(w[15]),
-        height: bits::from_word(w[16]),
-    };
-    let offset = Point {
-        x: bits::from_word(w[17]),
-        y: bits::from_word(w[18]),
-    };
-    let area = OofPositioningArea {
-        size: size,
-        offset: offset,
-    };
-    let overflow = OverflowPoint {
-        x: Overflow::from_code(w[21]),
-        y: Overflow::from_code(w[22]),
-    };
     ContainingBlock {
-        area: area,
-        direction: Direction::from_code(w[19]),
-        overflow: overflow,
+        area: OofPositioningArea {
+            size: Size {
+                width: bits::from_word(w[15]),
+                height: bits::from_word(w[16]),
+            },
+            offset: Point {
+                x: bits::from_word(w[17]),
+                y: bits::from_word(w[18]),
+            },
+        },
+        direction: Direction::from(w[19]),
+        overflow: Point {
+            x: Overflow::from(w[21]),
+            y: Overflow::from(w[22]),
+        },
     }
 }
 
@@ -244,17 +213,19 @@ fn claims_in(code: u32) -> ContainingBlockClaims
     }
 }
 
+#[tactic(auto, unfolding(crate::specs::StateWords::extents_in))]
 fn extents_in(w: &[u32; STATE_WORDS]) -> Extents
     ensures { result ≡ extents_in w.now }
 {
     Extents {
-        styles: count(w[23]),
-        layouts: count(w[24]),
-        working: count(w[25]),
-        unclaimed: count(w[26]),
+        styles: w[23] as usize,
+        layouts: w[24] as usize,
+        working: w[25] as usize,
+        unclaimed: w[26] as usize,
     }
 }
 
+#[tactic(auto, unfolding(crate::specs::StateWords::opened_in))]
 fn opened_in(w: &[u32; STATE_WORDS]) -> Opened
     ensures { result ≡ opened_in w.now }
 {
@@ -266,6 +237,7 @@ fn opened_in(w: &[u32; STATE_WORDS]) -> Opened
 }
 
 // The state that 27 words mean, whatever they are.
+#[tactic(auto, unfolding(crate::specs::StateWords::state_of))]
 pub fn state_of(w: &[u32; STATE_WORDS]) -> State
     ensures { result ≡ state_of w.now }
 {
@@ -281,20 +253,15 @@ pub fn state_of(w: &[u32; STATE_WORDS]) -> State
 // ---- writing
 
 // The codes of an opening: direction, claims, overflow x, overflow y.
+#[tactic(auto, unfolding(crate::specs::StateWords::opening_codes))]
 fn opening_codes(run: Opened) -> [u32; 4]
     ensures { result ≡ opening_codes run }
 {
-    let container = run.container;
-    let direction = container.direction;
-    let overflow = container.overflow;
-    let x = overflow.x;
-    let y = overflow.y;
-    let claims = run.claims;
     [
-        direction_code(direction),
-        claims_code(claims),
-        overflow_code(x),
-        overflow_code(y),
+        direction_code(run.container.direction),
+        claims_code(run.claims),
+        overflow_code(run.container.overflow.x),
+        overflow_code(run.container.overflow.y),
     ]
 }
 
@@ -306,7 +273,7 @@ pub fn state_words(s: State) -> [u32; STATE_WORDS]
     let replies = s.replies;
     let keyword = replies.keyword;
     let fill = replies.fill;
-    let size = fill_size(fill);
+    let size = fill.unwrap_or(Size::ZERO);
     let run = s.opened;
     let codes = opening_codes(run);
     [

@@ -12,23 +12,22 @@ use Rattle.geometry.specs.declared.Size.{Size}
 use Rattle.style.specs.Values.{is_visible, any_scroll_container, contains_overflow}
 use Rattle.style.specs.declared.Contain.{Contain}
 use Rattle.style.specs.declared.Overflow.{Overflow}
-use Rattle.style.specs.declared.OverflowPoint.{OverflowPoint}
 
 -- whether a box's own overflow shows in an axis: visible there, no scroll container in either axis, and nothing contains it
-unfoldable pub propagates : Overflow → OverflowPoint → Contain → Bool
+unfoldable pub propagates : Overflow → Point Overflow → Contain → Bool
 propagates axis overflow contain = not (any_scroll_container overflow) && not (contains_overflow contain) && is_visible axis
 
 -- how far the box reaches in one axis, from its own start edge; its end is the end extent
-unfoldable pub reach : Bool → Float → Line → Line
+unfoldable pub reach : Bool → Float → Line Float → Line Float
 reach shows size own = cond shows (smaller 0f own.start to larger size own.end) (0f to size)
 
 -- counted from the parent's scroll origin; `moved_by` of geometry with the sum the other way round, as the Rust has it
-unfoldable pub placed_at : Float → Line → Line
+unfoldable pub placed_at : Float → Line Float → Line Float
 placed_at at l = at ⊕ l.start to at ⊕ l.end
 
 -- zeros if either end extent is at most 0, or if the parent scrolls, in either axis, and right or bottom is at most 0. The location counts from the
 -- parent's scroll origin, the box's own overflow from its start edge.
-unfoldable pub contribution : Point → Size → Rect → OverflowPoint → Contain → Bool → Rect
+unfoldable pub contribution : Point Float → Size Float → Rect Float → Point Overflow → Contain → Bool → Rect Float
 contribution location size own overflow contain parentScrolls =
     let reach_x = reach (propagates overflow.x overflow contain) size.width (line_x own) in
     let reach_y = reach (propagates overflow.y overflow contain) size.height (line_y own) in

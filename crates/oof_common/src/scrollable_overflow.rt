@@ -1,44 +1,43 @@
 // compute/common/scrollable_overflow.rs: what a box adds to its parent's scrollable overflow.
+#![tactic(auto, unfolding(crate::specs::ScrollableOverflow::propagates, crate::specs::ScrollableOverflow::reach, crate::specs::ScrollableOverflow::placed_at, crate::specs::ScrollableOverflow::contribution))]
+
 ghost use Rattle.std.specs.Prelude.{◌≡◌, ◌&&◌, ◌||◌};
 ghost use Rattle.std.specs.Float.Ieee.{le};
 ghost use Rattle.util.specs.Number.{0f};
 ghost use Rattle.oof_common.specs.ScrollableOverflow.{propagates, reach, placed_at, contribution};
 
 use geometry::{Line, Point, Rect, Size};
-use style::{Contain, Overflow, OverflowPoint};
+use style::{Contain, Overflow};
 use util::sys;
 
 // Whether the box's own overflow shows in an axis.
-fn propagates(axis: Overflow, overflow: OverflowPoint, contain: Contain) -> bool
+fn propagates(axis: Overflow, overflow: Point<Overflow>, contain: Contain) -> bool
     ensures { result ≡ propagates axis overflow contain }
 {
-    if overflow.is_scroll_container() {
-        return false;
-    }
-    if contain.contains_scrollable_overflow() {
-        return false;
-    }
-    axis.is_visible()
+    !style::any_scroll_container(overflow)
+        && !contain.contains_scrollable_overflow()
+        && axis == Overflow::Visible
 }
 
 // How far the box reaches in one axis, from its own start edge: `own` is its overflow there.
-fn reach(shows: bool, size: f32, own: Line) -> Line
+fn reach(shows: bool, size: f32, own: Line<f32>) -> Line<f32>
     ensures { result ≡ reach shows size own }
 {
     if shows {
-        return Line {
+        Line {
             start: sys::f32_min(0.0, own.start),
             end: sys::f32_max(size, own.end),
-        };
-    }
-    Line {
-        start: 0.0,
-        end: size,
+        }
+    } else {
+        Line {
+            start: 0.0,
+            end: size,
+        }
     }
 }
 
 // A line that counts from a box's edge, from where that edge stands.
-fn placed_at(at: f32, line: Line) -> Line
+fn placed_at(at: f32, line: Line<f32>) -> Line<f32>
     ensures { result ≡ placed_at at line }
 {
     Line {
@@ -55,7 +54,7 @@ fn either_at_most_zero(a: f32, b: f32) -> bool
 }
 
 // Whether a parent that scrolls can't reach the box: it stands wholly before the scroll origin.
-fn is_unreachable(scrolls: bool, x: Line, y: Line) -> bool
+fn is_unreachable(scrolls: bool, x: Line<f32>, y: Line<f32>) -> bool
     ensures { result ≡ (scrolls && (le x.end 0f || le y.end 0f)) }
 {
     scrolls && either_at_most_zero(x.end, y.end)
@@ -64,24 +63,22 @@ fn is_unreachable(scrolls: bool, x: Line, y: Line) -> bool
 // `location` and `own` count from the scroll origin and from the box's start edge. A box with nothing to show adds nothing,
 // nor does one wholly before the scroll origin of a parent that scrolls.
 pub fn compute_scrollable_overflow_contribution(
-    location: Point,
-    size: Size,
-    own: Rect,
-    overflow: OverflowPoint,
+    location: Point<f32>,
+    size: Size<f32>,
+    own: Rect<f32>,
+    overflow: Point<Overflow>,
     contain: Contain,
     scrolls: bool,
-) -> Rect
+) -> Rect<f32>
     ensures { result ≡ contribution location size own overflow contain scrolls }
 {
-    let along_x = overflow.x;
-    let along_y = overflow.y;
     let reach_x = reach(
-        propagates(along_x, overflow, contain),
+        propagates(overflow.x, overflow, contain),
         size.width,
         own.horizontal_components(),
     );
     let reach_y = reach(
-        propagates(along_y, overflow, contain),
+        propagates(overflow.y, overflow, contain),
         size.height,
         own.vertical_components(),
     );

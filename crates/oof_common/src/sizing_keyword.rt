@@ -1,28 +1,21 @@
 // compute/common/sizing_keyword.rs: min-content, max-content, fit-content, fit-content(..) and stretch as a width or height.
+#![tactic(auto, unfolding(crate::specs::SizingKeyword::by_keyword, crate::specs::SizingKeyword::of_resolved, crate::specs::SizingKeyword::keyword_of, crate::specs::SizingKeyword::absolute_stretch, crate::specs::SizingKeyword::if_absent, crate::specs::SizingKeyword::keywords_of))]
+
 ghost use Rattle.std.specs.Prelude.{◌≡◌};
 ghost use Rattle.oof_common.specs.SizingKeyword.{by_keyword, keyword_of, if_absent, absolute_stretch, keywords_of};
 
-use geometry::{MaybeLine, MaybeSize, Size};
+use geometry::{Line, Size};
 use style::available_space::AvailableSpace;
-use style::compact_length::{CompactLength, LengthSize};
+use style::compact_length::CompactLength;
 use style::resolve;
 use style::resolve::{Field, Resolved, SizingKeyword};
-use util::math::MaybeF32;
 use util::sys;
 
-// What a side's size keyword comes to, if it has one.
-#[derive(Clone, Copy)]
+// What a side's size keyword comes to.
+#[derive(Clone, Copy, PartialEq)]
 pub enum SizingKeywordResolution {
-    NoKeyword,
     Exact(f32),
     Measure(AvailableSpace),
-}
-
-// Of a box's two sides.
-#[derive(Clone, Copy)]
-pub struct SizingKeywords {
-    pub width: SizingKeywordResolution,
-    pub height: SizingKeywordResolution,
 }
 
 // Stretch is exact; the others are measured, each in a space of its own.
@@ -47,64 +40,54 @@ pub fn resolve_sizing_keyword(
     style: CompactLength,
     stretch: f32,
     basis: f32,
-) -> SizingKeywordResolution
+) -> Option<SizingKeywordResolution>
     ensures { result ≡ keyword_of style stretch basis }
 {
     match resolve::resolve(Field::Size, style, basis) {
-        Resolved::NotAllowed => SizingKeywordResolution::NoKeyword,
-        Resolved::Absent => SizingKeywordResolution::NoKeyword,
-        Resolved::Length(_) => SizingKeywordResolution::NoKeyword,
-        Resolved::Keyword(keyword) => by_keyword(keyword, stretch),
+        Resolved::Keyword(keyword) => Some(by_keyword(keyword, stretch)),
+        Resolved::NotAllowed | Resolved::Absent | Resolved::Length(_) => None,
     }
 }
 
 // The stretch size of a size keyword in one axis: the area less insets and margins, each in turn, auto as 0; at least 0.
-pub fn absolute_stretch_size(size: f32, inset: MaybeLine, margin: MaybeLine) -> f32
+pub fn absolute_stretch_size(size: f32, inset: Line<Option<f32>>, margin: Line<Option<f32>>) -> f32
     ensures { result ≡ absolute_stretch size inset margin }
 {
-    let from = inset.start;
-    let to = inset.end;
-    let before = margin.start;
-    let after = margin.end;
     let free = size
-        - from.unwrap_or(0.0)
-        - to.unwrap_or(0.0)
-        - before.unwrap_or(0.0)
-        - after.unwrap_or(0.0);
+        - inset.start.unwrap_or(0.0)
+        - inset.end.unwrap_or(0.0)
+        - margin.start.unwrap_or(0.0)
+        - margin.end.unwrap_or(0.0);
     sys::f32_max(free, 0.0)
 }
 
 // Only a side that is absent is resolved.
 fn if_absent(
-    known: MaybeF32,
+    known: Option<f32>,
     style: CompactLength,
     stretch: f32,
     basis: f32,
-) -> SizingKeywordResolution
+) -> Option<SizingKeywordResolution>
     ensures { result ≡ if_absent known (keyword_of style stretch basis) }
 {
     match known {
-        MaybeF32::None => resolve_sizing_keyword(style, stretch, basis),
-        MaybeF32::Some(_) => SizingKeywordResolution::NoKeyword,
+        None => resolve_sizing_keyword(style, stretch, basis),
+        Some(_) => None,
     }
 }
 
 // The size keywords of an absolutely positioned box, given the stretch size of each side. Of the Rust's function this is
 // the part before it measures.
 pub fn resolve_absolute_sizing_keywords(
-    known: MaybeSize,
-    style: LengthSize,
-    area: Size,
-    stretch: Size,
-) -> SizingKeywords
+    known: Size<Option<f32>>,
+    style: Size<CompactLength>,
+    area: Size<f32>,
+    stretch: Size<f32>,
+) -> Size<Option<SizingKeywordResolution>>
     ensures { result ≡ keywords_of known style area stretch }
 {
-    let width = known.width;
-    let height = known.height;
-    let width_style = style.width;
-    let height_style = style.height;
-    SizingKeywords {
-        width: if_absent(width, width_style, stretch.width, area.width),
-        height: if_absent(height, height_style, stretch.height, area.height),
+    Size {
+        width: if_absent(known.width, style.width, stretch.width, area.width),
+        height: if_absent(known.height, style.height, stretch.height, area.height),
     }
 }

@@ -22,7 +22,7 @@ unfoldable pub scrollbar_of : Overflow → Float → Float
 scrollbar_of overflow width = cond (is_scroll overflow) width 0f
 
 -- the bar of a vertical scroll takes width, that of a horizontal one height; the location includes the offset
-unfoldable pub layout_of : ContainingBlock → Style → OofCandidate → ResolvedBox → Size → Rect → Layout
+unfoldable pub layout_of : ContainingBlock → Style → OofCandidate → ResolvedBox → Size Float → Rect Float → Layout
 layout_of container style candidate box size overflow =
     let placedX = placement box.horizontal size.width in
     let placedY = placement box.vertical size.height in
@@ -39,12 +39,12 @@ layout_of container style candidate box size overflow =
     }
 
 -- the location from the container's scroll origin: from the area's top, and from its start edge by direction
-unfoldable pub from_origin : ContainingBlock → Point → Size → Point
+unfoldable pub from_origin : ContainingBlock → Point Float → Size Float → Point Float
 from_origin container location size =
     let x = location.x ⊖ container.area.offset.x in
     record { x = cond (is_rtl container.direction) (container.area.size.width ⊖ x ⊖ size.width) x; y = location.y ⊖ container.area.offset.y }
 
-unfoldable pub box_layout : ContainingBlock → Style → OofCandidate → ResolvedBox → Size → Rect → OofBoxLayout
+unfoldable pub box_layout : ContainingBlock → Style → OofCandidate → ResolvedBox → Size Float → Rect Float → OofBoxLayout
 box_layout container style candidate box size overflow =
     let layout = layout_of container style candidate box size overflow in
     record {

@@ -1,6 +1,6 @@
 // compute/oof.rs, the last part of `layout_oof_box`: the layout of a box whose size is final, and what it adds to the container's
 // scrollable overflow (document 01, "One box", step 7).
-#![tactic(auto)]
+#![tactic(auto, unfolding(crate::specs::Placing::scrollbar_of, crate::specs::Placing::layout_of, crate::specs::Placing::from_origin, crate::specs::Placing::box_layout))]
 
 ghost use Rattle.std.specs.Prelude.{◌≡◌};
 ghost use Rattle.oof_place.specs.Placing.{scrollbar_of, layout_of, from_origin, box_layout};
@@ -14,17 +14,18 @@ use tree::layout::{Layout, OofCandidate};
 #[derive(Clone, Copy)]
 pub struct OofBoxLayout {
     pub layout: Layout,
-    pub contribution: Rect,
+    pub contribution: Rect<f32>,
 }
 
 // The room of a scrollbar, where there is one.
 fn scrollbar_of(overflow: Overflow, width: f32) -> f32
     ensures { result ≡ scrollbar_of overflow width }
 {
-    if overflow.is_scroll() {
-        return width;
+    if overflow == Overflow::Scroll {
+        width
+    } else {
+        0.0
     }
-    0.0
 }
 
 // The bar of a vertical scroll takes width, that of a horizontal one height. The location includes the offset.
@@ -33,56 +34,47 @@ fn layout_of(
     style: Style,
     candidate: OofCandidate,
     resolved: ResolvedBox,
-    size: Size,
-    overflow: Rect,
+    size: Size<f32>,
+    overflow: Rect<f32>,
 ) -> Layout
     ensures { result ≡ layout_of container style candidate resolved size overflow }
 {
     let offset = container.area.offset;
-    let horizontal = resolved.horizontal;
-    let vertical = resolved.vertical;
-    let padding = resolved.padding;
-    let border = resolved.border;
-    let clip = style.overflow;
-    let clip_x = clip.x;
-    let clip_y = clip.y;
-    let placed_x = horizontal.placement(size.width);
-    let placed_y = vertical.placement(size.height);
-    let margin_x = placed_x.margin;
-    let margin_y = placed_y.margin;
+    let x = resolved.horizontal.placement(size.width);
+    let y = resolved.vertical.placement(size.height);
     Layout {
         order: candidate.order,
-        size: size,
-        overflow: overflow,
+        size,
+        overflow,
         scrollbar: Size {
-            width: scrollbar_of(clip_y, style.scrollbar),
-            height: scrollbar_of(clip_x, style.scrollbar),
+            width: scrollbar_of(style.overflow.y, style.scrollbar),
+            height: scrollbar_of(style.overflow.x, style.scrollbar),
         },
         location: Point {
-            x: placed_x.position + offset.x,
-            y: placed_y.position + offset.y,
+            x: x.position + offset.x,
+            y: y.position + offset.y,
         },
-        padding: padding,
-        border: border,
-        margin: Rect::from_components(margin_x, margin_y),
+        padding: resolved.padding,
+        border: resolved.border,
+        margin: Rect::from_components(x.margin, y.margin),
     }
 }
 
 // The location from the scroll origin: the area's top, and its start edge by direction.
-fn from_origin(container: ContainingBlock, location: Point, size: Size) -> Point
+fn from_origin(container: ContainingBlock, location: Point<f32>, size: Size<f32>) -> Point<f32>
     ensures { result ≡ from_origin container location size }
 {
     let offset = container.area.offset;
-    let direction = container.direction;
     let x = location.x - offset.x;
     let y = location.y - offset.y;
-    if direction.is_rtl() {
-        return Point {
+    if container.direction.is_rtl() {
+        Point {
             x: container.area.size.width - x - size.width,
-            y: y,
-        };
+            y,
+        }
+    } else {
+        Point { x, y }
     }
-    Point { x: x, y: y }
 }
 
 pub fn place(
@@ -90,27 +82,22 @@ pub fn place(
     style: Style,
     candidate: OofCandidate,
     resolved: ResolvedBox,
-    size: Size,
-    overflow: Rect,
+    size: Size<f32>,
+    overflow: Rect<f32>,
 ) -> OofBoxLayout
     ensures { result ≡ box_layout container style candidate resolved size overflow }
 {
-    let clip = style.overflow;
-    let contain = style.contain;
-    let parent_overflow = container.overflow;
     let layout = layout_of(container, style, candidate, resolved, size, overflow);
-    let location = layout.location;
-    let origin = from_origin(container, location, size);
-    let added = scrollable_overflow::compute_scrollable_overflow_contribution(
-        origin,
+    let contribution = scrollable_overflow::compute_scrollable_overflow_contribution(
+        from_origin(container, layout.location, size),
         size,
         overflow,
-        clip,
-        contain,
-        parent_overflow.is_scroll_container(),
+        style.overflow,
+        style.contain,
+        style::any_scroll_container(container.overflow),
     );
     OofBoxLayout {
-        layout: layout,
-        contribution: added,
+        layout,
+        contribution,
     }
 }

@@ -1,84 +1,38 @@
 -- The laws of `specs/Laws.antt` on the edges of a box. Assumes nothing.
 use native.Mathlib.Omega.{arith}
-use mathlib.Core.Bool.{Bool, true, false, cond, ◌&&◌}
-use mathlib.Core.List.{List, [], ◌∷◌}
-use mathlib.Core.Logic.Iff
-use mathlib.Core.Logic.{◌↔◌, ◌⊎◌, inl, inr}
+use Rattle.std.proofs.lemmas.Int.{ints}
+use mathlib.Core.Bool.{Bool, true, false, cond, and-eq-true_iff}
+use mathlib.Core.List.{[], ◌∷◌}
+use mathlib.Core.Logic.{◌↔◌}
 use mathlib.Core.Path.{◌≡◌, refl, sym, ap, ◌∙◌}
-use lib.IntN.{ℤ, pos, neg_ℤ, ◌+ℤ◌, ◌-ℤ◌, ◌*ℤ◌, +ℤ_assoc, +ℤ_comm, +ℤ-neg_ℤ_cancel}
+use lib.IntN.{ℤ, ◌+ℤ◌, ◌-ℤ◌}
 use lib.Ieee.{Float, eq}
+use Rattle.std.specs.Prelude.{Ok, Err, Float}
 use Rattle.util.specs.Number.{◌⊕◌}
 use Rattle.util.proofs.Floats.{no}
 use Rattle.geometry.specs.declared.Point.{Point}
-use Rattle.refusal.specs.declared.Refusal.{Refusal}
 use Rattle.refusal.specs.declared.Refusal.TheVariants.{NotInEighths}
 use Rattle.tree.specs.declared.layout.Layout.{Layout}
-use Rattle.pixels.specs.declared.PixelRect.{PixelRect}
-use Rattle.pixels.specs.declared.Pixels.{Pixels}
-use Rattle.pixels.specs.declared.Pixels.TheVariants.{Edges, Refused}
+use Rattle.geometry.specs.declared.Rect.{Rect}
 use Rattle.pixels.specs.Accepted.{accepted, in_eighths}
 use Rattle.pixels.specs.Pixels.{pixel_of, line_of, edges_of, all_accepted, numbers_read, pixel_edges}
-use Rattle.pixels.specs.Conditions.{IsInEighths, NotAllInEighths}
+use Rattle.pixels.specs.Conditions.{NotAllInEighths}
 use Rattle.pixels.specs.Laws.{RefusedExactly, OnlySixAreRead, EdgesAreExact, OffsetDropsOut, TouchingStays, TouchingByFloatsStays, Near, SizesAreNear, Ordered, EdgesInOrder, Small, EdgesAreSmall}
-use Rattle.pixels.proofs.Pairs.{add_is, neg_is, times_is, le_from, le_to, lt_to}
-use Rattle.pixels.proofs.Held.{Within, start_within, end_within}
-use Rattle.pixels.proofs.Laws.{pixel_is, order_is_kept}
-use Rattle.pixels.proofs.Numbers.{accepted_exactly}
+use Rattle.pixels.proofs.Laws.{pixel_means, order_is_kept}
+use Rattle.pixels.proofs.Numbers.{eighths_small, not_all}
 use Rattle.pixels.proofs.Sums.{accepted_sum_is_exact}
 
 -- ---- what is answered, by the test
 
-abbrev pub is_refused : Pixels → Bool
-is_refused (Edges p) = false
-is_refused (Refused r) = true
-
-abbrev refusal_of : Pixels → Refusal
-refusal_of (Edges p) = NotInEighths
-refusal_of (Refused r) = r
-
-abbrev OneIsNot : List Float → Type 0
-OneIsNot [] = ⊥
-OneIsNot (x ∷ xs) = (¬ IsInEighths x) ⊎ OneIsNot xs
-
-not_all : (xs : List Float) → (all_accepted xs ≡ false) ↔ OneIsNot xs
-unfolding all_accepted
-not_all [] = (λ e. no refl e, λ z. absurd z)
-not_all (x ∷ xs) = go (accepted x) refl (all_accepted xs) (not_all xs)
-  where
-    go : (b : Bool) → accepted x ≡ b → (c : Bool) → (c ≡ false) ↔ OneIsNot xs → ((b && c) ≡ false) ↔ OneIsNot (x ∷ xs)
-    go true e c i = (λ z. inr (i.0 z), elim [ inl n ↦ absurd (n ((accepted_exactly x).0 e)) | inr o ↦ i.1 o ])
-    go false e c i = (λ z. inl (λ n. no ((accepted_exactly x).1 n) e), λ z. refl)
-
--- the six, one by one
-the_six : (l : Layout) (o : Point) → OneIsNot (numbers_read l.location l.size o) ↔ NotAllInEighths l o
-the_six l o = (there, back)
-  where
-    there : OneIsNot (numbers_read l.location l.size o) → NotAllInEighths l o
-    there (inl n) = inl n
-    there (inr (inl n)) = inr (inl n)
-    there (inr (inr (inl n))) = inr (inr (inl n))
-    there (inr (inr (inr (inl n)))) = inr (inr (inr (inl n)))
-    there (inr (inr (inr (inr (inl n))))) = inr (inr (inr (inr (inl n))))
-    there (inr (inr (inr (inr (inr (inl n)))))) = inr (inr (inr (inr (inr n))))
-    there (inr (inr (inr (inr (inr (inr z)))))) = absurd z
-
-    back : NotAllInEighths l o → OneIsNot (numbers_read l.location l.size o)
-    back (inl n) = inl n
-    back (inr (inl n)) = inr (inl n)
-    back (inr (inr (inl n))) = inr (inr (inl n))
-    back (inr (inr (inr (inl n)))) = inr (inr (inr (inl n)))
-    back (inr (inr (inr (inr (inl n))))) = inr (inr (inr (inr (inl n))))
-    back (inr (inr (inr (inr (inr n))))) = inr (inr (inr (inr (inr (inl n)))))
-
 pub refused_exactly : RefusedExactly
 unfolding pixel_edges
 refused_exactly l o r =
-    go (all_accepted (numbers_read l.location l.size o)) (Iff.trans (not_all (numbers_read l.location l.size o)) (the_six l o))
+    go (all_accepted (numbers_read l.location l.size o)) (not_all l.location.x (l.location.y ∷ l.size.width ∷ l.size.height ∷ o.x ∷ o.y ∷ []))
   where
     go : (b : Bool) → (b ≡ false) ↔ NotAllInEighths l o
-        → (cond b (Edges (edges_of l.location l.size o)) (Refused NotInEighths) ≡ Refused r) ↔ ((r ≡ NotInEighths) × NotAllInEighths l o)
-    go true i = (λ e. no (ap is_refused e) refl, λ k. no refl (i.1 k.1))
-    go false i = (λ e. (sym (ap refusal_of e), i.0 refl), λ k. ap Refused (sym k.0))
+        → (cond b (Ok (edges_of l.location l.size o)) (Err NotInEighths) ≡ Err r) ↔ ((r ≡ NotInEighths) × NotAllInEighths l o)
+    go true i = (λ e. absurd cc, λ k. no refl (i.1 k.1))
+    go false i = (λ e. (cc, i.0 refl), λ k. ap Err (sym k.0))
 
 pub only_six_are_read : OnlySixAreRead
 unfolding pixel_edges
@@ -86,15 +40,7 @@ only_six_are_read a b o p q = rw (p, q) refl
 
 -- ---- where edges are given: all six numbers are accepted, and these are the edges
 
-abbrev rect_in : PixelRect → Pixels → PixelRect
-rect_in p (Edges q) = q
-rect_in p (Refused r) = p
-
-and_is : (a b : Bool) → (a && b) ≡ true → (a ≡ true) × (b ≡ true)
-and_is true b e = (refl, e)
-and_is false b e = no e refl
-
-record Given (l : Layout) (o : Point) (p : PixelRect) : Type 0 where
+record Given (l : Layout) (o : Point Float) (p : Rect ℤ) : Type 0 where
   x : accepted l.location.x ≡ true
   y : accepted l.location.y ≡ true
   width : accepted l.size.width ≡ true
@@ -103,26 +49,22 @@ record Given (l : Layout) (o : Point) (p : PixelRect) : Type 0 where
   offset_y : accepted o.y ≡ true
   edges : p ≡ edges_of l.location l.size o
 
-given : (l : Layout) (o : Point) (p : PixelRect) → pixel_edges l o ≡ Edges p → Given l o p
+given : (l : Layout) (o : Point Float) (p : Rect ℤ) → pixel_edges l o ≡ Ok p → Given l o p
 unfolding pixel_edges all_accepted
 given l o p = go (all_accepted (numbers_read l.location l.size o)) refl
   where
     go : (b : Bool) → all_accepted (numbers_read l.location l.size o) ≡ b
-        → cond b (Edges (edges_of l.location l.size o)) (Refused NotInEighths) ≡ Edges p
+        → cond b (Ok (edges_of l.location l.size o)) (Err NotInEighths) ≡ Ok p
         → Given l o p
-    go false t e = no refl (ap is_refused e)
+    go false t e = absurd cc
     go true t e =
-        let x = and_is (accepted l.location.x) _ t in
-        let y = and_is (accepted l.location.y) _ x.1 in
-        let w = and_is (accepted l.size.width) _ y.1 in
-        let h = and_is (accepted l.size.height) _ w.1 in
-        let a = and_is (accepted o.x) _ h.1 in
-        let b = and_is (accepted o.y) _ a.1 in
-        record { x = x.0; y = y.0; width = w.0; height = h.0; offset_x = a.0; offset_y = b.0; edges = sym (ap (rect_in p) e) }
-
--- less the offset, then the size, or the size first
-turned : (a o s : ℤ) → a -ℤ o +ℤ s ≡ a +ℤ s -ℤ o
-turned a o s = +ℤ_assoc a (neg_ℤ o) s ∙ ap (λ (z : ℤ). a +ℤ z) (+ℤ_comm (neg_ℤ o) s) ∙ sym (+ℤ_assoc a s (neg_ℤ o))
+        let x = (and-eq-true_iff (accepted l.location.x) _).0 t in
+        let y = (and-eq-true_iff (accepted l.location.y) _).0 x.1 in
+        let w = (and-eq-true_iff (accepted l.size.width) _).0 y.1 in
+        let h = (and-eq-true_iff (accepted l.size.height) _).0 w.1 in
+        let a = (and-eq-true_iff (accepted o.x) _).0 h.1 in
+        let b = (and-eq-true_iff (accepted o.y) _).0 a.1 in
+        record { x = x.0; y = y.0; width = w.0; height = h.0; offset_x = a.0; offset_y = b.0; edges = cc }
 
 pub edges_are_exact : EdgesAreExact
 unfolding edges_of line_of
@@ -130,16 +72,15 @@ edges_are_exact l o p e =
     rw (given l o p e).edges
     (record {
       left = refl;
-      right = ap pixel_of (turned (in_eighths l.location.x) (in_eighths o.x) (in_eighths l.size.width));
+      right = ap pixel_of (omega (arith, ints));
       top = refl;
-      bottom = ap pixel_of (turned (in_eighths l.location.y) (in_eighths o.y) (in_eighths l.size.height));
+      bottom = ap pixel_of (omega (arith, ints));
     })
 
 -- what is added in floats is taken off in integers
 dropped : (begin offset at : Float) → accepted begin ≡ true → accepted offset ≡ true → accepted at ≡ true → eq (begin ⊕ offset) at ≡ true
     → in_eighths at -ℤ in_eighths offset ≡ in_eighths begin
-dropped begin offset at a b c e =
-    ap (λ (z : ℤ). z -ℤ in_eighths offset) (sym (accepted_sum_is_exact begin offset at a b c e)) ∙ +ℤ-neg_ℤ_cancel (in_eighths begin) (in_eighths offset)
+dropped begin offset at a b c e = let s = accepted_sum_is_exact begin offset at a b c e in omega (arith, ints)
 
 pub offset_drops_out : OffsetDropsOut
 offset_drops_out l o p e begin b =
@@ -154,10 +95,7 @@ offset_drops_out l o p e begin b =
         → end ≡ pixel_of (in_eighths at +ℤ in_eighths size -ℤ in_eighths offset)
         → in_eighths at -ℤ in_eighths offset ≡ in_eighths begin
         → (start ≡ pixel_of (in_eighths begin)) × (end ≡ pixel_of (in_eighths begin +ℤ in_eighths size))
-    from at offset size h k d = (
-      h ∙ ap pixel_of d,
-      k ∙ ap pixel_of (sym (turned (in_eighths at) (in_eighths offset) (in_eighths size))) ∙ ap (λ (z : ℤ). pixel_of (z +ℤ in_eighths size)) d,
-    )
+    from at offset size h k d = (h ∙ ap pixel_of d, k ∙ ap pixel_of (omega (arith, ints)))
 
 pub touching_stays : TouchingStays
 touching_stays a b o p q e f =
@@ -182,18 +120,9 @@ near : (at size offset : Float) → let l = line_of at size offset in Near (l.en
 unfolding line_of
 near at size offset =
     let n = in_eighths at -ℤ in_eighths offset in
-    let z = in_eighths size in
-    let p = pixel_of n in
-    let q = pixel_of (n +ℤ z) in
-    let a = pixel_is n in
-    let b = pixel_is (n +ℤ z) in
-    let s = add_is n z in
-    let m = neg_is p in
-    let d = add_is q (neg_ℤ p) in
-    let t = times_is 8 (q -ℤ p) in
-    let lo = add_is z (neg_ℤ (pos 8)) in
-    let hi = add_is z (pos 8) in
-    (lt_to (z -ℤ pos 8) (pos 8 *ℤ (q -ℤ p)) (omega arith), lt_to (pos 8 *ℤ (q -ℤ p)) (z +ℤ pos 8) (omega arith))
+    let a = pixel_means n in
+    let b = pixel_means (n +ℤ in_eighths size) in
+    (omega (arith, ints), omega (arith, ints))
 
 pub sizes_are_near : SizesAreNear
 unfolding edges_of
@@ -204,21 +133,22 @@ unfolding line_of
 in_order at size offset =
     let n = in_eighths at -ℤ in_eighths offset in
     let m = n +ℤ in_eighths size in
-    let s = add_is n (in_eighths size) in (
-      λ h. let l = le_from h in order_is_kept n m (le_to n m (omega arith)),
-      λ h. let l = le_from h in order_is_kept m n (le_to m n (omega arith)),
-    )
+    (λ h. order_is_kept n m (omega (arith, ints)), λ h. order_is_kept m n (omega (arith, ints)))
 
 pub edges_in_order : EdgesInOrder
 unfolding edges_of
 edges_in_order l o p e = rw (given l o p e).edges (in_order _ _ _, in_order _ _ _)
 
-small : (n : ℤ) → Within 29999997 n → Small (pixel_of n)
-small n h = let b = pixel_is n in (le_to (neg_ℤ (pos 3750000)) (pixel_of n) (omega arith), le_to (pixel_of n) (pos 3750000) (omega arith))
-
 smalls : (at size offset : Float) → let l = line_of at size offset in Small l.start × Small l.end
 unfolding line_of
-smalls at size offset = (small _ (start_within at offset), small _ (end_within at offset size))
+smalls at size offset =
+    let n = in_eighths at -ℤ in_eighths offset in
+    let a = pixel_means n in
+    let b = pixel_means (n +ℤ in_eighths size) in
+    let h = eighths_small at in
+    let k = eighths_small size in
+    let l = eighths_small offset in
+    ((omega (arith, ints), omega (arith, ints)), (omega (arith, ints), omega (arith, ints)))
 
 pub edges_are_small : EdgesAreSmall
 unfolding edges_of

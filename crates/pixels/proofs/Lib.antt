@@ -1,7 +1,6 @@
 pub mod Rows
-pub mod Pairs
-pub mod Held
 pub mod Laws
+pub mod Held
 pub mod Numbers
 pub mod Sums
 pub mod Edges

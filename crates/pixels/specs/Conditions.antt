@@ -14,7 +14,7 @@ abbrev pub IsInEighths : Float → Type 0
 IsInEighths x = (s : Bool) × (n : ℕ) × SmallEighths x s n
 
 -- 9, "not in eighths": one of "x, y, width, height and the offset" isn't so
-abbrev pub NotAllInEighths : Layout → Point → Type 0
+abbrev pub NotAllInEighths : Layout → Point Float → Type 0
 NotAllInEighths layout offset =
     (¬ IsInEighths layout.location.x)
     ⊎ (¬ IsInEighths layout.location.y)
@@ -25,5 +25,5 @@ NotAllInEighths layout offset =
 
 -- what is tested, by its number, as opening_tests of run/specs/Conditions.antt. 9 "is tested after 1 to 7": of those none can hold here, where
 -- no code, slice, style, candidate, reply or alignment is taken, so that 9 stands alone
-abbrev pub pixel_tests : Layout → Point → List (ℕ × Type 0)
+abbrev pub pixel_tests : Layout → Point Float → List (ℕ × Type 0)
 pixel_tests layout offset = (9, NotAllInEighths layout offset) ∷ []

@@ -1,14 +1,13 @@
 -- What the definitions of this crate mean, as statements. `proofs/` proves each, under its name in small letters. `a ≤ℤ b` and
 -- `a <ℤ b` are the order of the integers; `eq` is == of the f32. Assumes nothing.
-use Rattle.std.specs.Prelude.{ℕ, ◌<◌, Bool, true, false, ◌↔◌, ◌≡◌, ℤ, pos, neg_ℤ, ◌+ℤ◌, ◌-ℤ◌, ◌*ℤ◌, ◌≤ℤ◌, ◌<ℤ◌, Float}
+use Rattle.std.specs.Prelude.{ℕ, ◌<◌, Bool, true, false, ◌↔◌, ◌≡◌, ℤ, pos, neg_ℤ, ◌+ℤ◌, ◌-ℤ◌, ◌*ℤ◌, ◌≤ℤ◌, ◌<ℤ◌, Float, Ok, Err}
 use Rattle.std.specs.Float.Ieee.{eq}
 use Rattle.util.specs.Number.{◌⊕◌}
 use Rattle.geometry.specs.declared.Point.{Point}
 use Rattle.refusal.specs.declared.Refusal.{Refusal}
 use Rattle.refusal.specs.declared.Refusal.TheVariants.{NotInEighths}
 use Rattle.tree.specs.declared.layout.Layout.{Layout}
-use Rattle.pixels.specs.declared.PixelRect.{PixelRect}
-use Rattle.pixels.specs.declared.Pixels.TheVariants.{Edges, Refused}
+use Rattle.geometry.specs.declared.Rect.{Rect}
 use Rattle.pixels.specs.Accepted.{accepted, signed, in_eighths}
 use Rattle.pixels.specs.Pixels.{floor, pixel_of, pixel_edges}
 use Rattle.pixels.specs.Conditions.{SmallEighths, IsInEighths, NotAllInEighths}
@@ -55,27 +54,27 @@ WholePixelsMove = (n k : ℤ) → pixel_of (n +ℤ pos 8 *ℤ k) ≡ pixel_of n 
 -- ---- the edges of a box
 
 abbrev pub RefusedExactly : Type 0
-RefusedExactly = (l : Layout) (o : Point) (r : Refusal) → (pixel_edges l o ≡ Refused r) ↔ ((r ≡ NotInEighths) × NotAllInEighths l o)
+RefusedExactly = (l : Layout) (o : Point Float) (r : Refusal) → (pixel_edges l o ≡ Err r) ↔ ((r ≡ NotInEighths) × NotAllInEighths l o)
 
 -- "It reads only x, y, width, height and the offset"
 abbrev pub OnlySixAreRead : Type 0
-OnlySixAreRead = (a b : Layout) (o : Point) → a.location ≡ b.location → a.size ≡ b.size → pixel_edges a o ≡ pixel_edges b o
+OnlySixAreRead = (a b : Layout) (o : Point Float) → a.location ≡ b.location → a.size ≡ b.size → pixel_edges a o ≡ pixel_edges b o
 
 -- where the box begins and where it ends, less the area's offset
-pub record AtExactEdges (l : Layout) (o : Point) (p : PixelRect) : Type 0 where
+pub record AtExactEdges (l : Layout) (o : Point Float) (p : Rect ℤ) : Type 0 where
   pub left : p.left ≡ pixel_of (in_eighths l.location.x -ℤ in_eighths o.x)
   pub right : p.right ≡ pixel_of (in_eighths l.location.x +ℤ in_eighths l.size.width -ℤ in_eighths o.x)
   pub top : p.top ≡ pixel_of (in_eighths l.location.y -ℤ in_eighths o.y)
   pub bottom : p.bottom ≡ pixel_of (in_eighths l.location.y +ℤ in_eighths l.size.height -ℤ in_eighths o.y)
 
 abbrev pub EdgesAreExact : Type 0
-EdgesAreExact = (l : Layout) (o : Point) (p : PixelRect) → pixel_edges l o ≡ Edges p → AtExactEdges l o p
+EdgesAreExact = (l : Layout) (o : Point Float) (p : Rect ℤ) → pixel_edges l o ≡ Ok p → AtExactEdges l o p
 
 -- "relative to the area": a run writes as x where the box begins in its area plus the area's offset (oof_place/specs/Placing.antt). Where that
 -- beginning is in eighths, the offset drops out; the same down
 abbrev pub OffsetDropsOut : Type 0
 OffsetDropsOut =
-    (l : Layout) (o : Point) (p : PixelRect) → pixel_edges l o ≡ Edges p
+    (l : Layout) (o : Point Float) (p : Rect ℤ) → pixel_edges l o ≡ Ok p
     → (begin : Float) → accepted begin ≡ true
     → let n = in_eighths begin in
     (eq (begin ⊕ o.x) l.location.x ≡ true → (p.left ≡ pixel_of n) × (p.right ≡ pixel_of (n +ℤ in_eighths l.size.width)))
@@ -84,14 +83,14 @@ OffsetDropsOut =
 -- "Two boxes whose edges touch before still touch after": in one area, where the one ends exactly where the other begins
 abbrev pub TouchingStays : Type 0
 TouchingStays =
-    (a b : Layout) (o : Point) (p q : PixelRect) → pixel_edges a o ≡ Edges p → pixel_edges b o ≡ Edges q
+    (a b : Layout) (o : Point Float) (p q : Rect ℤ) → pixel_edges a o ≡ Ok p → pixel_edges b o ≡ Ok q
     → (in_eighths a.location.x +ℤ in_eighths a.size.width ≡ in_eighths b.location.x → p.right ≡ q.left)
     × (in_eighths a.location.y +ℤ in_eighths a.size.height ≡ in_eighths b.location.y → p.bottom ≡ q.top)
 
 -- so do those that touch by the sum of the f32s
 abbrev pub TouchingByFloatsStays : Type 0
 TouchingByFloatsStays =
-    (a b : Layout) (o : Point) (p q : PixelRect) → pixel_edges a o ≡ Edges p → pixel_edges b o ≡ Edges q
+    (a b : Layout) (o : Point Float) (p q : Rect ℤ) → pixel_edges a o ≡ Ok p → pixel_edges b o ≡ Ok q
     → (eq (a.location.x ⊕ a.size.width) b.location.x ≡ true → p.right ≡ q.left)
     × (eq (a.location.y ⊕ a.size.height) b.location.y ≡ true → p.bottom ≡ q.top)
 
@@ -101,7 +100,7 @@ Near pixels size = ((in_eighths size -ℤ pos 8) <ℤ (pos 8 *ℤ pixels)) × ((
 
 abbrev pub SizesAreNear : Type 0
 SizesAreNear =
-    (l : Layout) (o : Point) (p : PixelRect) → pixel_edges l o ≡ Edges p
+    (l : Layout) (o : Point Float) (p : Rect ℤ) → pixel_edges l o ≡ Ok p
     → Near (p.right -ℤ p.left) l.size.width × Near (p.bottom -ℤ p.top) l.size.height
 
 -- a size that isn't negative gives no end before its start, and one that isn't positive none after it
@@ -110,7 +109,7 @@ Ordered start end size = (pos 0 ≤ℤ in_eighths size → start ≤ℤ end) × 
 
 abbrev pub EdgesInOrder : Type 0
 EdgesInOrder =
-    (l : Layout) (o : Point) (p : PixelRect) → pixel_edges l o ≡ Edges p
+    (l : Layout) (o : Point Float) (p : Rect ℤ) → pixel_edges l o ≡ Ok p
     → Ordered p.left p.right l.size.width × Ordered p.top p.bottom l.size.height
 
 -- no edge is more than 3,750,000 pixels from the area's left or top one: an i32 holds it
@@ -119,5 +118,5 @@ Small edge = (neg_ℤ (pos 3750000) ≤ℤ edge) × (edge ≤ℤ pos 3750000)
 
 abbrev pub EdgesAreSmall : Type 0
 EdgesAreSmall =
-    (l : Layout) (o : Point) (p : PixelRect) → pixel_edges l o ≡ Edges p
+    (l : Layout) (o : Point Float) (p : Rect ℤ) → pixel_edges l o ≡ Ok p
     → Small p.left × Small p.right × Small p.top × Small p.bottom

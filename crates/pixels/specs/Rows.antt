@@ -1,12 +1,11 @@
 -- Rows worked out by hand; `proofs/Rows.antt` computes each. Floats are written by their words; `8e` is eight eighths. Assumes nothing.
-use Rattle.std.specs.Prelude.{ℕ, ◌≡◌, ℤ, pos, neg_ℤ, Float}
+use Rattle.std.specs.Prelude.{ℕ, ◌≡◌, ℤ, pos, neg_ℤ, Float, Ok, Err}
 use Rattle.std.specs.Float.Ieee.{of_bits}
 use Rattle.std.specs.Float.{binary32}
 use Rattle.geometry.specs.declared.Point.{Point}
 use Rattle.geometry.specs.declared.Rect.{Rect}
 use Rattle.refusal.specs.declared.Refusal.TheVariants.{NotInEighths}
 use Rattle.tree.specs.declared.layout.Layout.{Layout}
-use Rattle.pixels.specs.declared.Pixels.TheVariants.{Edges, Refused}
 use Rattle.pixels.specs.Pixels.{pixel_of, line_of, pixel_edges}
 
 -- "−4 gives 0 and −5 gives −1": no rounding toward zero, and no half away from zero
@@ -55,7 +54,7 @@ LineRows =
 -- a layout whose x, y, width and height are given; every other float is `other`
 abbrev box : ℕ → ℕ → ℕ → ℕ → ℕ → Layout
 box x y width height other =
-    let side : Rect = record { left = float other; right = float other; top = float other; bottom = float other } in
+    let side : Rect Float = record { left = float other; right = float other; top = float other; bottom = float other } in
     record {
       order = 0;
       size = record { width = float width; height = float height };
@@ -67,23 +66,23 @@ box x y width height other =
       margin = side;
     }
 
-abbrev point : ℕ → ℕ → Point
+abbrev point : ℕ → ℕ → Point Float
 point x y = record { x = float x; y = float y }
 
 abbrev pub EdgeRows : Type 0
 EdgeRows =
     -- all four differ: x 8e, y 24e, 32e wide, 80e high, the area at 0e and 8e
-    (pixel_edges (box 0x3F80_0000 0x4040_0000 0x4080_0000 0x4120_0000 0) (point 0 0x3F80_0000) ≡ Edges (record { left = pos 1; right = pos 5; top = pos 2; bottom = pos 12 }))
+    (pixel_edges (box 0x3F80_0000 0x4040_0000 0x4080_0000 0x4120_0000 0) (point 0 0x3F80_0000) ≡ Ok (record { left = pos 1; right = pos 5; top = pos 2; bottom = pos 12 }))
     -- numbers below zero and at the limit: x -13e, 9,999,999e wide, the area at 3e; y 24e, -16e high, the area at -9,999,999e
-    × (pixel_edges (box 0xBFD0_0000 0x4040_0000 0x4998_967F 0xC000_0000 0) (point 0x3EC0_0000 0xC998_967F) ≡ Edges (record { left = neg_ℤ (pos 2); right = pos 1249998; top = pos 1250003; bottom = pos 1250001 }))
+    × (pixel_edges (box 0xBFD0_0000 0x4040_0000 0x4998_967F 0xC000_0000 0) (point 0x3EC0_0000 0xC998_967F) ≡ Ok (record { left = neg_ℤ (pos 2); right = pos 1249998; top = pos 1250003; bottom = pos 1250001 }))
     -- what isn't read may be NaN
-    × (pixel_edges (box 0x3F80_0000 0 0x3F80_0000 0x3F80_0000 0x7FC0_0000) (point 0 0) ≡ Edges (record { left = pos 1; right = pos 2; top = pos 0; bottom = pos 1 }))
+    × (pixel_edges (box 0x3F80_0000 0 0x3F80_0000 0x3F80_0000 0x7FC0_0000) (point 0 0) ≡ Ok (record { left = pos 1; right = pos 2; top = pos 0; bottom = pos 1 }))
     -- -0 is 0
-    × (pixel_edges (box 0x8000_0000 0 0x3F80_0000 0x3F80_0000 0) (point 0x8000_0000 0) ≡ Edges (record { left = pos 0; right = pos 1; top = pos 0; bottom = pos 1 }))
+    × (pixel_edges (box 0x8000_0000 0 0x3F80_0000 0x3F80_0000 0) (point 0x8000_0000 0) ≡ Ok (record { left = pos 0; right = pos 1; top = pos 0; bottom = pos 1 }))
     -- each of the six is tested: the least denormal, 10,000,000e, half an eighth, an infinity, a NaN
-    × (pixel_edges (box 1 0 0x3F80_0000 0x3F80_0000 0) (point 0 0) ≡ Refused NotInEighths)
-    × (pixel_edges (box 0 0x4998_9680 0x3F80_0000 0x3F80_0000 0) (point 0 0) ≡ Refused NotInEighths)
-    × (pixel_edges (box 0 0 0x3D80_0000 0x3F80_0000 0) (point 0 0) ≡ Refused NotInEighths)
-    × (pixel_edges (box 0 0 0x3F80_0000 0x7F80_0000 0) (point 0 0) ≡ Refused NotInEighths)
-    × (pixel_edges (box 0 0 0x3F80_0000 0x3F80_0000 0) (point 0x7FC0_0000 0) ≡ Refused NotInEighths)
-    × (pixel_edges (box 0 0 0x3F80_0000 0x3F80_0000 0) (point 0 0x7FC0_0000) ≡ Refused NotInEighths)
+    × (pixel_edges (box 1 0 0x3F80_0000 0x3F80_0000 0) (point 0 0) ≡ Err NotInEighths)
+    × (pixel_edges (box 0 0x4998_9680 0x3F80_0000 0x3F80_0000 0) (point 0 0) ≡ Err NotInEighths)
+    × (pixel_edges (box 0 0 0x3D80_0000 0x3F80_0000 0) (point 0 0) ≡ Err NotInEighths)
+    × (pixel_edges (box 0 0 0x3F80_0000 0x7F80_0000 0) (point 0 0) ≡ Err NotInEighths)
+    × (pixel_edges (box 0 0 0x3F80_0000 0x3F80_0000 0) (point 0x7FC0_0000 0) ≡ Err NotInEighths)
+    × (pixel_edges (box 0 0 0x3F80_0000 0x3F80_0000 0) (point 0 0x7FC0_0000) ≡ Err NotInEighths)

@@ -2,25 +2,27 @@
 ghost use Rattle.std.specs.Prelude.{◌≡◌};
 ghost use Rattle.pixels.specs.Told.{edges_in, edges_told};
 
-use crate::{PixelRect, Pixels};
+use geometry::Rect;
+use refusal::Refusal;
 
 pub const EDGES: usize = 4;
 
-fn edges_in(p: PixelRect) -> [i32; EDGES]
+fn edges_in(p: Rect<i32>) -> [i32; EDGES]
     ensures { result ≡ edges_in p }
 {
     [p.left, p.right, p.top, p.bottom]
 }
 
 // The result of a call. Unless it was refused, the edges are written.
-pub fn tell(p: Pixels, edges: &mut [i32; EDGES]) -> u32
+#[tactic(auto, unfolding(crate::specs::Told::edges_told))]
+pub fn tell(p: Result<Rect<i32>, Refusal>, edges: &mut [i32; EDGES]) -> u32
     ensures { record { result = result; edges = edges.new } ≡ edges_told p edges.old }
 {
     match p {
-        Pixels::Refused(refusal) => refusal.number(),
-        Pixels::Edges(rect) => {
+        Ok(rect) => {
             *edges = edges_in(rect);
             0
         }
+        Err(refusal) => u32::from(refusal),
     }
 }

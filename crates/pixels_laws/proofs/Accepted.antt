@@ -1,11 +1,12 @@
 -- Whole eighths of 9,999,999 at most in size are accepted. Assumes nothing.
+use Rattle.std.specs.Prelude.{is_some}
 use mathlib.Core.Path.{◌≡◌, ap, ◌∙◌}
 use mathlib.Core.Bool.{true, false}
 use Prim.Native.Nat.{ℕ, ◌*◌, ◌/◌, ◌≤◌}
 use native.Mathlib.Omega.{arith}
 use lib.Ieee.{Float, nan, inf, fin, up, down}
 use Rattle.util.proofs.Count.{Mag, count_is}
-use Rattle.pixels.specs.Accepted.{is_whole, accepted}
+use Rattle.pixels.specs.Accepted.{accepted}
 use Rattle.util_exact.specs.Integer.{N}
 use Rattle.util_exact.proofs.Integers.{Multiple}
 use Rattle.util_exact.proofs.Exact.{Val, Exact}
@@ -25,4 +26,4 @@ half (fin true m e) z a v k =
 
 pub exact_accepted : {b : ℕ} {x : Float} {a : N} → b ≤ 19999998 → Exact 2 b x a → accepted x ≡ true
 unfolding accepted
-exact_accepted {b} {x} {a} l h = ap is_whole (count_is x (h.z / 2) (omega (arith, h.small)) (half x h.z a h.val h.mult))
+exact_accepted {b} {x} {a} l h = ap is_some (count_is x (h.z / 2) (omega (arith, h.small)) (half x h.z a h.val h.mult))

@@ -1,17 +1,16 @@
 -- Steps 4 to 7: with replies of whole quarter pixels a box's size is such, and its location is whole eighths. Assumes nothing.
+use Rattle.std.specs.Prelude.{Option, Float, None, is_some}
+use Rattle.std.specs.declared.option.Option.TheVariants as option
 use mathlib.Core.Path.{◌≡◌, refl}
 use mathlib.Core.Bool.{Bool, not, ◌&&◌}
 use Prim.Native.Nat.{ℕ, ◌+◌, ◌≤◌}
 use lib.Dec.{lit<, lit≤}
 use lib.Ieee.{Float}
 use Rattle.util.specs.Number.{◌⊕◌}
-use Rattle.util.specs.Maybe.{present}
-use Rattle.util.specs.declared.math.MaybeF32.TheVariants.{None}
 use Rattle.geometry.specs.Geometry.{both_present, with_ratio}
-use Rattle.geometry.specs.declared.MaybeSize.{MaybeSize}
+use Rattle.geometry.specs.declared.Size.{Size}
 use Rattle.geometry.specs.declared.Point.{Point}
 use Rattle.geometry.specs.declared.Rect.{Rect}
-use Rattle.geometry.specs.declared.Size.{Size}
 use Rattle.style.specs.Values.{any_scroll_container}
 use Rattle.style.specs.declared.Style.{Style}
 use Rattle.tree.specs.declared.layout.Layout.{Layout}
@@ -19,8 +18,7 @@ use Rattle.tree.specs.declared.layout.OofCandidate.{OofCandidate}
 use Rattle.oof_common.specs.ScrollableOverflow.{contribution}
 use Rattle.oof_common.specs.SizingKeyword.{keywords_of}
 use Rattle.oof_common.specs.declared.sizing_keyword.SizingKeywordResolution.{SizingKeywordResolution}
-use Rattle.oof_common.specs.declared.sizing_keyword.SizingKeywordResolution.TheVariants.{NoKeyword, Exact, Measure}
-use Rattle.oof_common.specs.declared.sizing_keyword.SizingKeywords.{SizingKeywords}
+use Rattle.oof_common.specs.declared.sizing_keyword.SizingKeywordResolution.TheVariants.{Exact, Measure}
 use Rattle.oof_axis.specs.Axis.{placement}
 use Rattle.oof_axis.specs.declared.OofAxis.{OofAxis}
 use Rattle.oof_resolve.specs.Resolved.{resolved_box}
@@ -43,8 +41,7 @@ use Rattle.mirror_box.proofs.Bounds.{length_bound, static_bound, size_bound, fit
 use Rattle.mirror_box.proofs.Keywords.{KeywordSame, no_keyword, exact, measure, keyword_of_lem, if_absent_lem}
 use Rattle.mirror_box.proofs.Stretch.{raised, no_ratio}
 use Rattle.mirror_run.specs.Quarter.{AreaInQuarters, QuarterPlace}
-use Rattle.pixels.specs.Pixels.{edges_of, all_accepted, pixel_edges}
-use Rattle.pixels.specs.declared.Pixels.TheVariants.{Edges}
+use Rattle.pixels.specs.Pixels.{all_accepted, pixel_edges}
 use Rattle.pixels_laws.specs.Quarter.{StyleInQuarters, AnsweredInQuarters, now, later}
 use Rattle.pixels_laws.specs.Laws.{HasEdges, BoxHasEdges}
 use Rattle.pixels_laws.proofs.Accepted.{exact_accepted}
@@ -53,10 +50,10 @@ use Rattle.pixels_laws.proofs.Resolved.{AxisIn, BoxIn, axis_exact, keyword_in, r
 
 -- ---- step 4: keywords
 
-abbrev KeywordIn : SizingKeywordResolution → Type 0
+abbrev KeywordIn : Option SizingKeywordResolution → Type 0
 KeywordIn k = KeywordSame k k
 
-record KeywordsIn (k : SizingKeywords) : Type 0 where
+record KeywordsIn (k : Size (Option SizingKeywordResolution)) : Type 0 where
   width : KeywordIn k.width
   height : KeywordIn k.height
 
@@ -70,7 +67,7 @@ keywords_in style box hs h =
 
 -- ---- a size in reply
 
-replied : {b : ℕ} → length_bound ≤ b → (r : Size) → Quarter r.width × Quarter r.height → SizeIn b r
+replied : {b : ℕ} → length_bound ≤ b → (r : Size Float) → Quarter r.width × Quarter r.height → SizeIn b r
 replied i r q = record { width = widen_same i (quarters_same q.0); height = widen_same i (quarters_same q.1) }
 
 -- ---- step 7: a layout's numbers
@@ -87,10 +84,9 @@ located a h k q =
       add_exact (place_exact length_bound static_bound fit_bound (lit< tt) a e.0 e.1 k.l) (eighths (quarters_exact q)) (lit< tt),
     )
 
-pub has_edges : {l : Layout} {offset : Point} → LayoutIn l → Quarter offset.x → Quarter offset.y → HasEdges l offset
+pub has_edges : {l : Layout} {offset : Point Float} → LayoutIn l → Quarter offset.x → Quarter offset.y → HasEdges l offset
 unfolding pixel_edges all_accepted
 has_edges {l} {offset} h x y =
-    let given : pixel_edges l offset ≡ Edges (edges_of l.location l.size offset) =
     rw (
       exact_accepted (lit≤ tt) h.x.1,
       exact_accepted (lit≤ tt) h.y.1,
@@ -99,11 +95,10 @@ has_edges {l} {offset} h x y =
       exact_accepted (lit≤ tt) (eighths (quarters_exact x)),
       exact_accepted (lit≤ tt) (eighths (quarters_exact y)),
     )
-    refl in
-    (_, given)
+    refl
 
 -- what a box of a layout adds to the overflow
-abbrev pub adds : ContainingBlock → Style → Layout → Rect
+abbrev pub adds : ContainingBlock → Style → Layout → Rect Float
 adds container style l =
     contribution (from_origin container l.location l.size) l.size l.overflow style.overflow style.contain (any_scroll_container container.overflow)
 
@@ -115,40 +110,40 @@ module _ (S : Laid → Type 0) where
   bind P Q _ next (now {a = a} p) f = f a p
   bind P Q _ next (later {q = q} {next = reply} h) f = later (λ r g. bind P Q (reply r) next (h r g) f)
 
-  module _ (node : ℕ) (stretch : Size) where
-    width_as_lem : (k : SizingKeywordResolution) (known : MaybeSize) → KeywordIn k → KnownIn size_bound known → AnsweredInQuarters S (MaybeIn size_bound) (width_as node k known stretch)
+  module _ (node : ℕ) (stretch : Size Float) where
+    width_as_lem : (k : Option SizingKeywordResolution) (known : Size (Option Float)) → KeywordIn k → KnownIn size_bound known → AnsweredInQuarters S (MaybeIn size_bound) (width_as node k known stretch)
     unfolding width_as ◌>>=◌
     width_as_lem _ known no_keyword h = now h.width
     width_as_lem _ known (exact k) h = now (given k)
     width_as_lem _ known (measure s) h = later (λ r g. now (given (widen_same (lit≤ tt) (quarters_same g))))
 
-    height_as_lem : (k : SizingKeywordResolution) (known : MaybeSize) → KeywordIn k → KnownIn size_bound known → AnsweredInQuarters S (MaybeIn size_bound) (height_as node k known stretch)
+    height_as_lem : (k : Option SizingKeywordResolution) (known : Size (Option Float)) → KeywordIn k → KnownIn size_bound known → AnsweredInQuarters S (MaybeIn size_bound) (height_as node k known stretch)
     unfolding height_as ◌>>=◌
     height_as_lem _ known no_keyword h = now h.height
     height_as_lem _ known (exact k) h = now (given k)
     height_as_lem _ known (measure s) h = later (λ r g. now (given (widen_same (lit≤ tt) (quarters_same g))))
 
-    in_turn_lem : (wide tall : SizingKeywordResolution) (known : MaybeSize) → KeywordIn wide → KeywordIn tall → KnownIn size_bound known → AnsweredInQuarters S (KnownIn size_bound) (in_turn node wide tall known stretch)
+    in_turn_lem : (wide tall : Option SizingKeywordResolution) (known : Size (Option Float)) → KeywordIn wide → KeywordIn tall → KnownIn size_bound known → AnsweredInQuarters S (KnownIn size_bound) (in_turn node wide tall known stretch)
     unfolding in_turn
     in_turn_lem wide tall known k l h =
         bind (MaybeIn size_bound) (KnownIn size_bound) (width_as node wide known stretch) _ (width_as_lem wide known k h)
         (λ w hw. bind (MaybeIn size_bound) (KnownIn size_bound) (height_as node tall (w by known.height) stretch) _ (height_as_lem tall (w by known.height) l (record { width = hw; height = h.height }))
         (λ t ht. now (record { width = hw; height = ht })))
 
-    by_keywords_lem : (wide tall : SizingKeywordResolution) (known : MaybeSize) → KeywordIn wide → KeywordIn tall → KnownIn size_bound known → AnsweredInQuarters S (KnownIn size_bound) (by_keywords node wide tall known stretch)
+    by_keywords_lem : (wide tall : Option SizingKeywordResolution) (known : Size (Option Float)) → KeywordIn wide → KeywordIn tall → KnownIn size_bound known → AnsweredInQuarters S (KnownIn size_bound) (by_keywords node wide tall known stretch)
     unfolding by_keywords ◌>>=◌
-    by_keywords_lem NoKeyword tall known k l h = in_turn_lem NoKeyword tall known k l h
-    by_keywords_lem (Exact x) tall known k l h = in_turn_lem (Exact x) tall known k l h
-    by_keywords_lem (Measure space) NoKeyword known k l h = in_turn_lem (Measure space) NoKeyword known k l h
-    by_keywords_lem (Measure space) (Exact x) known k l h = in_turn_lem (Measure space) (Exact x) known k l h
-    by_keywords_lem (Measure space) (Measure below) known k l h =
+    by_keywords_lem option.None tall known k l h = in_turn_lem option.None tall known k l h
+    by_keywords_lem (option.Some (Exact x)) tall known k l h = in_turn_lem (option.Some (Exact x)) tall known k l h
+    by_keywords_lem (option.Some (Measure space)) option.None known k l h = in_turn_lem (option.Some (Measure space)) option.None known k l h
+    by_keywords_lem (option.Some (Measure space)) (option.Some (Exact x)) known k l h = in_turn_lem (option.Some (Measure space)) (option.Some (Exact x)) known k l h
+    by_keywords_lem (option.Some (Measure space)) (option.Some (Measure below)) known k l h =
         later (λ r g. now (definite_in_lem (replied (lit≤ tt) r g)))
 
   -- ---- a box
 
   module _ (style : Style) (hs : StyleInQuarters style) (node : ℕ) (box : ResolvedBox) (h : BoxIn box) where
     -- ratio, then clamp: there is no ratio
-    settle : (b : ℕ) → size_bound ≤ b → (s : MaybeSize) → KnownIn b s → KnownIn b (settled None box s)
+    settle : (b : ℕ) → size_bound ≤ b → (s : Size (Option Float)) → KnownIn b s → KnownIn b (settled None box s)
     unfolding settled with_ratio
     settle b i s k = clamped_in k (widen_known i h.min) (widen_known i h.max)
 
@@ -163,20 +158,20 @@ module _ (S : Laid → Type 0) where
         (now h.size)
 
     -- step 5
-    widened_in : (t : Bool) (s : MaybeSize) → KnownIn fit_bound s → KnownIn fit_bound (widened None box t s)
+    widened_in : (t : Bool) (s : Size (Option Float)) → KnownIn fit_bound s → KnownIn fit_bound (widened None box t s)
     unfolding widened
     widened_in t s k = either (KnownIn fit_bound) t (settle fit_bound (lit≤ tt) _ (record { width = given h.fit.width; height = k.height })) k
 
-    heightened_in : (t : Bool) (s : MaybeSize) → KnownIn fit_bound s → KnownIn fit_bound (heightened None box t s)
+    heightened_in : (t : Bool) (s : Size (Option Float)) → KnownIn fit_bound s → KnownIn fit_bound (heightened None box t s)
     unfolding heightened
     heightened_in t s k =
-        either (KnownIn fit_bound) (t && not (present s.height)) (settle fit_bound (lit≤ tt) _ (record { width = k.width; height = given h.fit.height })) k
+        either (KnownIn fit_bound) (t && not (is_some s.height)) (settle fit_bound (lit≤ tt) _ (record { width = k.width; height = given h.fit.height })) k
 
     record StretchedIn (at : Stretched) : Type 0 where
       known : KnownIn fit_bound at.known
       min : KnownIn fit_bound at.min
 
-    stretched_in : (s : MaybeSize) → KnownIn fit_bound s → StretchedIn (stretched style box s)
+    stretched_in : (s : Size (Option Float)) → KnownIn fit_bound s → StretchedIn (stretched style box s)
     unfolding stretched
     stretched_in s k =
         let min = widen_known (lit≤ tt) h.min in

@@ -1,4 +1,5 @@
 -- What boxes of whole quarter pixels add to the overflow is whole eighths. Assumes nothing.
+use Rattle.std.specs.Prelude.{Float}
 use mathlib.Core.Bool.{Bool, ◌&&◌, ◌||◌}
 use Prim.Native.Nat.{ℕ}
 use lib.Dec.{lit<, lit≤}
@@ -25,7 +26,7 @@ use Rattle.pixels_laws.proofs.Box.{LayoutIn, adds}
 abbrev pub EighthsIn : ℕ → Float → Type 0
 EighthsIn b x = Same 2 b x x
 
-pub record RectIn (r : Rect) : Type 0 where
+pub record RectIn (r : Rect Float) : Type 0 where
   pub left : EighthsIn reach_bound r.left
   pub right : EighthsIn reach_bound r.right
   pub top : EighthsIn reach_bound r.top
@@ -34,7 +35,7 @@ pub record RectIn (r : Rect) : Type 0 where
 pub zero_rect_in : RectIn zero_rect
 zero_rect_in = record { left = zero_same; right = zero_same; top = zero_same; bottom = zero_same }
 
-pub union_in : (r s : Rect) → RectIn r → RectIn s → RectIn (union_of r s)
+pub union_in : (r s : Rect Float) → RectIn r → RectIn s → RectIn (union_of r s)
 unfolding union_of
 union_in r s h k =
     record {
@@ -46,19 +47,19 @@ union_in r s h k =
 
 -- ---- one axis
 
-record LineIn (b : ℕ) (l : Line) : Type 0 where
+record LineIn (b : ℕ) (l : Line Float) : Type 0 where
   start : EighthsIn b l.start
   end : EighthsIn b l.end
 
 quarter_in : {x : Float} → Quarter x → EighthsIn fit_bound x
 quarter_in q = widen_same (lit≤ tt) (eighths_same (quarters_same q))
 
-reach_in : (shows : Bool) {s : Float} → EighthsIn fit_bound s → (own : Line) → Quarter own.start → Quarter own.end → LineIn fit_bound (reach shows s own)
+reach_in : (shows : Bool) {s : Float} → EighthsIn fit_bound s → (own : Line Float) → Quarter own.start → Quarter own.end → LineIn fit_bound (reach shows s own)
 unfolding reach
 reach_in shows h own k l =
     either (LineIn fit_bound) shows (record { start = smaller_same zero_same (quarter_in k); end = larger_same h (quarter_in l) }) (record { start = zero_same; end = h })
 
-line_in : {x : Float} {l : Line} → EighthsIn origin_bound x → LineIn fit_bound l → LineIn reach_bound (placed_at x l)
+line_in : {x : Float} {l : Line Float} → EighthsIn origin_bound x → LineIn fit_bound l → LineIn reach_bound (placed_at x l)
 unfolding placed_at
 line_in h k = record { start = add_same h k.start (lit< tt); end = add_same h k.end (lit< tt) }
 
@@ -79,17 +80,17 @@ module _ (container : ContainingBlock) (area : AreaInQuarters container.area) (s
   down_in_lem = widen_same (lit≤ tt) (sub_same (itself h.y.1) (offset_in_lem area.y) (lit< tt))
 
   -- how far it reaches
-  abbrev reach_x : Line
+  abbrev reach_x : Line Float
   reach_x = reach (propagates style.overflow.x style.overflow style.contain) l.size.width (line_x l.overflow)
 
-  abbrev reach_y : Line
+  abbrev reach_y : Line Float
   reach_y = reach (propagates style.overflow.y style.overflow style.contain) l.size.height (line_y l.overflow)
 
   -- counted from the origin
-  abbrev from_x : Line
+  abbrev from_x : Line Float
   from_x = placed_at (from_origin container l.location l.size).x reach_x
 
-  abbrev from_y : Line
+  abbrev from_y : Line Float
   from_y = placed_at (from_origin container l.location l.size).y reach_y
 
   pub adds_in : QuarterReply (LaidOut l.overflow) → RectIn (adds container style l)

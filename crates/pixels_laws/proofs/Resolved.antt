@@ -1,17 +1,16 @@
 -- Steps 1 to 3: what is known of a box before the host is asked is whole quarter pixels. Assumes nothing.
+use Rattle.std.specs.Prelude.{Float, Option}
 use Prim.Native.Nat.{ℕ}
 use lib.Dec.{lit<, lit≤}
 use lib.Ieee.{Float}
 use Rattle.util.specs.Number.{◌⊕◌, ◌⊖◌}
 use Rattle.util.specs.Maybe.{or_zero}
-use Rattle.util.specs.declared.math.MaybeF32.{MaybeF32}
 use Rattle.geometry.specs.Geometry.{rect_or_zero, rect_sum, sum_x, sum_y, sums, with_ratio}
 use Rattle.geometry.specs.declared.Size.{Size}
 use Rattle.style.specs.Resolve.{maybe_resolved, resolved_rect, resolved_size}
 use Rattle.style.specs.Values.{is_content_box}
 use Rattle.style.specs.declared.Style.{Style}
 use Rattle.style.specs.declared.compact_length.CompactLength.{CompactLength}
-use Rattle.style.specs.declared.compact_length.LengthSize.{LengthSize}
 use Rattle.style.specs.declared.resolve.Field.{Field}
 use Rattle.style.specs.declared.resolve.Field.TheVariants as field
 use Rattle.tree.specs.declared.layout.OofCandidate.{OofCandidate}
@@ -48,7 +47,7 @@ pub record AxisIn (a : OofAxis) : Type 0 where
   pub area_end : In static_bound a.place.area.end
 
 -- its integers
-number : {b : ℕ} {m : MaybeF32} → MaybeIn b m → (n : N) × MaybeExact 4 b m n
+number : {b : ℕ} {m : Option Float} → MaybeIn b m → (n : N) × MaybeExact 4 b m n
 number (given h) = (h.a, h.l)
 number absent = (zero_n, tt)
 
@@ -83,7 +82,7 @@ pub record BoxIn (box : ResolvedBox) : Type 0 where
   pub fit : SizeIn fit_bound box.fit
 
 module _ (container : ContainingBlock) (style : Style) (candidate : OofCandidate) (hb : AreaInQuarters container.area) (hs : StyleInQuarters style) (hc : QuarterPlace candidate) where
-  abbrev area : Size
+  abbrev area : Size Float
   area = container.area.size
 
   length : (f : Field) (l : CompactLength) (basis : Float) → QuarterLength l → MaybeIn length_bound (maybe_resolved f l basis)
@@ -133,14 +132,14 @@ module _ (container : ContainingBlock) (style : Style) (candidate : OofCandidate
       four : {a b c d : Float} → In length_bound a → In length_bound b → In length_bound c → In length_bound d → In edges_bound (a ⊕ b ⊕ (c ⊕ d))
       four h i j k = add_same (add_same h i (lit< tt)) (add_same j k (lit< tt)) (lit< tt)
 
-  size_in : (f : Field) (lengths : LengthSize) → SizeInQuarters lengths → (e : Size) → SizeIn edges_bound e → KnownIn size_bound (style_size f lengths style area e)
+  size_in : (f : Field) (lengths : Size CompactLength) → SizeInQuarters lengths → (e : Size Float) → SizeIn edges_bound e → KnownIn size_bound (style_size f lengths style area e)
   unfolding style_size with_ratio resolved_size
   size_in f lengths h e k =
       rw hs.ratio
       (added_in (record { width = length f lengths.width area.width h.width; height = length f lengths.height area.height h.height })
       (either (SizeIn edges_bound) (is_content_box style.sizing) k zero_in) (lit< tt))
 
-  min_in : (e : Size) → SizeIn edges_bound e → KnownIn size_bound (min_size style area e)
+  min_in : (e : Size Float) → SizeIn edges_bound e → KnownIn size_bound (min_size style area e)
   unfolding min_size
   min_in e k = let k' = widen_size (lit≤ tt) k in raised_in (first_in (size_in field.MinOrMax style.min hs.min e k) (definite_in_lem k')) k'
 

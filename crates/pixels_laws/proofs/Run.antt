@@ -9,6 +9,7 @@ use native.Mathlib.Nat.{not-suc-le-zero, le_of_suc-le-suc}
 use lib.Dec.{eqb, lit<}
 use lib.ListN.{length, get_or}
 use borrow.Author.Tests.{eqb-true, eqb-false}
+use Rattle.std.specs.Prelude.{Some}
 use Rattle.util.proofs.Floats.{no}
 use Rattle.style.specs.declared.ContainingBlockClaims.{ContainingBlockClaims}
 use Rattle.tree.specs.declared.layout.Layout.{Layout}
@@ -21,7 +22,6 @@ use Rattle.tree_record.specs.Candidate.{candidate_width, candidate_of}
 use Rattle.tree_record.specs.Layout.{layout_width, layout_of, layout_words}
 use Rattle.sweep.specs.Sweep.{candidates_in, first_candidates, claimed, moved, keep, appended}
 use Rattle.sweep.specs.declared.Filled.{Filled}
-use Rattle.sweep.specs.declared.Shift.TheVariants.{By}
 use Rattle.oof_box.specs.Talk.{Laid, Talk, ReplyTo}
 use Rattle.oof_box.specs.Box.{Placed, placed}
 use Rattle.oof_box.specs.Theorems.{reply_to}
@@ -49,7 +49,9 @@ use Rattle.mirror_run.proofs.Styles as styles
 use Rattle.mirror_run.proofs.Surfaced.{none_kept}
 use Rattle.mirror_run.proofs.Verdicts.{OpeningPassed, opening_passed}
 use Rattle.pixels_laws.specs.Quarter.{StyleInQuarters, QuarterTo, AnsweredInQuarters, now, later}
-use Rattle.pixels_laws.specs.Laws.{All, QuarterHeard, RunHasEdges}
+use Rattle.std.specs.Prelude.{All}
+use Rattle.std.proofs.lemmas.List.Elements.{All-nil, All-head, All-tail, All-push}
+use Rattle.pixels_laws.specs.Laws.{QuarterHeard, RunHasEdges}
 use Rattle.pixels_laws.proofs.Box.{LayoutIn, has_edges, placed_in}
 use Rattle.pixels_laws.proofs.Overflow.{RectIn, zero_rect_in, union_in, adds_in}
 
@@ -82,10 +84,6 @@ quarter_style table e i l h =
 
 -- ---- the layouts of boxes in words, n being the number of items
 
-all_append : {A : Type 0} (P : A → Type 0) (xs ys : List A) → All P xs → All P ys → All P (xs ++ ys)
-all_append P [] ys h k = k
-all_append P (x ∷ xs) ys h k = (h.0, all_append P xs ys h.1 k)
-
 abbrev LaidIn : ℕ → Box → Type 0
 LaidIn n b = LayoutIn b.layout × (b.candidate.node < n)
 
@@ -104,12 +102,15 @@ words_in n node [] ws long h (inl k) = k
 words_in n node [] ws long h (inr k) = absurd k
 words_in n node (b ∷ bs) ws long h k =
     words_in n node bs (written ws (layout_width * b.candidate.node) (layout_words b.layout))
-    (written_length ws (layout_width * b.candidate.node) (layout_words b.layout) ∙ long) h.1 (go (eqb node b.candidate.node) refl k)
+    (written_length ws (layout_width * b.candidate.node) (layout_words b.layout) ∙ long) (All-tail (LaidIn n) b bs h) (go (eqb node b.candidate.node) refl k)
   where
+    first : LaidIn n b
+    first = All-head (LaidIn n) b bs h
+
     go : (t : Bool) → eqb node b.candidate.node ≡ t → ReadIn ws node ⊎ Among node (b ∷ bs)
         → ReadIn (written ws (layout_width * b.candidate.node) (layout_words b.layout)) node ⊎ Among node bs
-    go true e k = inl (rw (written_here ws n b.candidate.node long h.0.1 b.layout node (eqb-true node b.candidate.node e)) (read_in h.0.0))
-    go false e (inl k) = inl (rw (kept_there ws n b.candidate.node long h.0.1 b.layout node (eqb-false node b.candidate.node e)) k)
+    go true e k = inl (rw (written_here ws n b.candidate.node long first.1 b.layout node (eqb-true node b.candidate.node e)) (read_in first.0))
+    go false e (inl k) = inl (rw (kept_there ws n b.candidate.node long first.1 b.layout node (eqb-false node b.candidate.node e)) k)
     go false e (inr (inl d)) = absurd (eqb-false node b.candidate.node e (sym d))
     go false e (inr (inr k)) = inr k
 
@@ -157,15 +158,15 @@ module _ (o : Opening) (candidates : List ℕ) (lent : Lent) (area : AreaInQuart
   module _ (w : World) (c : OofCandidate) (rest : List OofCandidate) (p : Placed) (none : Unclaimed p.surfaced) where
     waits : (after_box by w c rest p).waiting ≡ rest
     unfolding after_box moved
-    waits = ap (λ (l : List OofCandidate). rest ++ l) (none_kept by (By p.outcome.layout.location) p.surfaced none) ∙ append-nil rest
+    waits = ap (λ (l : List OofCandidate). rest ++ l) (none_kept by (Some p.outcome.layout.location) p.surfaced none) ∙ append-nil rest
 
     after_in : WorldIn w → w.waiting ≡ c ∷ rest → LayoutIn p.outcome.layout → RectIn p.outcome.contribution → c.node < n → WorldIn (after_box by w c rest p)
     unfolding after_box
     after_in h e l r there =
         record {
-          laid = all_append (LaidIn n) w.laid (record { candidate = c; layout = p.outcome.layout } ∷ []) h.laid ((l, there), tt);
+          laid = All-push (LaidIn n) w.laid (record { candidate = c; layout = p.outcome.layout }) h.laid (l, there);
           claimed =
-              claimed_after by w c rest p e ∙ ap (λ (l : List OofCandidate). claimed_in w ++ l) (none_kept by (By p.outcome.layout.location) p.surfaced none) ∙ append-nil (claimed_in w) ∙ h.claimed;
+              claimed_after by w c rest p e ∙ ap (λ (l : List OofCandidate). claimed_in w ++ l) (none_kept by (Some p.outcome.layout.location) p.surfaced none) ∙ append-nil (claimed_in w) ∙ h.claimed;
           overflow = union_in w.overflow p.outcome.contribution h.overflow r;
         }
 
@@ -209,7 +210,7 @@ module _ (o : Opening) (candidates : List ℕ) (lent : Lent) (area : AreaInQuart
 
   all_heard : (hs : List Heard) (course : Course) → All (QuarterHeard by) hs → CourseIn course → CourseIn (foldl hearing course hs)
   all_heard [] course k h = h
-  all_heard (x ∷ hs) course k h = all_heard hs (hearing course x) k.1 (hearing_in course x k.0 h)
+  all_heard (x ∷ hs) course k h = all_heard hs (hearing course x) (All-tail (QuarterHeard by) x hs k) (hearing_in course x (All-head (QuarterHeard by) x hs k) h)
 
   reached : {course : Course} → CourseIn course → WorldIn (so_far course)
   reached (over w) = w
@@ -218,7 +219,7 @@ module _ (o : Opening) (candidates : List ℕ) (lent : Lent) (area : AreaInQuart
   straight_in : QuarterCandidates candidates → OpeningPassed o candidates lent → CourseIn (straight 4096 (container_of o) by (style_at lent.styles) (candidates_in candidates))
   unfolding straight at_opening candidates_in
   straight_in quarter passed =
-      boxes_in 4096 (at_opening by (candidates_in candidates)) (claimed by (candidates_in candidates)) (record { laid = tt; claimed = refl; overflow = zero_rect_in }) refl
+      boxes_in 4096 (at_opening by (candidates_in candidates)) (claimed by (candidates_in candidates)) (record { laid = All-nil (LaidIn n); claimed = refl; overflow = zero_rect_in }) refl
       (each_kept by true (λ c c' r. ap (λ (c : OofCandidate). c.position) r.same)
       (first_by (length candidates / candidate_width) candidates candidates (λ i h. record { same = refl; place = quarter i h; there = node_there n candidates passed.candidate i h })))
 

@@ -1,5 +1,5 @@
 -- Whole quarter pixels in, whole eighths out, as statements. `proofs/` proves each, under its name in small letters. Assumes nothing.
-use Rattle.std.specs.Prelude.{◌≡◌, false, List, [], ◌∷◌, ℕ, ◌<◌}
+use Rattle.std.specs.Prelude.{◌≡◌, false, List, [], ℕ, ◌<◌, All, IsOk, Float}
 use Rattle.geometry.specs.declared.Point.{Point}
 use Rattle.style.specs.declared.ContainingBlockClaims.{ContainingBlockClaims}
 use Rattle.style.specs.declared.Style.{Style}
@@ -8,8 +8,6 @@ use Rattle.tree.specs.declared.layout.OofCandidate.{OofCandidate}
 use Rattle.oof_resolve.specs.declared.ContainingBlock.{ContainingBlock}
 use Rattle.oof_box.specs.Box.{Placed, placed}
 use Rattle.pixels.specs.Pixels.{pixel_edges}
-use Rattle.pixels.specs.declared.PixelRect.{PixelRect}
-use Rattle.pixels.specs.declared.Pixels.TheVariants.{Edges}
 use Rattle.sweep.specs.Sweep.{candidates_in, claimed}
 use Rattle.run.specs.declared.Opening.{Opening}
 use Rattle.run.specs.Call.{Lent}
@@ -21,8 +19,8 @@ use Rattle.mirror_run.specs.Runs.{layout_of_box}
 use Rattle.pixels_laws.specs.Quarter.{StyleInQuarters, AnsweredInQuarters}
 
 -- `pixel_edges` has edges for it, and no refusal
-abbrev pub HasEdges : Layout → Point → Type 0
-HasEdges l offset = (p : PixelRect) × (pixel_edges l offset ≡ Edges p)
+abbrev pub HasEdges : Layout → Point Float → Type 0
+HasEdges l offset = IsOk (pixel_edges l offset)
 
 -- ---- a box, whatever it surfaces; the area's width may be 0
 
@@ -34,10 +32,6 @@ BoxHasEdges =
 
 -- ---- a run, after its opening and any replies, under demand 3's conditions, but for a width of 0 and in either direction: nobody else writes the lent words, and a reply that isn't refused
 -- is of whole quarter pixels and surfaces no box that is claimed
-
-abbrev pub All : {A : Type 0} → (A → Type 0) → List A → Type 0
-All P [] = Unit {0}
-All P (x ∷ xs) = P x × All P xs
 
 abbrev pub QuarterHeard : ContainingBlockClaims → Heard → Type 0
 QuarterHeard by h = QuarterReply h.reply × (claimed by (candidates_in (lent_by h.reply h.surfaced)) ≡ [])

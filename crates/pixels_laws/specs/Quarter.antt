@@ -1,11 +1,11 @@
 -- Whole quarter pixels of size 4,096 at most, along both axes, for one box: of what demand 3 asks of a style and of replies
 -- (mirror_run/specs/Quarter.antt) as much as bears on pixel edges, so no scrollbar width; of a reply's overflow what S asks. A length is one
 -- by its tag, so that no percentage and no sum stands. Assumes nothing.
-use Rattle.std.specs.Prelude.{◌≡◌}
-use Rattle.util.specs.declared.math.MaybeF32.TheVariants.{None}
+use Rattle.std.specs.Prelude.{◌≡◌, None}
 use Rattle.style.specs.declared.Style.{Style}
-use Rattle.style.specs.declared.compact_length.LengthRect.{LengthRect}
-use Rattle.style.specs.declared.compact_length.LengthSize.{LengthSize}
+use Rattle.geometry.specs.declared.Rect.{Rect}
+use Rattle.style.specs.declared.compact_length.CompactLength.{CompactLength}
+use Rattle.geometry.specs.declared.Size.{Size}
 use Rattle.oof_box.specs.Talk.{Laid, Talk, done, ask, ReplyTo}
 use Rattle.oof_box.specs.declared.question.Question.{Question}
 use Rattle.oof_box.specs.declared.question.Question.TheVariants.{MeasureBoth, MeasureWidth, MeasureHeight, LayOut}
@@ -13,13 +13,13 @@ use Rattle.util_exact.specs.Value.{Quarter}
 use Rattle.mirror_box.specs.Quarter.{QuarterLength}
 
 -- each length by its tag
-pub record SidesInQuarters (r : LengthRect) : Type 0 where
+pub record SidesInQuarters (r : Rect CompactLength) : Type 0 where
   pub left : QuarterLength r.left
   pub right : QuarterLength r.right
   pub top : QuarterLength r.top
   pub bottom : QuarterLength r.bottom
 
-pub record SizeInQuarters (s : LengthSize) : Type 0 where
+pub record SizeInQuarters (s : Size CompactLength) : Type 0 where
   pub width : QuarterLength s.width
   pub height : QuarterLength s.height
 

@@ -1,4 +1,5 @@
 -- What holds in a call that no test before that of room turned down. Assumes nothing.
+use Rattle.std.specs.Prelude.{is_none}
 use Prim.Native.Nat.{ℕ, ◌+◌, ◌*◌, ◌-◌, ◌/◌, ◌≤◌}
 use native.Mathlib.Omega.{arith}
 use native.Mathlib.Nat.{mul-div-le}
@@ -15,15 +16,14 @@ use Rattle.tree_record.specs.Layout.{layout_width}
 use Rattle.sweep.specs.Sweep.{first_candidates, candidates_in, keep}
 use Rattle.oof_box.specs.declared.question.Reply.{Reply}
 use Rattle.run.specs.Call.{Lent}
-use Rattle.run.specs.Refusals.{bad_table, bad_list, bad_slices, ragged, other_lengths, lent_by, bad_candidate, bad_candidates, wrong_counts, list_full}
-use Rattle.run.specs.Run.{box_at_hand, opening_verdict, reply_verdict, claims_of, none_filled, taken_by, is_wrong}
+use Rattle.run.specs.Refusals.{accepted, bad_table, bad_list, bad_slices, ragged, other_lengths, lent_by, bad_candidate, bad_candidates, wrong_counts, list_full}
+use Rattle.run.specs.Run.{box_at_hand, opening_verdict, reply_verdict, claims_of, none_filled, taken_by}
 use Rattle.run.specs.declared.Opening.{Opening}
 use Rattle.run.specs.declared.State.{State}
 use Rattle.run.specs.declared.Counts.{Counts}
 use Rattle.style.specs.declared.ContainingBlockClaims.{ContainingBlockClaims}
 use Rattle.run.proofs.Ways.{Counted, counted}
 use Rattle.placer_check.specs.Verdict.{then_room}
-use Rattle.placer_check.specs.declared.Verdict.TheVariants.{Accepted}
 use Rattle.placer_check.proofs.Verdicts.{passed, room_number, neither}
 use Rattle.placer.specs.Entry.{AtHand, ReplyCleared}
 use Rattle.sweep.proofs.Listed.{AllBelow}
@@ -37,7 +37,7 @@ fine styles list count e = not-false _ e
 -- ---- an opening
 
 pub opening_nodes : (o : Opening) (candidates : List ℕ) (l : Lent)
-    → opening_verdict o candidates l ≡ then_room Accepted (list_full (claims_of o) l none_filled candidates)
+    → opening_verdict o candidates l ≡ then_room accepted (list_full (claims_of o) l none_filled candidates)
     → AllBelow (items l.styles) (candidates_in candidates)
 unfolding opening_verdict candidates_in
 opening_nodes o candidates l e =
@@ -53,7 +53,7 @@ opening_nodes o candidates l e =
 pub record Passed (s : State) (reply : Reply) (surfaced : List ℕ) (l : Lent) : Type 0 where
   pub layouts : length l.layouts ≡ layout_width * items l.styles
   pub few : length l.working / candidate_width ≤ 4096
-  pub taken : is_wrong (taken_by s reply) ≡ false
+  pub taken : is_none (taken_by s reply) ≡ false
   pub counts : wrong_counts l s.counts ≡ false
   pub listed : AllBelow (items l.styles) (first_candidates s.counts.filled.working l.working)
   pub brought : AllBelow (items l.styles) (candidates_in (lent_by reply surfaced))
@@ -81,8 +81,8 @@ reply_passed s reply surfaced l e =
     record {
       layouts = table l.styles l.layouts (neither (bad_table l.styles l.layouts) (bad_list l.working) lists.0).0;
       few = few_records l.working (neither (bad_table l.styles l.layouts) (bad_list l.working) lists.0).1;
-      taken = (neither (is_wrong (taken_by s reply)) (wrong_counts l s.counts) b.0).0;
-      counts = (neither (is_wrong (taken_by s reply)) (wrong_counts l s.counts) b.0).1;
+      taken = (neither (is_none (taken_by s reply)) (wrong_counts l s.counts) b.0).0;
+      counts = (neither (is_none (taken_by s reply)) (wrong_counts l s.counts) b.0).1;
       listed = good_below (items l.styles) l.working s.counts.filled.working (fine l.styles l.working s.counts.filled.working (neither (bad_candidate l.styles l.working s.counts.filled.working) (bad_candidates l.styles (lent_by reply surfaced)) d.0).0);
       brought = good_below (items l.styles) (lent_by reply surfaced) (length (lent_by reply surfaced) / candidate_width) (fine l.styles (lent_by reply surfaced) (length (lent_by reply surfaced) / candidate_width) (neither (bad_candidate l.styles l.working s.counts.filled.working) (bad_candidates l.styles (lent_by reply surfaced)) d.0).1);
     }

@@ -8,6 +8,8 @@ use mathlib.Core.Path.{◌≡◌, refl, sym, ap, ◌∙◌}
 use lib.Dec.{lit<, leb}
 use lib.ListN.{length, get_or, drop}
 use borrow.Author.Tests.{leb-false}
+use Rattle.std.specs.Prelude.{Option, Some, None, Float}
+use Rattle.geometry.specs.declared.Point.{Point}
 use Rattle.records.specs.Records.{record_at, records, breaks, wrong, good_records}
 use Rattle.records.proofs.Laws.{record_of_records, records_step, good_is_unbroken}
 use Rattle.style.specs.declared.ContainingBlockClaims.{ContainingBlockClaims}
@@ -15,8 +17,6 @@ use Rattle.tree.specs.declared.layout.OofCandidate.{OofCandidate}
 use Rattle.tree.specs.Static.{translated}
 use Rattle.tree_record.specs.Candidate.{candidate_width, layer_word, layer_count, candidate_kinds, candidate_of}
 use Rattle.tree_record.proofs.Places.{candidate_place}
-use Rattle.sweep.specs.declared.Shift.{Shift}
-use Rattle.sweep.specs.declared.Shift.TheVariants.{Unmoved, By}
 use Rattle.sweep.specs.Sweep.{first_candidates, moved, side, keep, appended}
 use Rattle.sweep.specs.Laws.{AllFit}
 use Rattle.sweep.proofs.Laws.{appended_back}
@@ -26,14 +26,14 @@ pub both_below : (n : ℕ) (xs ys : List OofCandidate) → AllBelow n xs → All
 both_below n [] ys a b = b
 both_below n (x ∷ xs) ys a b = (a.0, both_below n xs ys a.1 b)
 
-pub moved_below : (n : ℕ) (s : Shift) (cs : List OofCandidate) → AllBelow n cs → AllBelow n (map (moved s) cs)
+pub moved_below : (n : ℕ) (s : Option (Point Float)) (cs : List OofCandidate) → AllBelow n cs → AllBelow n (map (moved s) cs)
 unfolding moved translated
 moved_below n s [] a = tt
 moved_below n s (c ∷ cs) a = (one s, moved_below n s cs a.1)
   where
-    one : (s : Shift) → IsBelow n (moved s c)
-    one Unmoved = a.0
-    one (By location) = a.0
+    one : (s : Option (Point Float)) → IsBelow n (moved s c)
+    one None = a.0
+    one (Some location) = a.0
 
 pub keep_below : (n : ℕ) (by : ContainingBlockClaims) (list : Bool) (cs : List OofCandidate) → AllBelow n cs → AllBelow n (keep by list cs)
 unfolding keep

@@ -1,19 +1,19 @@
 -- A reply, by the ways that the code goes. Assumes nothing.
+use Rattle.std.specs.Prelude.{None, Some, is_none, Float}
 use Prim.Native.Nat.{ℕ, ◌+◌, ◌*◌, ◌<◌}
 use mathlib.Core.Bool.{true, false}
 use mathlib.Core.List.{List, [], map}
 use mathlib.Core.Path.{◌≡◌, refl, sym, ap, ◌∙◌}
+use Rattle.std.specs.Prelude.{Option, Some, Ok, Err}
 use Rattle.util.proofs.Floats.{no}
 use Rattle.geometry.specs.Geometry.{union_of}
+use Rattle.geometry.specs.declared.Point.{Point}
 use Rattle.geometry.specs.declared.Rect.{Rect}
 use Rattle.refusal.specs.declared.Refusal.{Refusal}
 use Rattle.records.specs.Records.{written}
 use Rattle.style_record.specs.Decode.{style_at}
 use Rattle.tree_record.specs.Layout.{layout_width, layout_words}
 use Rattle.sweep.specs.declared.Filled.{Filled}
-use Rattle.sweep.specs.declared.Shift.{Shift}
-use Rattle.sweep.specs.declared.Shift.TheVariants.{By}
-use Rattle.sweep.specs.declared.Swept.TheVariants.{Refused, Into}
 use Rattle.sweep.specs.Sweep as sweep
 use Rattle.sweep.specs.Sweep.{candidates_in, moved, swept}
 use Rattle.sweep.proofs.Steps.{kept_moved}
@@ -22,37 +22,36 @@ use Rattle.oof_place.specs.declared.OofBoxLayout.{OofBoxLayout}
 use Rattle.oof_box.specs.declared.question.Replies.{Replies}
 use Rattle.oof_box.specs.declared.question.Reply.{Reply}
 use Rattle.oof_box.specs.declared.question.Reply.TheVariants.{Both, Width, Height, LaidOut}
-use Rattle.oof_box.specs.declared.question.Taken.TheVariants.{Wrong, Kept, Laid}
+use Rattle.oof_box.specs.declared.question.Taken.TheVariants.{Kept, Laid}
 use Rattle.run.specs.declared.Answer.TheVariants as answer
 use Rattle.run.specs.declared.State.{State}
 use Rattle.run.specs.declared.Step.{Step}
 use Rattle.run.specs.Call.{Lent, Outcome, outcome}
 use Rattle.run.proofs.Call.{outcome_is}
 use Rattle.run.proofs.Ways.{counted, laid_is, never_kept}
-use Rattle.run.specs.Refusals.{◌when◌else◌, refused, lent_by, list_full}
-use Rattle.run.specs.Run.{box_at_hand, asking, proceeding, taken_by, is_wrong, reply_verdict, measured_on, laid_out, replied_by, replied}
+use Rattle.run.specs.Refusals.{accepted, ◌when◌else◌, refused, lent_by, list_full}
+use Rattle.run.specs.Run.{box_at_hand, asking, proceeding, taken_by, reply_verdict, measured_on, laid_out, replied_by, replied}
 use Rattle.placer_check.specs.Verdict.{then_room}
-use Rattle.placer_check.specs.declared.Verdict.TheVariants.{Accepted}
 use Rattle.placer.specs.Entry.{AtHand, ReplyCleared}
 use Rattle.placer.proofs.Sweeps.{was_full, had_room, next_at_hand}
 use Rattle.placer.proofs.Calls.{Passed, reply_passed, none_full}
 
 -- ---- the box is laid out
 
-module _ (s : State) (overflow : Rect) (surfaced : List ℕ) (l : Lent) where
+module _ (s : State) (overflow : Rect Float) (surfaced : List ℕ) (l : Lent) where
   abbrev pub placing : OofBoxLayout
   placing = layout_after s.opened.container (style_at l.styles (box_at_hand l.working s.counts).node) (box_at_hand l.working s.counts) s.replies overflow
 
-  abbrev pub shift : Shift
-  shift = By placing.layout.location
+  abbrev pub shift : Option (Point Float)
+  shift = Some placing.layout.location
 
   abbrev pub sweeping : sweep.Outcome
   sweeping = swept s.opened.claims (map (moved shift) (candidates_in surfaced)) l.working l.unclaimed s.counts.filled
 
   abbrev pub settled : Outcome
-  settled = replied_by (then_room Accepted (list_full s.opened.claims l s.counts.filled surfaced)) (Laid overflow) s surfaced l
+  settled = replied_by (then_room accepted (list_full s.opened.claims l s.counts.filled surfaced)) (Some (Laid overflow)) s surfaced l
 
-  pub no_room : (r : Refusal) (step : Step) (w u : List ℕ) → sweep.Leaves (Refused r) w u sweeping
+  pub no_room : (r : Refusal) (step : Step) (w u : List ℕ) → sweep.Leaves (Err r) w u sweeping
       → step ≡ record { state = s; answer = answer.Refused r }
       → outcome step l.layouts w u ≡ settled
   unfolding ◌when◌else◌
@@ -61,7 +60,7 @@ module _ (s : State) (overflow : Rect) (surfaced : List ℕ) (l : Lent) where
       rw f.0 (outcome_is (e ∙ rw f.1 refl) refl f.2 f.3)
 
   -- the next box has its record and its style
-  pub next_box : (after : Filled) (w u : List ℕ) → Passed s (LaidOut overflow) surfaced l → sweep.Leaves (Into after) w u sweeping
+  pub next_box : (after : Filled) (w u : List ℕ) → Passed s (LaidOut overflow) surfaced l → sweep.Leaves (Ok after) w u sweeping
       → s.counts.begun < after.working
       → AtHand l.styles w (s.counts.begun + 1)
   next_box after w u p h more =
@@ -70,7 +69,7 @@ module _ (s : State) (overflow : Rect) (surfaced : List ℕ) (l : Lent) where
       (next_at_hand s.opened.claims shift surfaced l s.counts.filled l.styles p.listed p.brought f.0 s.counts.begun
       (rw (sym (ap (λ (x : Filled). x.working) f.1)) more))
 
-  pub placed : (after : Filled) (step : Step) (layouts w u : List ℕ) → sweep.Leaves (Into after) w u sweeping
+  pub placed : (after : Filled) (step : Step) (layouts w u : List ℕ) → sweep.Leaves (Ok after) w u sweeping
       → layouts ≡ written l.layouts (layout_width * (box_at_hand l.working s.counts).node) (layout_words placing.layout)
       → step ≡ proceeding l.styles w s.opened (record { filled = after; begun = s.counts.begun; answered = s.counts.answered + 1 }) (union_of s.overflow placing.contribution)
       → outcome step layouts w u ≡ settled
@@ -82,7 +81,7 @@ module _ (s : State) (overflow : Rect) (surfaced : List ℕ) (l : Lent) where
 
 -- ---- a measured size lends no candidates
 
-pub kept_lends_none : (s : State) (reply : Reply) (replies : Replies) (surfaced : List ℕ) → taken_by s reply ≡ Kept replies → lent_by reply surfaced ≡ []
+pub kept_lends_none : (s : State) (reply : Reply) (replies : Replies) (surfaced : List ℕ) → taken_by s reply ≡ Some (Kept replies) → lent_by reply surfaced ≡ []
 kept_lends_none s (Both size) replies surfaced e = refl
 kept_lends_none s (Width width) replies surfaced e = refl
 kept_lends_none s (Height height) replies surfaced e = refl
@@ -98,10 +97,10 @@ module _ (s : State) (reply : Reply) (surfaced : List ℕ) (l : Lent) where
   turned_down r step e p = rw e (outcome_is p refl refl refl)
 
   -- a reply that no test turned down was not wrong
-  pub not_wrong : {A : Type 0} → ReplyCleared s reply surfaced l → taken_by s reply ≡ Wrong → A
-  not_wrong e t = no (ap is_wrong t) (reply_passed s reply surfaced l e).taken
+  pub not_wrong : {A : Type 0} → ReplyCleared s reply surfaced l → taken_by s reply ≡ None → A
+  not_wrong e t = no (ap is_none t) (reply_passed s reply surfaced l e).taken
 
-  pub kept : (replies : Replies) (step : Step) → ReplyCleared s reply surfaced l → taken_by s reply ≡ Kept replies
+  pub kept : (replies : Replies) (step : Step) → ReplyCleared s reply surfaced l → taken_by s reply ≡ Some (Kept replies)
       → step ≡ asking l.styles l.working s.opened (record { filled = s.counts.filled; begun = s.counts.begun; answered = s.counts.answered + 1 }) s.overflow replies
       → outcome step l.layouts l.working l.unclaimed ≡ replied s reply surfaced l
   unfolding replied measured_on ◌when◌else◌
@@ -110,10 +109,10 @@ module _ (s : State) (reply : Reply) (surfaced : List ℕ) (l : Lent) where
       rw (e, t, kept_lends_none s reply replies surfaced t, none_full s.opened.claims l s.counts n)
       (outcome_is p refl refl refl)
 
-  pub cleared_laid : (overflow : Rect) → ReplyCleared s reply surfaced l → taken_by s reply ≡ Laid overflow → ReplyCleared s (LaidOut overflow) surfaced l
+  pub cleared_laid : (overflow : Rect Float) → ReplyCleared s reply surfaced l → taken_by s reply ≡ Some (Laid overflow) → ReplyCleared s (LaidOut overflow) surfaced l
   cleared_laid overflow e t = rw (laid_is s reply overflow t) at e
 
-  pub laid : (overflow : Rect) (step : Step) (layouts w u : List ℕ) → ReplyCleared s reply surfaced l → taken_by s reply ≡ Laid overflow
+  pub laid : (overflow : Rect Float) (step : Step) (layouts w u : List ℕ) → ReplyCleared s reply surfaced l → taken_by s reply ≡ Some (Laid overflow)
       → outcome step layouts w u ≡ settled s overflow surfaced l
       → outcome step layouts w u ≡ replied s reply surfaced l
   unfolding replied

@@ -7,6 +7,8 @@ use mathlib.Core.List.{List, map}
 use mathlib.Core.Path.{◌≡◌, refl, ap, ◌∙◌}
 use lib.ListN.{length}
 use borrow.Author.Tests.{not-false}
+use Rattle.std.specs.Prelude.{Option, Result, Ok, Err, Float}
+use Rattle.geometry.specs.declared.Point.{Point}
 use Rattle.refusal.specs.declared.Refusal.{Refusal}
 use Rattle.refusal.specs.declared.Refusal.TheVariants.{ListFull}
 use Rattle.records.specs.Records.{room, record_at}
@@ -16,9 +18,6 @@ use Rattle.style_record.specs.Record.{style_words, items}
 use Rattle.tree.specs.declared.layout.OofCandidate.{OofCandidate}
 use Rattle.tree_record.specs.Candidate.{candidate_width, candidate_of}
 use Rattle.sweep.specs.declared.Filled.{Filled}
-use Rattle.sweep.specs.declared.Shift.{Shift}
-use Rattle.sweep.specs.declared.Swept.{Swept}
-use Rattle.sweep.specs.declared.Swept.TheVariants.{Refused, Into}
 use Rattle.sweep.specs.Sweep.{first_candidates, candidates_in, moved, keep, appended, Outcome, swept, Leaves}
 use Rattle.sweep.proofs.Steps.{full, into, no_room_in, no_room_out, room_both, kept_moved, appended_length}
 use Rattle.sweep.proofs.Laws.{swept_fits, kept_fits}
@@ -30,19 +29,19 @@ use Rattle.sweep.proofs.Listed.{AllBelow}
 use Rattle.placer.proofs.Nodes.{moved_below, keep_below, appended_below, item_words_lem}
 
 -- what a sweep answered
-refusal_of : Swept → Refusal
-refusal_of (Refused r) = r
-refusal_of (Into f) = ListFull
+refusal_of : Result Filled Refusal → Refusal
+refusal_of (Err r) = r
+refusal_of (Ok f) = ListFull
 
-is_into : Swept → ℕ
-is_into (Refused r) = 0
-is_into (Into f) = 1
+is_into : Result Filled Refusal → ℕ
+is_into (Err r) = 0
+is_into (Ok f) = 1
 
-filled_of : Filled → Swept → Filled
-filled_of f (Refused r) = f
-filled_of f (Into g) = g
+filled_of : Filled → Result Filled Refusal → Filled
+filled_of f (Err r) = f
+filled_of f (Ok g) = g
 
-module _ (by : ContainingBlockClaims) (s : Shift) (ws : List ℕ) (l : Lent) (f : Filled) where
+module _ (by : ContainingBlockClaims) (s : Option (Point Float)) (ws : List ℕ) (l : Lent) (f : Filled) where
   -- the outcomes
   abbrev pub when_full : Outcome
   when_full = full by s (candidates_in ws) l.working l.unclaimed f
@@ -63,19 +62,19 @@ module _ (by : ContainingBlockClaims) (s : Shift) (ws : List ℕ) (l : Lent) (f 
       go true false d e = no_room_out by s (candidates_in ws) l.working l.unclaimed f d e
       go false b d e = no_room_in by s (candidates_in ws) l.working l.unclaimed f d
 
-  pub was_full : (r : Refusal) (w u : List ℕ) → Leaves (Refused r) w u (swept by (map (moved s) (candidates_in ws)) l.working l.unclaimed f)
+  pub was_full : (r : Refusal) (w u : List ℕ) → Leaves (Err r) w u (swept by (map (moved s) (candidates_in ws)) l.working l.unclaimed f)
       → (list_full by l f ws ≡ true) × (r ≡ ListFull) × (w ≡ l.working) × (u ≡ l.unclaimed)
   unfolding refusal_of is_into
   was_full r w u h =
       go (list_full by l f ws) (h.answer ∙ ap (λ (o : Outcome). o.answer) by_full) (h.working ∙ ap (λ (o : Outcome). o.working) by_full)
       (h.unclaimed ∙ ap (λ (o : Outcome). o.unclaimed) by_full)
     where
-      go : (b : Bool) → Refused r ≡ (cond b when_full when_room).answer → w ≡ (cond b when_full when_room).working
+      go : (b : Bool) → Err r ≡ (cond b when_full when_room).answer → w ≡ (cond b when_full when_room).working
           → u ≡ (cond b when_full when_room).unclaimed → (b ≡ true) × (r ≡ ListFull) × (w ≡ l.working) × (u ≡ l.unclaimed)
       go true a p q = (refl, ap refusal_of a, p, q)
       go false a p q = absurd (let z : ◌≡◌ {A = ℕ} 0 1 = ap is_into a in omega arith)
 
-  pub had_room : (after : Filled) (w u : List ℕ) → Leaves (Into after) w u (swept by (map (moved s) (candidates_in ws)) l.working l.unclaimed f)
+  pub had_room : (after : Filled) (w u : List ℕ) → Leaves (Ok after) w u (swept by (map (moved s) (candidates_in ws)) l.working l.unclaimed f)
       → (list_full by l f ws ≡ false)
       × (after ≡ record { working = f.working + length (keep by true (candidates_in ws)); unclaimed = f.unclaimed + length (keep by false (candidates_in ws)) })
       × (w ≡ when_room.working)
@@ -85,7 +84,7 @@ module _ (by : ContainingBlockClaims) (s : Shift) (ws : List ℕ) (l : Lent) (f 
       go (list_full by l f ws) (h.answer ∙ ap (λ (o : Outcome). o.answer) by_full) (h.working ∙ ap (λ (o : Outcome). o.working) by_full)
       (h.unclaimed ∙ ap (λ (o : Outcome). o.unclaimed) by_full)
     where
-      go : (b : Bool) → Into after ≡ (cond b when_full when_room).answer → w ≡ (cond b when_full when_room).working
+      go : (b : Bool) → Ok after ≡ (cond b when_full when_room).answer → w ≡ (cond b when_full when_room).working
           → u ≡ (cond b when_full when_room).unclaimed
           → (b ≡ false)
           × (after ≡ record { working = f.working + length (keep by true (candidates_in ws)); unclaimed = f.unclaimed + length (keep by false (candidates_in ws)) })

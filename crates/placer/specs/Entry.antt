@@ -1,21 +1,19 @@
 -- What the steps of a call ask of one another, and `compute_oof_layout`'s own part (document 01, "The dialogue"). The entries' promises
 -- are `opened` and `replied` of run/specs/Run.antt. Assumes nothing.
-use Rattle.std.specs.Prelude.{ℕ, ◌+◌, ◌*◌, ◌-◌, ◌≤◌, Bool, true, false, cond, not, ◌&&◌, List, ◌≡◌, eqb, length}
+use Rattle.std.specs.Prelude.{ℕ, ◌+◌, ◌*◌, ◌-◌, ◌≤◌, Bool, cond, not, ◌&&◌, List, ◌≡◌, eqb, length, Option, is_some, Float}
 use Rattle.geometry.specs.Geometry.{union_of}
 use Rattle.geometry.specs.declared.Rect.{Rect}
+use Rattle.tree.specs.declared.layout.OofPositioningArea.{OofPositioningArea}
 use Rattle.records.specs.Records.{record_at}
 use Rattle.tree_record.specs.Candidate.{candidate_width, candidate_of}
 use Rattle.style_record.specs.Record.{style_words}
 use Rattle.oof_box.specs.declared.question.Reply.{Reply}
 use Rattle.run.specs.Call.{Lent}
-use Rattle.run.specs.Refusals.{lent_by, list_full}
+use Rattle.run.specs.Refusals.{accepted, lent_by, list_full}
 use Rattle.run.specs.Run.{claims_of, none_filled, opening_verdict, reply_verdict}
 use Rattle.run.specs.declared.Opening.{Opening}
 use Rattle.run.specs.declared.State.{State}
 use Rattle.placer_check.specs.Verdict.{then_room}
-use Rattle.placer_check.specs.declared.Verdict.TheVariants.{Accepted}
-use Rattle.placer.specs.declared.MaybeArea.{MaybeArea}
-use Rattle.placer.specs.declared.MaybeArea.TheVariants.{None, Some}
 
 -- the last of the boxes begun has its record in the working list, and its node's style in the table
 pub record AtHand (styles working : List ℕ) (begun : ℕ) : Type 0 where
@@ -25,22 +23,18 @@ pub record AtHand (styles working : List ℕ) (begun : ℕ) : Type 0 where
 
 -- no test before that of room turns the call down
 abbrev pub OpeningCleared : Opening → List ℕ → Lent → Type 0
-OpeningCleared o candidates lent = opening_verdict o candidates lent ≡ then_room Accepted (list_full (claims_of o) lent none_filled candidates)
+OpeningCleared o candidates lent = opening_verdict o candidates lent ≡ then_room accepted (list_full (claims_of o) lent none_filled candidates)
 
 abbrev pub ReplyCleared : State → Reply → List ℕ → Lent → Type 0
 ReplyCleared s reply surfaced lent =
-    reply_verdict s reply surfaced lent ≡ then_room Accepted (list_full s.opened.claims lent s.counts.filled (lent_by reply surfaced))
+    reply_verdict s reply surfaced lent ≡ then_room accepted (list_full s.opened.claims lent s.counts.filled (lent_by reply surfaced))
 
 -- ---- `compute_oof_layout`'s own part
 
-abbrev pub has_area : MaybeArea → Bool
-has_area None = false
-has_area (Some area) = true
-
 -- there is an area, and there are candidates
-abbrev pub pass_needed : MaybeArea → List ℕ → Bool
-pass_needed area candidates = has_area area && not (eqb (length candidates) 0)
+abbrev pub pass_needed : Option OofPositioningArea → List ℕ → Bool
+pass_needed area candidates = is_some area && not (eqb (length candidates) 0)
 
 -- the caller's overflow rectangle, joined with that of the finish
-abbrev pub overflow_after : MaybeArea → List ℕ → Rect → Rect → Rect
+abbrev pub overflow_after : Option OofPositioningArea → List ℕ → Rect Float → Rect Float → Rect Float
 overflow_after area candidates overflow finish = cond (pass_needed area candidates) (union_of overflow finish) overflow

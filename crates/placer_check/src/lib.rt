@@ -2,15 +2,18 @@
 // decides it, after all of these.
 #![tactic(auto)]
 
+ghost use Rattle.std.specs.Prelude.{◌≡◌};
+ghost use Rattle.run.specs.Refusals.{◌when◌else◌, accepted};
+
 use refusal::Refusal;
 
 pub mod lent;
 pub mod opening;
 pub mod reply;
 
-// What the tests before that of room say of a call.
-#[derive(Clone, Copy)]
-pub enum Verdict {
-    Accepted,
-    Refused(Refusal),
+// A refusal under its condition.
+pub fn refuse_if(bad: bool, refusal: Refusal) -> Result<(), Refusal>
+    ensures { result ≡ (refusal when bad else accepted) }
+{
+    if bad { Err(refusal) } else { Ok(()) }
 }

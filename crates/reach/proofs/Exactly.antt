@@ -5,6 +5,7 @@ use mathlib.Core.Logic.Iff
 use mathlib.Core.Logic.{◌↔◌}
 use mathlib.Core.Path.{◌≡◌, refl, sym, ap, ◌∙◌}
 use lib.Dec.{leb}
+use Rattle.std.specs.Prelude.{Option, Ok, Err, IsOk, Result}
 use Rattle.util.proofs.Floats.{no}
 use Rattle.refusal.specs.declared.Refusal.{Refusal}
 use Rattle.refusal.specs.declared.Refusal.TheVariants.{NotInEighths}
@@ -14,39 +15,27 @@ use Rattle.run.specs.Call.{Lent}
 use Rattle.run.specs.Refusals.{Verdict, accepted, refused, ◌when◌else◌}
 use Rattle.run.specs.Run.{layout_at}
 use Rattle.run.specs.declared.State.{State}
-use Rattle.run.proofs.Decides.{Says, at_most, then, no_more, refusal_by, is_accepted, refused_first, accepted_none}
+use Rattle.run.proofs.Decides.{is_accepted, Says, at_most, then, no_more, refused_first, accepted_none}
 use Rattle.finished.specs.Finished.{finished_verdict}
 use Rattle.finished.proofs.Laws.{tested_then, tested_says, after, tested_after}
-use Rattle.reach.specs.declared.Offset.{Offset}
-use Rattle.reach.specs.declared.Offset.TheVariants.{Nowhere, At}
-use Rattle.reach.specs.declared.Reached.{Reached}
-use Rattle.reach.specs.declared.Reached.TheVariants.{Seen, Unseen, Refused}
+use Rattle.reach.specs.declared.Offsets.{Offsets}
 use Rattle.reach.specs.Reach.{least, across, down, numbers_of, pair_of, box_reached, answered_by, reached}
 use Rattle.reach.specs.Conditions.{reach_tests}
-use Rattle.reach.specs.Laws.{RefusedExactly, AnswerIs, IsAnswer, AnsweredExactly}
+use Rattle.reach.specs.Laws.{RefusedExactly, AnswerIs, AnsweredExactly}
 use Rattle.reach.proofs.Numbers.{numbers_decided}
-use Rattle.reach.proofs.Boxes.{refusal_in, is_refused}
 
 -- ---- a refusal is the verdict's
 
 -- what is told goes by a verdict: a refusal is its refusal, and there is none where it accepts
-record GoesBy (a : Reached) (v : Verdict) : Type 0 where
-  refusal : (r : Refusal) → (a ≡ Refused r) ↔ (v ≡ refused r)
-  none : IsAnswer a ↔ (v ≡ accepted)
+record GoesBy (a : Result (Option Offsets) Refusal) (v : Verdict) : Type 0 where
+  refusal : (r : Refusal) → (a ≡ Err r) ↔ (v ≡ refused r)
+  none : IsOk a ↔ (v ≡ accepted)
 
-goes_refused : (q : Refusal) → GoesBy (Refused q) (refused q)
-goes_refused q =
-    record {
-      refusal = λ r. (λ e. ap refused (ap refusal_in e), λ e. ap Refused (ap refusal_by e));
-      none = (λ z. absurd z, λ e. no {b = false} (ap is_accepted e) refl);
-    }
+goes_refused : (q : Refusal) → GoesBy (Err q) (refused q)
+goes_refused q = record { refusal = λ r. (λ e. cc, λ e. cc); none = (λ z. absurd cc, λ e. absurd cc) }
 
-goes_accepted : (a : Reached) → IsAnswer a → is_refused a ≡ false → GoesBy a accepted
-goes_accepted a i n =
-    record {
-      refusal = λ r. (λ e. no (ap is_refused e) n, λ e. no {b = true} refl (ap is_accepted e));
-      none = (λ z. refl, λ e. i);
-    }
+goes_accepted : (answer : Option Offsets) → GoesBy (Ok answer) accepted
+goes_accepted answer = record { refusal = λ r. (λ e. absurd cc, λ e. absurd cc); none = (λ z. refl, λ e. refl) }
 
 -- the part's own test
 abbrev own_verdict : State → Layout → Verdict
@@ -55,17 +44,15 @@ own_verdict s box = NotInEighths when not (all_accepted (numbers_of s.opened.con
 box_goes : (s : State) (box : Layout) → GoesBy (box_reached s.opened.container s.overflow box) (own_verdict s box)
 unfolding box_reached ◌when◌else◌
 box_goes s box =
-    go (all_accepted (numbers_of s.opened.container.area s.overflow box)) (least (across s.opened.container s.overflow box)) (least (down s.opened.container s.overflow box))
+    go (all_accepted (numbers_of s.opened.container.area s.overflow box)) (pair_of (least (across s.opened.container s.overflow box)) (least (down s.opened.container s.overflow box)))
   where
-    go : (b : Bool) (p q : Offset) → GoesBy (cond b (pair_of p q) (Refused NotInEighths)) (cond (not b) (refused NotInEighths) accepted)
-    go false p q = goes_refused NotInEighths
-    go true Nowhere q = goes_accepted Unseen tt refl
-    go true (At x) Nowhere = goes_accepted Unseen tt refl
-    go true (At x) (At y) = goes_accepted (Seen x y) tt refl
+    go : (b : Bool) (answer : Option Offsets) → GoesBy (cond b (Ok answer) (Err NotInEighths)) (cond (not b) (refused NotInEighths) accepted)
+    go false answer = goes_refused NotInEighths
+    go true answer = goes_accepted answer
 
-goes_after : (v w : Verdict) (a : Reached) → GoesBy a w → GoesBy (answered_by v a) (after v w)
-goes_after accepted w a g = g
-goes_after (refused r) w a g = goes_refused r
+goes_after : (v w : Verdict) (a : Result (Option Offsets) Refusal) → GoesBy a w → GoesBy (answered_by v a) (after v w)
+goes_after (Ok tt) w a g = g
+goes_after (Err r) w a g = goes_refused r
 
 module _ (place : ℕ) (s : State) (lent : Lent) where
   abbrev box : Layout
@@ -92,9 +79,9 @@ pub answered_exactly : AnsweredExactly
 answered_exactly place s lent = Iff.trans (reached_goes place s lent).none (accepted_none (reach_says place s lent))
 
 -- what is accepted before and after is answered as it is
-answer_after : (v w : Verdict) (a : Reached) → after v w ≡ accepted → answered_by v a ≡ a
-answer_after accepted w a e = refl
-answer_after (refused r) w a e = no {b = true} refl (ap is_accepted (sym e))
+answer_after : (v w : Verdict) (a : Result (Option Offsets) Refusal) → after v w ≡ accepted → answered_by v a ≡ a
+answer_after (Ok tt) w a e = refl
+answer_after (Err r) w a e = no {b = true} refl (ap is_accepted (sym e))
 
 pub answer_is : AnswerIs
 unfolding reached

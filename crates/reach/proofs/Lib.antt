@@ -1,8 +1,7 @@
 pub mod Rows
-pub mod Axis
-pub mod Held
+pub mod Shares
 pub mod Numbers
-pub mod Offsets
+pub mod Least
 pub mod Boxes
 pub mod Shown
 pub mod Exactly

@@ -1,5 +1,5 @@
 -- When request #102 refuses, in its own words. Assumes nothing.
-use Rattle.std.specs.Prelude.{ℕ, ◌≤◌, List, [], ◌∷◌, ◌⊎◌}
+use Rattle.std.specs.Prelude.{ℕ, ◌≤◌, List, [], ◌∷◌, ◌⊎◌, Float}
 use Rattle.geometry.specs.declared.Rect.{Rect}
 use Rattle.tree.specs.declared.layout.Layout.{Layout}
 use Rattle.tree.specs.declared.layout.OofPositioningArea.{OofPositioningArea}
@@ -11,7 +11,7 @@ use Rattle.finished.specs.Conditions.{finished_tests}
 
 -- 9: "numbers of the area, that box and the overflow rectangle that #101 doesn't accept": each of the area and of the rectangle, whether it is
 -- used or not, and of the box those that #101 reads, x, y, width and height
-abbrev pub NotInEighthsHere : OofPositioningArea → Rect → Layout → Type 0
+abbrev pub NotInEighthsHere : OofPositioningArea → Rect Float → Layout → Type 0
 NotInEighthsHere area rectangle box =
     NotAllInEighths box area.offset
     ⊎ (¬ IsInEighths area.size.width)

@@ -2,23 +2,25 @@
 ghost use Rattle.std.specs.Prelude.{◌≡◌};
 ghost use Rattle.reach.specs.Told.{verdict_told};
 
-use crate::Reached;
+use crate::Offsets;
+use refusal::Refusal;
 
 pub const VERDICT: usize = 3;
 
 // The result of a call. Unless it was refused, the verdict is written.
-pub fn tell(reached: Reached, verdict: &mut [u32; VERDICT]) -> u32
+#[tactic(auto, unfolding(crate::specs::Told::verdict_told))]
+pub fn tell(reached: Result<Option<Offsets>, Refusal>, verdict: &mut [u32; VERDICT]) -> u32
     ensures { record { result = result; verdict = verdict.new } ≡ verdict_told reached verdict.old }
 {
     match reached {
-        Reached::Refused(refusal) => refusal.number(),
-        Reached::Seen(x, y) => {
-            *verdict = [1, x, y];
+        Ok(Some(offsets)) => {
+            *verdict = [1, offsets.across, offsets.down];
             0
         }
-        Reached::Unseen => {
+        Ok(None) => {
             *verdict = [0, 0, 0];
             0
         }
+        Err(refusal) => u32::from(refusal),
     }
 }

@@ -8,7 +8,9 @@ use mathlib.Core.Path.{◌≡◌, refl, sym, ap, ◌∙◌, subst}
 use lib.Dec.{lit≤, eqb}
 use lib.ListN.{length, get_or}
 use borrow.Author.Tests.{eqb-true, not-false, le-ltb, lt-leb}
+use Rattle.std.specs.Prelude.{Option, IsOk, Float}
 use Rattle.util.proofs.Floats.{no}
+use Rattle.geometry.specs.declared.Point.{Point}
 use Rattle.geometry.specs.declared.Rect.{Rect}
 use Rattle.style.specs.declared.ContainingBlockClaims.{ContainingBlockClaims}
 use Rattle.tree.specs.declared.layout.Layout.{Layout}
@@ -19,7 +21,6 @@ use Rattle.tree_record.specs.Candidate.{candidate_width}
 use Rattle.tree_record.specs.Layout.{layout_width, layout_words}
 use Rattle.style_record.specs.Record.{items}
 use Rattle.sweep.specs.Sweep.{candidates_in, moved, keep}
-use Rattle.sweep.specs.declared.Shift.{Shift}
 use Rattle.sweep.proofs.Steps.{kept_moved, appended_length}
 use Rattle.sweep.proofs.Listed.{IsBelow}
 use Rattle.oof_box.specs.declared.question.Reply.{Reply}
@@ -58,16 +59,13 @@ use Rattle.pixels_laws.proofs.Box.{LayoutIn}
 use Rattle.pixels_laws.proofs.Overflow.{RectIn}
 use Rattle.pixels_laws.proofs.Run.{RunIn, run_in}
 use Rattle.finished.specs.Finished.{finished_verdict}
-use Rattle.reach.specs.declared.Offset.{Offset}
-use Rattle.reach.specs.declared.Offset.TheVariants.{Nowhere, At}
-use Rattle.reach.specs.Laws.{IsAnswer}
-use Rattle.reach.specs.Reach.{across, down, least, pair_of, box_reached, reached}
+use Rattle.reach.specs.Reach.{box_reached, reached}
 use Rattle.reach_laws.specs.Laws.{ContainerStays, QuartersAreAnswered, told_of}
 use Rattle.reach_laws.proofs.Course.{Goes, begun_goes, turns_go}
 
 -- ---- a box whose numbers are whole eighths
 
-pub box_answered : (c : ContainingBlock) → AreaInQuarters c.area → (r : Rect) → RectIn r → (l : Layout) → LayoutIn l → IsAnswer (box_reached c r l)
+pub box_answered : (c : ContainingBlock) → AreaInQuarters c.area → (r : Rect Float) → RectIn r → (l : Layout) → LayoutIn l → IsOk (box_reached c r l)
 unfolding box_reached all_accepted
 box_answered c area r k l h =
     rw (
@@ -84,12 +82,7 @@ box_answered c area r k l h =
       exact_accepted (lit≤ tt) k.top.l,
       exact_accepted (lit≤ tt) k.bottom.l,
     )
-    (pair (least (across c r l)) (least (down c r l)))
-  where
-    pair : (x y : Offset) → IsAnswer (pair_of x y)
-    pair Nowhere y = tt
-    pair (At x) Nowhere = tt
-    pair (At x) (At y) = tt
+    refl
 
 -- ---- the lists have room for what they hold, by their lengths at the opening
 
@@ -99,7 +92,7 @@ record Holds (e : Extents) (s : State) : Type 0 where
   unclaimed : candidate_width * s.counts.filled.unclaimed ≤ e.unclaimed
 
 module _ (e : Extents) where
-  proceeding_holds : (styles working : List ℕ) (run : Opened) (counts : Counts) (overflow : Rect) → run.extents ≡ e → candidate_width * counts.filled.working ≤ e.working
+  proceeding_holds : (styles working : List ℕ) (run : Opened) (counts : Counts) (overflow : Rect Float) → run.extents ≡ e → candidate_width * counts.filled.working ≤ e.working
       → candidate_width * counts.filled.unclaimed ≤ e.unclaimed
       → Holds e (proceeding styles working run counts overflow).state
   unfolding asking finishing
@@ -134,7 +127,7 @@ module _ (e : Extents) where
   unfolding measured_on asking laid_out
   reply_holds s reply surfaced l h = go (reply_way s reply surfaced l)
     where
-      room : (by : ContainingBlockClaims) (list : Bool) (shift : Shift) (given : List ℕ) (held n : ℕ) → given ≡ surfaced
+      room : (by : ContainingBlockClaims) (list : Bool) (shift : Option (Point Float)) (given : List ℕ) (held n : ℕ) → given ≡ surfaced
           → candidate_width * (held + length (keep by list (candidates_in given))) ≤ n
           → candidate_width * (held + length (keep by list (map (moved shift) (candidates_in surfaced)))) ≤ n
       room by list shift given held n d k = rw (kept_moved by list shift (candidates_in surfaced), ← d) k
@@ -253,7 +246,7 @@ quarters_are_answered o candidates lent turns place area table quarter accepts l
     r : RunIn o candidates lent (called o candidates lent turns)
     r = run_in o candidates lent turns area table quarter accepts lends heard
 
-    go : OpeningWay o candidates lent → IsAnswer (told_of place lent.styles (called o candidates lent turns))
+    go : OpeningWay o candidates lent → IsOk (told_of place lent.styles (called o candidates lent turns))
     go (turned_down q e) = no (ap refused_in e) accepts
     go (begins v e) =
         let good = records_good o candidates lent turns (opening_passed o candidates lent v) r in

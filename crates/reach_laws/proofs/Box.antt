@@ -1,8 +1,10 @@
 -- A box and its mirror image. Assumes nothing.
+use Rattle.std.specs.Prelude.{Float}
 use native.Mathlib.Omega.{arith}
+use Rattle.std.proofs.lemmas.Int.{ints}
 use mathlib.Core.Bool.{Bool, true, false, not}
 use mathlib.Core.Path.{◌≡◌, refl, sym, ap, ◌∙◌}
-use lib.IntN.{ℤ, neg_ℤ, ◌+ℤ◌, ◌-ℤ◌}
+use lib.IntN.{ℤ, ◌+ℤ◌, ◌-ℤ◌}
 use Rattle.geometry.specs.declared.Rect.{Rect}
 use Rattle.style.specs.declared.Direction.{Direction}
 use Rattle.style.specs.declared.Direction.TheVariants.{Ltr, Rtl}
@@ -10,7 +12,6 @@ use Rattle.tree.specs.declared.layout.Layout.{Layout}
 use Rattle.oof_resolve.specs.declared.ContainingBlock.{ContainingBlock}
 use Rattle.pixels.specs.Accepted.{in_eighths}
 use Rattle.pixels.specs.Pixels.{all_accepted}
-use Rattle.pixels.proofs.Pairs.{up, off, add_is, neg_is, same}
 use Rattle.mirror_box.specs.Image.{other_direction, image_container}
 use Rattle.run.proofs.Decides.{Decides}
 use Rattle.reach.specs.Conditions.{NotInEighthsHere}
@@ -24,32 +25,12 @@ use Rattle.reach_laws.specs.Laws.{MirroredBox}
 -- from the left in one, from the right in the other
 starts_alike : (d : Direction) (area left left' size : ℤ) → left +ℤ left' +ℤ size ≡ area → from_start d area left size ≡ from_start (other_direction d) area left' size
 unfolding other_direction
-starts_alike Ltr area left left' size e =
-    same left (area -ℤ left' -ℤ size)
-    (let s = add_is left left' in
-    let t = add_is (left +ℤ left') size in
-    let u : up (left +ℤ left' +ℤ size) ≡ up area = ap up e in
-    let v : off (left +ℤ left' +ℤ size) ≡ off area = ap off e in
-    let n = neg_is left' in
-    let m = neg_is size in
-    let a = add_is area (neg_ℤ left') in
-    let b = add_is (area -ℤ left') (neg_ℤ size) in
-    omega arith)
-starts_alike Rtl area left left' size e =
-    same (area -ℤ left -ℤ size) left'
-    (let s = add_is left left' in
-    let t = add_is (left +ℤ left') size in
-    let u : up (left +ℤ left' +ℤ size) ≡ up area = ap up e in
-    let v : off (left +ℤ left' +ℤ size) ≡ off area = ap off e in
-    let n = neg_is left in
-    let m = neg_is size in
-    let a = add_is area (neg_ℤ left) in
-    let b = add_is (area -ℤ left) (neg_ℤ size) in
-    omega arith)
+starts_alike Ltr area left left' size e = omega (arith, ints)
+starts_alike Rtl area left left' size e = omega (arith, ints)
 
 -- ---- both axes
 
-module _ (c : ContainingBlock) (overflow overflow' : Rect) (box box' : Layout) where
+module _ (c : ContainingBlock) (overflow overflow' : Rect Float) (box box' : Layout) where
   pub across_alike :
       (in_eighths box.location.x -ℤ in_eighths c.area.offset.x) +ℤ (in_eighths box'.location.x -ℤ in_eighths c.area.offset.x) +ℤ in_eighths box.size.width
       ≡ in_eighths c.area.size.width
@@ -71,7 +52,7 @@ module _ (c : ContainingBlock) (overflow overflow' : Rect) (box box' : Layout) w
 
 -- ---- a box whose numbers are accepted alike
 
-pub reached_alike : (c c' : ContainingBlock) (overflow overflow' : Rect) (box box' : Layout)
+pub reached_alike : (c c' : ContainingBlock) (overflow overflow' : Rect Float) (box box' : Layout)
     → all_accepted (numbers_of c.area overflow box) ≡ all_accepted (numbers_of c'.area overflow' box')
     → across c overflow box ≡ across c' overflow' box'
     → down c overflow box ≡ down c' overflow' box'
@@ -81,7 +62,7 @@ reached_alike c c' overflow overflow' box box' a x y = rw (a, x, y) refl
 
 -- ---- all accepted
 
-all_accepted_lem : (c : ContainingBlock) (overflow : Rect) (box : Layout) → AllInEighths c overflow box → all_accepted (numbers_of c.area overflow box) ≡ true
+all_accepted_lem : (c : ContainingBlock) (overflow : Rect Float) (box : Layout) → AllInEighths c overflow box → all_accepted (numbers_of c.area overflow box) ≡ true
 all_accepted_lem c overflow box h = go (all_accepted (numbers_of c.area overflow box)) (numbers_decided c.area overflow box)
   where
     go : (b : Bool) → Decides (not b) (NotInEighthsHere c.area overflow box) → b ≡ true

@@ -24,7 +24,9 @@ use Rattle.run.proofs.Ways.{NextWay, asks, ends, next_way, ReplyWay, turned_down
 use Rattle.finished.specs.Finished.{is_open}
 use Rattle.mirror_run.specs.Runs.{Message, run_next, image_next, surfaced_in, Fair, AllFair}
 use Rattle.mirror_run.proofs.Unread.{accepted_read}
-use Rattle.pixels_laws.specs.Laws.{All, QuarterHeard}
+use Rattle.std.specs.Prelude.{All, Float}
+use Rattle.std.proofs.lemmas.List.Elements.{All-nil, All-cons}
+use Rattle.pixels_laws.specs.Laws.{QuarterHeard}
 
 -- ---- what each of the two is given
 
@@ -50,17 +52,17 @@ pub record Goes (o : Opening) (s : State) : Type 0 where
   pub all : s.progress ≡ Finished → s.counts.filled.working ≤ s.counts.begun
 
 module _ (o : Opening) where
-  asking_goes : (styles working : List ℕ) (run : Opened) (counts : Counts) (overflow : Rect) (replies : _) → run.container ≡ container_of o → run.claims ≡ claims_of o
+  asking_goes : (styles working : List ℕ) (run : Opened) (counts : Counts) (overflow : Rect Float) (replies : _) → run.container ≡ container_of o → run.claims ≡ claims_of o
       → Goes o (asking styles working run counts overflow replies).state
   unfolding asking
   asking_goes styles working run counts overflow replies c d = record { container = c; claims = d; all = λ e. no {b = true} refl (ap is_open e) }
 
-  finishing_goes : (run : Opened) (counts : Counts) (overflow : Rect) → run.container ≡ container_of o → run.claims ≡ claims_of o → counts.filled.working ≤ counts.begun
+  finishing_goes : (run : Opened) (counts : Counts) (overflow : Rect Float) → run.container ≡ container_of o → run.claims ≡ claims_of o → counts.filled.working ≤ counts.begun
       → Goes o (finishing run counts overflow).state
   unfolding finishing
   finishing_goes run counts overflow c d h = record { container = c; claims = d; all = λ e. h }
 
-  proceeding_goes : (styles working : List ℕ) (run : Opened) (counts : Counts) (overflow : Rect) → run.container ≡ container_of o → run.claims ≡ claims_of o
+  proceeding_goes : (styles working : List ℕ) (run : Opened) (counts : Counts) (overflow : Rect Float) → run.container ≡ container_of o → run.claims ≡ claims_of o
       → Goes o (proceeding styles working run counts overflow).state
   proceeding_goes styles working run counts overflow c d = go (next_way styles working run counts overflow)
     where
@@ -117,14 +119,16 @@ module _ (o : Opening) where
 
   pub all_heard : (styles : List ℕ) (x : Outcome) (ms : List Message) → Goes o x.step.state → AllFair styles x ms → All (QuarterHeard (claims_of o)) (heeded styles x (turns_of ms))
   unfolding heeded
-  all_heard styles x [] h fair = tt
+  all_heard styles x [] h fair = All-nil (QuarterHeard (claims_of o))
   all_heard styles x (m ∷ ms) h fair = go (is_refused (turned styles x m.turn).step.answer) refl (all_heard styles (turned styles x m.turn) ms (turn_goes styles x m.turn h) fair.1)
     where
       go : (b : Bool) → is_refused (turned styles x m.turn).step.answer ≡ b
           → All (QuarterHeard (claims_of o)) (heeded styles (turned styles x m.turn) (turns_of ms))
           → All (QuarterHeard (claims_of o)) (cond b (heeded styles (turned styles x m.turn) (turns_of ms)) (m.turn.heard ∷ heeded styles (turned styles x m.turn) (turns_of ms)))
       go true e rest = rest
-      go false e rest = ((fair.0.quarters e, subst (λ (by : ContainingBlockClaims). claimed by (candidates_in (surfaced_in m.turn)) ≡ []) h.claims (fair.0.surfaces_none e)), rest)
+      go false e rest =
+          All-cons (QuarterHeard (claims_of o)) _ _
+          (fair.0.quarters e, subst (λ (by : ContainingBlockClaims). claimed by (candidates_in (surfaced_in m.turn)) ≡ []) h.claims (fair.0.surfaces_none e)) rest
 
 -- ---- a run whose opening was refused: a finished one, without a box, stays so
 

@@ -1,12 +1,13 @@
 -- Numbers that are equal, or add up, in eighths. Assumes nothing.
 use Prim.Native.Nat.{ℕ, ◌+◌, ◌*◌, ◌<◌, ◌≤◌}
 use native.Mathlib.Omega.{arith}
+use Rattle.std.proofs.lemmas.Int.{ints}
 use native.Mathlib.Nat.{mul_assoc, mul_right_comm, mul-pos, eq_of_mul-eq-mul_right}
 use mathlib.Core.Bool.{Bool, true, false, ◌||◌, beq, and-eq-true_iff}
 use mathlib.Core.List.{[], ◌∷◌}
 use mathlib.Core.Path.{◌≡◌, refl, sym, ap, ◌∙◌}
 use lib.Dec.{eqb, lit≤}
-use lib.IntN.{pos, neg_ℤ, ◌+ℤ◌, ◌-ℤ◌}
+use lib.IntN.{pos, ◌+ℤ◌, ◌-ℤ◌, ◌*ℤ◌}
 use lib.Ieee.{Float, nan, inf, fin, up, down, eq}
 use lib.Ieee.Exact.{HasValue}
 use lib.Ieee.Fits.{down_pos}
@@ -16,8 +17,6 @@ use Rattle.util.proofs.Order.{level_sign}
 use Rattle.tree.specs.declared.layout.OofPositioningArea.{OofPositioningArea}
 use Rattle.pixels.specs.Accepted.{accepted, signed, in_eighths}
 use Rattle.pixels.proofs.Numbers.{one_integer, accepted_exactly, integer_is_exact, else_zero}
-use Rattle.pixels.proofs.Pairs as pair
-use Rattle.pixels.proofs.Pairs.{off, add_is, neg_is, same}
 use Rattle.util_exact.specs.Integer.{N}
 use Rattle.util_exact.specs.Value.{◌≐◌, Signed, Sixteenths}
 use Rattle.util_exact.proofs.Exact.{Exact, of_value, recast, reach, sixteenths}
@@ -84,7 +83,7 @@ equal_alike x y h = go (accepted x) (accepted y) refl refl
 -- ---- sums
 
 -- an accepted number's eighths are half its sixteenths
-halves : (x : Float) (a : N) → accepted x ≡ true → Sixteenths x a → 2 * pair.up (in_eighths x) + a.n ≡ a.p + 2 * off (in_eighths x)
+halves : (x : Float) (a : N) → accepted x ≡ true → Sixteenths x a → pos 2 *ℤ in_eighths x +ℤ pos a.n ≡ pos a.p
 halves x a h k =
     let v = (accepted_exactly x).0 h in
     rw (integer_is_exact x v.0 v.1 v.2) (go x v.0 v.1 k.0 k.1 v.2.0 k.2 k.3)
@@ -92,11 +91,11 @@ halves x a h k =
     twice : (m n z d : ℕ) → 0 < d → m * 8 ≡ n * d → m * 16 ≡ z * d → 2 * n ≡ z
     twice m n z d p e f = eq_of_mul-eq-mul_right d p (2 * n) z (mul_assoc 2 n d ∙ omega arith)
 
-    by : (s : Bool) (n : ℕ) → Signed s (2 * n) a → 2 * pair.up (signed s n) + a.n ≡ a.p + 2 * off (signed s n)
-    by false n e = omega arith
-    by true n e = let t = neg_is (pos n) in omega arith
+    by : (s : Bool) (n : ℕ) → Signed s (2 * n) a → pos 2 *ℤ signed s n +ℤ pos a.n ≡ pos a.p
+    by false n e = omega (arith, ints)
+    by true n e = omega (arith, ints)
 
-    go : (x : Float) (s : Bool) (n : ℕ) (t : Bool) (z : ℕ) → HasValue x s n 8 → HasValue x t z 16 → Signed t z a → 2 * pair.up (signed s n) + a.n ≡ a.p + 2 * off (signed s n)
+    go : (x : Float) (s : Bool) (n : ℕ) (t : Bool) (z : ℕ) → HasValue x s n 8 → HasValue x t z 16 → Signed t z a → pos 2 *ℤ signed s n +ℤ pos a.n ≡ pos a.p
     go nan s n t z v w g = absurd v
     go (inf r) s n t z v w g = absurd v
     go (fin r m e) s n t z v w g = rw (sym v.0 ∙ w.0) (by t n (rw (twice (m * up e) n z (down e) (down_pos e) v.1 w.1) g))
@@ -131,12 +130,7 @@ module _ (area : OofPositioningArea) (x x' w : Float) (m : MirrorSum area (x ∷
       let b0 = halves area.offset.x r.0 ho r.2 in
       let b1 = halves area.offset.x r1.0 ho r1.2 in
       let b2 = halves area.size.width r2.0 ha r2.2 in
-      let n = neg_is o in
-      let s = add_is (in_eighths x) (neg_ℤ o) in
-      let t = add_is (in_eighths x') (neg_ℤ o) in
-      let u = add_is (in_eighths x -ℤ o) (in_eighths x' -ℤ o) in
-      let v = add_is ((in_eighths x -ℤ o) +ℤ (in_eighths x' -ℤ o)) (in_eighths w) in
-      same _ _ (omega arith)
+      omega (arith, ints)
 
   -- whole eighths that aren't large make the image's x such
   pub image_accepted_lem : {a b c d : N} → Exact 2 (place_bound + length_bound) x a → Exact 2 fit_bound w b → Exact 2 length_bound area.offset.x c → Exact 2 length_bound area.size.width d → accepted x' ≡ true

@@ -3,6 +3,9 @@ use Prim.Native.Nat.{ℕ, ◌<◌}
 use mathlib.Core.Bool.{Bool, true, false}
 use mathlib.Core.Path.{◌≡◌, refl, sym, ap, ◌∙◌}
 use lib.Dec.{leb, lit≤}
+use Rattle.std.specs.Prelude.{Ok, Err, Option, Result, Float}
+use Rattle.refusal.specs.declared.Refusal.{Refusal}
+use Rattle.reach.specs.declared.Offsets.{Offsets}
 use Rattle.util.proofs.Floats.{no}
 use Rattle.geometry.specs.declared.Rect.{Rect}
 use Rattle.tree.specs.declared.layout.Layout.{Layout}
@@ -31,7 +34,6 @@ use Rattle.pixels_laws.proofs.Accepted.{exact_accepted}
 use Rattle.pixels_laws.proofs.Box.{LayoutIn}
 use Rattle.finished.specs.Finished.{is_open, finished_verdict}
 use Rattle.finished.proofs.There.{box_is_filled}
-use Rattle.reach.specs.declared.Reached.{Reached}
 use Rattle.reach.specs.Reach.{numbers_of, answered_by, box_reached, reached}
 use Rattle.reach_laws.specs.Laws.{told_of}
 use Rattle.reach_laws.proofs.Box.{across_alike, down_alike, reached_alike}
@@ -39,7 +41,7 @@ use Rattle.reach_laws.proofs.Eighths.{equal_alike, sum_in_eighths, image_accepte
 
 -- ---- a box of a run and its image
 
-module _ (c : ContainingBlock) (area : AreaInQuarters c.area) (r r' : Rect) (same : SameRect r r') (l l' : Layout) (m : MirroredLayout c.area l l') (h : LayoutIn l) where
+module _ (c : ContainingBlock) (area : AreaInQuarters c.area) (r r' : Rect Float) (same : SameRect r r') (l l' : Layout) (m : MirroredLayout c.area l l') (h : LayoutIn l) where
   x_accepted : accepted l.location.x ≡ true
   x_accepted = exact_accepted (lit≤ tt) h.x.1
 
@@ -75,12 +77,12 @@ module _ (c : ContainingBlock) (area : AreaInQuarters c.area) (r r' : Rect) (sam
 
 -- ---- the tests of a finished run
 
-answered_alike : (v v' : Verdict) (b b' : Reached) → v ≡ v' → (v ≡ test.accepted → b ≡ b') → answered_by v b ≡ answered_by v' b'
+answered_alike : (v v' : Verdict) (b b' : Result (Option Offsets) Refusal) → v ≡ v' → (v ≡ test.accepted → b ≡ b') → answered_by v b ≡ answered_by v' b'
 answered_alike v v' b b' e f = go v refl ∙ ap (λ (v : Verdict). answered_by v b') e
   where
     go : (u : Verdict) → v ≡ u → answered_by u b ≡ answered_by u b'
-    go test.accepted e = f e
-    go (test.refused r) e = refl
+    go (Ok tt) e = f e
+    go (Err r) e = refl
 
 -- an accepted one is finished
 finished_is : (s : State) (l : Lent) (other : Bool) → finished_verdict s l other ≡ test.accepted → s.progress ≡ Finished

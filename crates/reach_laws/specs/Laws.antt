@@ -1,7 +1,9 @@
 -- Request #102: the mirror image of a run has the same verdicts and the same offsets, and a run of whole quarter pixels has a verdict for every
 -- box. As statements: `proofs/` proves each, under its name in small letters. Assumes nothing.
-use Rattle.std.specs.Prelude.{ℕ, ◌<◌, false, ◌≡◌, ◌+ℤ◌, ◌-ℤ◌}
+use Rattle.std.specs.Prelude.{ℕ, ◌<◌, false, ◌≡◌, ◌+ℤ◌, ◌-ℤ◌, All, IsOk, Option, Result, Float}
 use mathlib.Core.List.{List, foldl}
+use Rattle.refusal.specs.declared.Refusal.{Refusal}
+use Rattle.reach.specs.declared.Offsets.{Offsets}
 use Rattle.geometry.specs.declared.Rect.{Rect}
 use Rattle.tree.specs.declared.layout.Layout.{Layout}
 use Rattle.oof_resolve.specs.declared.ContainingBlock.{ContainingBlock}
@@ -15,16 +17,15 @@ use Rattle.mirror_box.specs.Image.{image_container}
 use Rattle.mirror_run.specs.Image.{image_opening, image_styles, image_candidates}
 use Rattle.mirror_run.specs.Quarter.{AreaInQuarters, QuarterArea, QuarterTable, QuarterCandidates}
 use Rattle.mirror_run.specs.Runs.{Message, run_next, image_next, AllFair}
-use Rattle.pixels_laws.specs.Laws.{All, QuarterHeard}
-use Rattle.reach.specs.declared.Reached.{Reached}
-use Rattle.reach.specs.Laws.{AllInEighths, IsAnswer}
+use Rattle.pixels_laws.specs.Laws.{QuarterHeard}
+use Rattle.reach.specs.Laws.{AllInEighths}
 use Rattle.reach.specs.Reach.{box_reached, reached}
 
 -- ---- a box
 
 -- in eighths, the box of one container is as far from the area's left edge as the other's is from its right edge; all else that is read is
 -- equal. The image of a container has the same area and overflow codes, and the other direction: either may be left-to-right
-pub record MirroredInEighths (c c' : ContainingBlock) (overflow overflow' : Rect) (box box' : Layout) : Type 0 where
+pub record MirroredInEighths (c c' : ContainingBlock) (overflow overflow' : Rect Float) (box box' : Layout) : Type 0 where
   pub image : c' ≡ image_container c
   pub accepted : AllInEighths c overflow box
   pub image_accepted : AllInEighths c' overflow' box'
@@ -40,13 +41,13 @@ pub record MirroredInEighths (c c' : ContainingBlock) (overflow overflow' : Rect
 
 abbrev pub MirroredBox : Type 0
 MirroredBox =
-    (c c' : ContainingBlock) (overflow overflow' : Rect) (box box' : Layout) → MirroredInEighths c c' overflow overflow' box box'
+    (c c' : ContainingBlock) (overflow overflow' : Rect Float) (box box' : Layout) → MirroredInEighths c c' overflow overflow' box box'
     → box_reached c overflow box ≡ box_reached c' overflow' box'
 
 -- ---- a run and its image, after the same replies, under what mirror_run's `Mirror` asks
 
 -- what is told of a place by the state and the words that a call left
-abbrev pub told_of : ℕ → List ℕ → Outcome → Reached
+abbrev pub told_of : ℕ → List ℕ → Outcome → Result (Option Offsets) Refusal
 told_of place styles o = reached place o.step.state (lent styles o.layouts o.working o.unclaimed)
 
 -- seen at the same offsets, or unseen, or refused with the same number, at every place and after every call: before the finish, and after a
@@ -78,4 +79,4 @@ QuartersAreAnswered =
     → AllLend lent.styles (opened o candidates lent) turns
     → All (QuarterHeard (claims_of o)) (heeded_in o candidates lent turns)
     → let has = called o candidates lent turns in
-    has.step.state.progress ≡ Finished → place < has.step.state.counts.filled.working → IsAnswer (told_of place lent.styles has)
+    has.step.state.progress ≡ Finished → place < has.step.state.counts.filled.working → IsOk (told_of place lent.styles has)

@@ -7,10 +7,13 @@ use mathlib.Core.Path.{◌≡◌, refl, sym, ap, ◌∙◌}
 use mathlib.Core.Bool.{Bool, true, false, not, ◌&&◌}
 use mathlib.Core.List.{List, [], ◌∷◌, ◌++◌, append_assoc, append-nil}
 use lib.Dec.{ltb, leb}
-use lib.ListN.{length, get_or, set, take, drop, length-drop, take-append-drop}
-use lib.Seq.{sets, length-sets, sets-eq, drop-cons, drop-drop, take-append-le, drop-append-le, take_at, drop_at, length-take-le, take-set-le, drop-set-lt, take-nil, get_or-take, get_or-drop}
+use lib.ListN.{length, set, take, drop, length-drop, take-append-drop}
+use lib.Seq.{sets, length-sets, sets-eq, drop-drop, take-append-le, drop-append-le, take_at, drop_at, length-take-le, take-set-le, drop-set-lt, take-nil, get_or-take, get_or-drop}
 use lib.Ieee.{of_bits, to_bits, binary32}
-use borrow.Author.Tests.{le-leb, lt-leb, leb-true, leb-false, ltb-true, ltb-false, not-true}
+use borrow.Author.Tests.{le-leb, lt-leb, leb-true, ltb-true, ltb-false, not-true}
+use borrow.Rule.Slice.PartMut.{put_mid}
+use Rattle.std.proofs.lemmas.Slice.{put_mid-paste}
+use Rattle.std.proofs.lemmas.List.Edits.{paste_all}
 use Rattle.util.proofs.Floats.{no, is_nan_lem}
 use Rattle.util.proofs.Laws.{word_back}
 use Rattle.records.specs.Records.{record_at, records, room, written, Kind, canonical_word, every, breaks, good, good_records}
@@ -35,12 +38,10 @@ written_twice ws at [] vs = ap (λ (k : ℕ). written ws k vs) (sym (add-zero at
 written_twice ws at (u ∷ us) vs =
     written_twice (set ws at u) (suc at) us vs ∙ ap (λ (k : ℕ). written (written (set ws at u) (suc at) us) k vs) (suc-add at (length us) ∙ sym (add-suc at (length us)))
 
--- a turn of the loop that writes: word j, then the words from j + 1 on
-pub written_step : (ws : List ℕ) (at : ℕ) (vs : List ℕ) (j : ℕ) → j < length vs
-    → written ws (at + j) (drop j vs) ≡ written (set ws (at + j) (get_or vs j 0)) (at + (j + 1)) (drop (j + 1) vs)
-unfolding written
-written_step ws at vs j h =
-    rw (drop-cons vs j 0 h, add-one j) (ap (λ (k : ℕ). written (set ws (at + j) (get_or vs j 0)) k (drop (suc j) vs)) (sym (add-suc at j)))
+-- what `copy_from_slice` leaves of a list, of which it wrote the words from `at` on
+pub written_over : (ws : List ℕ) (at : ℕ) (vs : List ℕ) → at + length vs ≤ length ws → put_mid at (at + length vs - at) ws vs ≡ written ws at vs
+written_over ws at vs h = put_mid-paste at (at + length vs - at) ws vs vs (length vs) refl (omega arith) refl ∙ paste_all ws at vs (length vs) refl
+    ∙ sym (written_parts ws at vs h ∙ append_assoc (take at ws) vs (drop (at + length vs) ws))
 
 -- words before and after those written stay
 pub take_written : (n : ℕ) (ws : List ℕ) (at : ℕ) (vs : List ℕ) → n ≤ at → take n (written ws at vs) ≡ take n ws
@@ -220,18 +221,6 @@ good_is_unbroken kinds ws n = (
 
 -- ---- room
 
-pub room_for : (w l held more : ℕ) → held ≤ l / w → room w l held more ≡ leb more (l / w - held)
-unfolding room
-room_for w l held more h = go (leb more (l / w - held)) refl
-  where
-    go : (b : Bool) → leb more (l / w - held) ≡ b → leb (held + more) (l / w) ≡ b
-    go true e = let k : more ≤ l / w - held = leb-true more (l / w - held) e in le-leb (held + more) (l / w) (omega arith)
-    go false e = let k : l / w - held < more = leb-false more (l / w - held) e in lt-leb (held + more) (l / w) (omega arith)
-
-pub no_room : (w l held more : ℕ) → l / w < held → room w l held more ≡ false
-unfolding room
-no_room w l held more h = lt-leb (held + more) (l / w) (omega arith)
-
 -- room in records is room in words
 pub room_words : (w l held more : ℕ) → room w l held more ≡ true → w * (held + more) ≤ l
 unfolding room
@@ -262,3 +251,14 @@ pub one_more : (kinds : List Kind) (ws : List ℕ) (i : ℕ) → every i (λ i. 
     → every (i + 1) (λ i. good kinds ws (length kinds * i)) ≡ true
 unfolding every
 one_more kinds ws i e g = rw (add-one, e, g) refl
+
+-- ---- a record by itself
+
+every_same : (n : ℕ) (p q : ℕ → Bool) → ((k : ℕ) → k < n → p k ≡ q k) → every n p ≡ every n q
+unfolding every
+every_same zero p q f = refl
+every_same (suc n) p q f = rw (every_same n p q (λ k h. f k (omega arith)), f n (omega arith)) refl
+
+pub good_record_at : (kinds : List Kind) (ws : List ℕ) (i : ℕ) → good kinds (record_at (length kinds) ws i) 0 ≡ good kinds ws (length kinds * i)
+unfolding good breaks
+good_record_at kinds ws i = every_same (length kinds) _ _ (λ k h. rw (zero-add k, word_of_record (length kinds) ws i k h) refl)

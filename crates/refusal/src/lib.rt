@@ -4,33 +4,24 @@
 ghost use Rattle.std.specs.Prelude.{◌≡◌};
 ghost use Rattle.refusal.specs.Refusal.{number_of};
 
-#[derive(Clone, Copy)]
+#[derive(Clone, Copy, PartialEq, Eq)]
 pub enum Refusal {
-    BadArea,
-    BadExtent,
-    BadStyle,
-    BadCandidate,
-    ListFull,
-    WrongReply,
-    UnresolvedSide,
-    BadScreenLine,
-    NotInEighths,
+    BadArea = 1,
+    BadExtent = 2,
+    BadStyle = 3,
+    BadCandidate = 4,
+    ListFull = 5,
+    WrongReply = 6,
+    UnresolvedSide = 7,
+    BadScreenLine = 8,
+    NotInEighths = 9,
 }
 
-impl Refusal {
-    pub fn number(self) -> u32
-        ensures { result ≡ number_of self }
-    {
-        match self {
-            Refusal::BadArea => 1,
-            Refusal::BadExtent => 2,
-            Refusal::BadStyle => 3,
-            Refusal::BadCandidate => 4,
-            Refusal::ListFull => 5,
-            Refusal::WrongReply => 6,
-            Refusal::UnresolvedSide => 7,
-            Refusal::BadScreenLine => 8,
-            Refusal::NotInEighths => 9,
-        }
+// Its number.
+impl From<Refusal> for u32 {
+    ghost from_gives = { λ refusal n. n ≡ number_of refusal };
+
+    fn from(refusal: Refusal) -> u32 {
+        refusal as u32
     }
 }

@@ -1,7 +1,7 @@
 -- Where the dialogue of one box stands after the replies kept, alone and in the course of a run. Assumes nothing.
+use Rattle.std.specs.Prelude.{Some, Option, None, Float}
 use mathlib.Core.Path.{◌≡◌, refl, sym, ap, ◌∙◌, subst}
 use mathlib.Core.List.{List, [], ◌∷◌, ◌++◌, foldl, foldl-append}
-use mathlib.Core.Option.{Option, none, some}
 use Rattle.geometry.specs.declared.Rect.{Rect}
 use Rattle.style.specs.declared.Style.{Style}
 use Rattle.tree.specs.declared.layout.OofCandidate.{OofCandidate}
@@ -36,8 +36,8 @@ hearing_during w k h {q} (asks next) = go (reply_to q (heard_by h))
   where
     go : (r : Option (ReplyTo q))
         → run.or_stay r (λ x. during w (next x) k) (Course.asks w q (λ x. during w (next x) k)) ≡ during w (or_stay r next (ask q next)) k
-    go none = refl
-    go (some r) = refl
+    go None = refl
+    go (Some r) = refl
 
 -- what the host sees tells where a dialogue stands
 abbrev Shows : Talk Placed → Seen → Type 0
@@ -73,7 +73,7 @@ module _ (container : ContainingBlock) (style : Style) (candidate : OofCandidate
   more : {A B : Type 0} (f : A → B → A) {x y : A} (z : A) (bs : List B) (b : B) → foldl f z bs ≡ x → f x b ≡ y → foldl f z (bs ++ (b ∷ [])) ≡ y
   more f z bs b d e = foldl-append f z bs (b ∷ []) ∙ ap (λ x. f x b) d ∙ e
 
-  code_more : {replies : Replies} {t : Talk Placed} {o : Taken} (h : Heard) (a : At replies t)
+  code_more : {replies : Replies} {t : Talk Placed} {o : Option Taken} (h : Heard) (a : At replies t)
       → taken replies (asked_after container style candidate replies).stage h.reply ≡ o
       → foldl (step container style candidate) (begun container style candidate) (a.heard ++ (h ∷ []))
       ≡ on_taken container style candidate (asked_after container style candidate replies).stage replies h.surfaced o
@@ -82,11 +82,11 @@ module _ (container : ContainingBlock) (style : Style) (candidate : OofCandidate
       (ap (on_taken container style candidate (asked_after container style candidate replies).stage replies h.surfaced) e)
 
   pub kept_at : {replies r : Replies} {t : Talk Placed} (h : Heard) → At replies t
-      → taken replies (asked_after container style candidate replies).stage h.reply ≡ Kept r
+      → taken replies (asked_after container style candidate replies).stage h.reply ≡ Some (Kept r)
       → At r (after t h)
   kept_at h a e = record { heard = a.heard ++ (h ∷ []); code = code_more h a e; talk = more after _ a.heard h a.talk refl }
 
-  pub laid_at_lem : {replies : Replies} {t : Talk Placed} {overflow : Rect} (h : Heard) → At replies t
-      → taken replies (asked_after container style candidate replies).stage h.reply ≡ Laid overflow
+  pub laid_at_lem : {replies : Replies} {t : Talk Placed} {overflow : Rect Float} (h : Heard) → At replies t
+      → taken replies (asked_after container style candidate replies).stage h.reply ≡ Some (Laid overflow)
       → after t h ≡ done (record { outcome = layout_after container style candidate replies overflow; surfaced = h.surfaced })
   laid_at_lem h a e = shows_at (a.heard ++ (h ∷ [])) (code_more h a e) (more after _ a.heard h a.talk refl)

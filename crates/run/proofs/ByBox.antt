@@ -1,5 +1,6 @@
 -- At most three questions are asked for each box, and none for a box that isn't begun: while box i is at hand, those asked for it are at
 -- most one more than the replies that are kept of it. Assumes nothing.
+use Rattle.std.specs.Prelude.{Some, is_none, Float}
 use Prim.Native.Nat.{ℕ, ◌+◌, ◌≤◌}
 use native.Mathlib.Omega.{arith}
 use native.Mathlib.Nat.{add-zero, zero-add}
@@ -23,7 +24,7 @@ use Rattle.run.specs.declared.Opened.{Opened}
 use Rattle.run.specs.declared.State.{State}
 use Rattle.run.specs.declared.Step.{Step}
 use Rattle.run.specs.Call.{Lent}
-use Rattle.run.specs.Run.{asking, finishing, proceeding, closed, begun, opened, measured_on, laid_out, taken_by, taken_in, is_wrong, refusing, replied}
+use Rattle.run.specs.Run.{asking, finishing, proceeding, closed, begun, opened, measured_on, laid_out, taken_by, taken_in, refusing, replied}
 use Rattle.run.specs.Theorems.{Call, asked_for, asked_for_in, ThreeQuestionsForEachBox}
 use Rattle.run.proofs.Ways.{NextWay, asks, ends, next_way, OpeningWay, begins, opening_way, ReplyWay, measures, lays_out, reply_way}
 use Rattle.run.proofs.Questions.{kept, at_most_two, Forward, OneMore, one_more}
@@ -43,7 +44,7 @@ abbrev ForBoxBy : ℕ → ℕ → Step → Type 0
 ForBoxBy i n t = ForBox i (n + asked_for i t) t.state
 
 -- a question that is asked with room for it
-asking_for : (i n : ℕ) (styles working : List ℕ) (run : Opened) (counts : Counts) (overflow : Rect) (r : Replies)
+asking_for : (i n : ℕ) (styles working : List ℕ) (run : Opened) (counts : Counts) (overflow : Rect Float) (r : Replies)
     → n ≤ 3
     → (counts.begun ≤ i → n ≡ 0)
     → (counts.begun ≡ i + 1 → n ≤ kept r)
@@ -64,7 +65,7 @@ asking_for i n styles working run counts overflow r three none room = go (eqb co
         (record { three = three; none = none; now = (λ h. let k = room h in omega arith, stages_move_forward _ _ _ r) })
 
 -- the next box
-proceeding_for : (i n : ℕ) (styles working : List ℕ) (run : Opened) (counts : Counts) (overflow : Rect) → n ≤ 3 → (counts.begun ≤ i → n ≡ 0)
+proceeding_for : (i n : ℕ) (styles working : List ℕ) (run : Opened) (counts : Counts) (overflow : Rect Float) → n ≤ 3 → (counts.begun ≤ i → n ≡ 0)
     → ForBoxBy i n (proceeding styles working run counts overflow)
 unfolding finishing
 proceeding_for i n styles working run counts overflow three none = go (next_way styles working run counts overflow)
@@ -96,10 +97,10 @@ pub opening_for : (i : ℕ) (o : Opening) (candidates : List ℕ) (lent : Lent) 
 opening_for i o candidates lent = rw zero-add at (first_for i o candidates lent)
 
 -- a reply that is kept leaves room for one question more
-one_kept : (i n begun : ℕ) (r : Replies) (p : Progress) (given : Reply) {after : Replies} → Open i n begun r p → taken_in p r given ≡ Kept after
+one_kept : (i n begun : ℕ) (r : Replies) (p : Progress) (given : Reply) {after : Replies} → Open i n begun r p → taken_in p r given ≡ Some (Kept after)
     → begun ≡ i + 1
     → n ≤ kept after
-one_kept i n begun r Finished given b e h = no {b = true} refl (ap is_wrong e)
+one_kept i n begun r Finished given b e h = no {b = true} refl (ap is_none e)
 one_kept i n begun r (Asking stage) given b e h =
     let k = subst (OneMore r) e (one_more r stage given b.1) in
     let m = b.0 h in

@@ -1,4 +1,5 @@
 -- Each test of a verdict decides document 01's condition. Assumes nothing.
+use Rattle.std.specs.Prelude.{is_none}
 use Prim.Native.Nat.{ℕ, ◌+◌, ◌*◌, ◌-◌, ◌/◌, ◌%◌, ◌<◌, ◌≤◌}
 use native.Mathlib.Omega.{arith}
 use native.Mathlib.Nat.{add-zero, add_assoc}
@@ -17,8 +18,8 @@ use Rattle.tree_record.specs.Candidate.{candidate_width, layer_word, layer_count
 use Rattle.tree_record.proofs.Good.{good_axis, good_record}
 use Rattle.style_record.specs.Record.{Kind, tag, number, up_to, ratio, keyword, safety, contain, kind_of, item, items}
 use Rattle.style_record.specs.Check.{safety_breaks, breaks_as, breaks_rule, breaks, checked}
-use Rattle.style_record.specs.declared.check.TableCheck.{TableCheck}
-use Rattle.style_record.specs.declared.check.TableCheck.TheVariants.{Good, Bad}
+use Rattle.style_record.specs.declared.check.BadWord.{BadWord}
+use Rattle.std.specs.Prelude.{Result, Ok, Err, is_err, ⊤}
 use Rattle.style_record.proofs.Laws.{good_is_none, bad_is_first}
 use Rattle.style.specs.Values.{is_self_relative}
 use Rattle.style.specs.declared.alignment.AlignItemsKeyword.{AlignItemsKeyword}
@@ -40,8 +41,8 @@ use Rattle.run.specs.declared.Progress.TheVariants.{Finished, Asking}
 use Rattle.run.specs.declared.Counts.{Counts}
 use Rattle.run.specs.declared.Extents.{Extents}
 use Rattle.run.specs.Call.{Lent}
-use Rattle.run.specs.Refusals.{bad_area, ragged, bad_table, bad_list, bad_slices, other_lengths, is_bad, bad_style, bad_candidate, list_full, wrong_counts}
-use Rattle.run.specs.Run.{extents_of, taken_in, is_wrong}
+use Rattle.run.specs.Refusals.{bad_area, ragged, bad_table, bad_list, bad_slices, other_lengths, bad_style, bad_candidate, list_full, wrong_counts}
+use Rattle.run.specs.Run.{extents_of, taken_in}
 use Rattle.run.specs.Conditions.{AreaIsBad, item_words, GoodTable, Whole, GoodList, SlicesAreBad, Among, Allowed, WordIsAllowed, StyleIsBad, places, word, AxisIsBad, RecordIsBad, CandidateIsBad, QuestionKind, both, width, height, lay_out, kind_of_reply, kind_at, NotAsked, CountsAreWrong, SideIsUnresolved}
 use Rattle.run.proofs.Ways.{neither}
 use Rattle.run.proofs.Decides.{Decides, by_iff, either, regroup, opposite, refutes, both_fail, guard, last, below, at_most, equal, not_every}
@@ -175,13 +176,13 @@ pub style_decided : (styles : List ℕ) → Decides (bad_style styles) (StyleIsB
 unfolding bad_style
 style_decided styles = record { holds = λ t. there (checked styles) refl t; fails = λ f. back (checked styles) refl f }
   where
-    there : (c : TableCheck) → checked styles ≡ c → is_bad c ≡ true → StyleIsBad styles
-    there Good e t = no {b = false} t refl
-    there (Bad i k) e t = let f = (bad_is_first styles i k).0 e in (i, k, f.item_there, f.word_there, (word_decided styles i k).holds f.breaks_it)
+    there : (c : Result ⊤ BadWord) → checked styles ≡ c → is_err c ≡ true → StyleIsBad styles
+    there (Ok _) e t = no {b = false} t refl
+    there (Err first) e t = let f = (bad_is_first styles first.item first.word).0 e in (first.item, first.word, f.item_there, f.word_there, (word_decided styles first.item first.word).holds f.breaks_it)
 
-    back : (c : TableCheck) → checked styles ≡ c → is_bad c ≡ false → ¬ StyleIsBad styles
-    back Good e f s = (word_decided styles s.0 s.1).fails ((good_is_none styles).0 e s.0 s.2 s.1 s.3) s.4
-    back (Bad i k) e f s = no {b = true} refl f
+    back : (c : Result ⊤ BadWord) → checked styles ≡ c → is_err c ≡ false → ¬ StyleIsBad styles
+    back (Ok _) e f s = (word_decided styles s.0 s.1).fails ((good_is_none styles).0 e s.0 s.2 s.1 s.3) s.4
+    back (Err first) e f s = no {b = true} refl f
 
 -- ---- 4
 
@@ -259,30 +260,16 @@ kinds_differ a b e = sym (back a) ∙ ap (λ n. get_or by_code n both) e ∙ bac
     back lay_out = refl
 
 other_kind : (replies : Replies) (at : Stage) (given : Reply)
-    → is_wrong (taken replies at given) ≡ not (eqb (code_of (kind_of_reply given)) (code_of (kind_at at)))
+    → is_none (taken replies at given) ≡ not (eqb (code_of (kind_of_reply given)) (code_of (kind_at at)))
 unfolding taken
 other_kind replies stage.KeywordBoth (reply.Both s) = refl
-other_kind replies stage.KeywordWidth (reply.Both s) = refl
-other_kind replies stage.KeywordHeight (reply.Both s) = refl
-other_kind replies stage.Fill (reply.Both s) = refl
-other_kind replies stage.LayOut (reply.Both s) = refl
-other_kind replies stage.KeywordBoth (reply.Width w) = refl
 other_kind replies stage.KeywordWidth (reply.Width w) = refl
-other_kind replies stage.KeywordHeight (reply.Width w) = refl
-other_kind replies stage.Fill (reply.Width w) = refl
-other_kind replies stage.LayOut (reply.Width w) = refl
-other_kind replies stage.KeywordBoth (reply.Height h) = refl
-other_kind replies stage.KeywordWidth (reply.Height h) = refl
 other_kind replies stage.KeywordHeight (reply.Height h) = refl
-other_kind replies stage.Fill (reply.Height h) = refl
-other_kind replies stage.LayOut (reply.Height h) = refl
-other_kind replies stage.KeywordBoth (reply.LaidOut overflow) = refl
-other_kind replies stage.KeywordWidth (reply.LaidOut overflow) = refl
-other_kind replies stage.KeywordHeight (reply.LaidOut overflow) = refl
-other_kind replies stage.Fill (reply.LaidOut overflow) = refl
-other_kind replies stage.LayOut (reply.LaidOut overflow) = refl
+other_kind replies stage.Fill (reply.Both s) = refl
+other_kind replies stage.LayOut (reply.LaidOut o) = refl
+other_kind replies _ _ = refl
 
-kind_decided : (replies : Replies) (at : Stage) (given : Reply) → Decides (is_wrong (taken replies at given)) (kind_of_reply given ≢ kind_at at)
+kind_decided : (replies : Replies) (at : Stage) (given : Reply) → Decides (is_none (taken replies at given)) (kind_of_reply given ≢ kind_at at)
 kind_decided replies at given =
     rw (other_kind replies at given)
     (opposite (by_iff (equal (code_of (kind_of_reply given)) (code_of (kind_at at))) (kinds_differ (kind_of_reply given) (kind_at at), ap code_of)))
@@ -295,7 +282,7 @@ abbrev stage_in : Progress → Stage
 stage_in Finished = stage.LayOut
 stage_in (Asking at) = at
 
-pub asked_decided : (p : Progress) (replies : Replies) (given : Reply) → Decides (is_wrong (taken_in p replies given)) (NotAsked p given)
+pub asked_decided : (p : Progress) (replies : Replies) (given : Reply) → Decides (is_none (taken_in p replies given)) (NotAsked p given)
 asked_decided Finished replies given = record { holds = λ t. inl refl; fails = λ f. no {b = true} refl f }
 asked_decided (Asking at) replies given = by_iff (kind_decided replies at given) (λ n. inr (at, refl, n), back)
   where

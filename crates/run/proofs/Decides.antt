@@ -7,6 +7,7 @@ use mathlib.Core.Bool.{Bool, true, false, cond, not, ◌||◌, ◌&&◌}
 use mathlib.Core.List.{List, [], ◌∷◌}
 use lib.Dec.{ltb, leb, eqb}
 use borrow.Author.Tests.{ltb-true, ltb-false, leb-true, leb-false, eqb-true, eqb-false}
+use Rattle.std.specs.Prelude.{Ok, Err}
 use Rattle.util.proofs.Floats.{no}
 use Rattle.records.specs.Records.{every}
 use Rattle.refusal.specs.declared.Refusal.{Refusal}
@@ -108,8 +109,8 @@ Tests = List (ℕ × Type 0)
 
 -- what a verdict says of them
 abbrev Told : Verdict → Tests → Type 0
-Told accepted tests = NoneHolds tests
-Told (refused r) tests = FirstIs tests (number_of r)
+Told (Ok tt) tests = NoneHolds tests
+Told (Err r) tests = FirstIs tests (number_of r)
 
 pub record Says (v : Verdict) (tests : Tests) : Type 0 where
   told : Told v tests
@@ -125,8 +126,8 @@ then {b = true} r d later = record { told = inl (d.holds refl, refl) }
 then {b = false} {P} r {rest} {tests} d later = record { told = go rest (later refl).told }
   where
     go : (v : Verdict) → Told v tests → Told v ((number_of r, P) ∷ tests)
-    go accepted s = (d.fails refl, s)
-    go (refused q) s = inr (d.fails refl, s)
+    go (Ok tt) s = (d.fails refl, s)
+    go (Err q) s = inr (d.fails refl, s)
 
 -- one number at most is the first, and none if none holds
 one_first : (tests : Tests) (m n : ℕ) → FirstIs tests m → FirstIs tests n → m ≡ n
@@ -142,19 +143,19 @@ not_both (t ∷ tests) m a (inl b) = a.0 b.0
 not_both (t ∷ tests) m a (inr b) = not_both tests m a.1 b.1
 
 abbrev pub is_accepted : Verdict → Bool
-is_accepted accepted = true
-is_accepted (refused r) = false
+is_accepted (Ok tt) = true
+is_accepted (Err r) = false
 
 abbrev pub refusal_by : Verdict → Refusal
-refusal_by accepted = WrongReply
-refusal_by (refused r) = r
+refusal_by (Ok tt) = WrongReply
+refusal_by (Err r) = r
 
 pub refused_first : {v : Verdict} {tests : Tests} (r : Refusal) → Says v tests → (v ≡ refused r) ↔ FirstIs tests (number_of r)
 refused_first {v} {tests} r s = go v s.told
   where
     go : (v : Verdict) → Told v tests → (v ≡ refused r) ↔ FirstIs tests (number_of r)
-    go accepted s = (λ e. no {b = true} refl (ap is_accepted e), λ f. absurd (not_both tests (number_of r) s f))
-    go (refused q) s = (
+    go (Ok tt) s = (λ e. no {b = true} refl (ap is_accepted e), λ f. absurd (not_both tests (number_of r) s f))
+    go (Err q) s = (
       λ e. subst (λ (r : Refusal). FirstIs tests (number_of r)) (ap refusal_by e) s,
       λ f. ap refused (numbers_differ q r (one_first tests (number_of q) (number_of r) s f)),
     )
@@ -163,5 +164,5 @@ pub accepted_none : {v : Verdict} {tests : Tests} → Says v tests → (v ≡ ac
 accepted_none {v} {tests} s = go v s.told
   where
     go : (v : Verdict) → Told v tests → (v ≡ accepted) ↔ NoneHolds tests
-    go accepted s = (λ e. s, λ n. refl)
-    go (refused q) s = (λ e. no {b = false} (ap is_accepted e) refl, λ n. absurd (not_both tests (number_of q) n s))
+    go (Ok tt) s = (λ e. s, λ n. refl)
+    go (Err q) s = (λ e. no {b = false} (ap is_accepted e) refl, λ n. absurd (not_both tests (number_of q) n s))

@@ -1,19 +1,19 @@
 -- What holds of each of the five questions of a box holds of the one that is asked. Assumes nothing.
+use Rattle.std.specs.Prelude.{Option, Some, is_some, unwrap_or, Float}
 use mathlib.Core.Path.{◌≡◌, refl}
 use mathlib.Core.Bool.{Bool, true, false, cond, ◌||◌}
 use Prim.Native.Nat.{ℕ}
 use Rattle.geometry.specs.Geometry.{both_present}
-use Rattle.geometry.specs.declared.MaybeSize.{MaybeSize}
 use Rattle.geometry.specs.declared.Size.{Size}
+use Rattle.style.specs.declared.available_space.AvailableSpace.{AvailableSpace}
 use Rattle.style.specs.declared.Style.{Style}
-use Rattle.style.specs.declared.available_space.AvailableSize.{AvailableSize}
 use Rattle.tree.specs.declared.layout.OofCandidate.{OofCandidate}
 use Rattle.oof_common.specs.declared.sizing_keyword.SizingKeywordResolution.{SizingKeywordResolution}
-use Rattle.oof_common.specs.declared.sizing_keyword.SizingKeywordResolution.TheVariants.{NoKeyword, Exact, Measure}
+use Rattle.oof_common.specs.declared.sizing_keyword.SizingKeywordResolution.TheVariants.{Measure}
 use Rattle.oof_resolve.specs.Resolved.{resolved_box}
 use Rattle.oof_resolve.specs.declared.ContainingBlock.{ContainingBlock}
 use Rattle.oof_box.specs.Box.{keyword_stretch, size_keywords}
-use Rattle.oof_box.specs.Cut.{fill_given, is_first, stretched_by, size_by, lay_out_asked, keyword_asked, size_asked, or_later, asked_of, asked_after}
+use Rattle.oof_box.specs.Cut.{is_first, stretched_by, size_by, lay_out_asked, keyword_asked, size_asked, asked_of, asked_after, sizing}
 use Rattle.oof_box.specs.declared.question.Asked.{Asked}
 use Rattle.oof_box.specs.declared.question.MeasureInput.{MeasureInput}
 use Rattle.oof_box.specs.declared.question.Question.TheVariants.{MeasureBoth, MeasureWidth, MeasureHeight}
@@ -33,31 +33,26 @@ module _ (P : Asked → Type 0) (each : OfMeasures P) where
   chosen true x y h k = h
   chosen false x y h k = k
 
-  after_keywords_lem : (node : ℕ) (across down : SizingKeywordResolution) (known : MaybeSize) (stretch : Size) (later : Asked) → P later
-      → P (or_later (keyword_asked node across down known stretch) later)
+  after_keywords_lem : (node : ℕ) (across down : Option SizingKeywordResolution) (known : Size (Option Float)) (stretch : Size Float) (later : Asked) → P later
+      → P (unwrap_or (keyword_asked node across down known stretch) later)
   unfolding keyword_asked
-  after_keywords_lem node NoKeyword NoKeyword known stretch later h = h
-  after_keywords_lem node NoKeyword (Exact y) known stretch later h = h
-  after_keywords_lem node NoKeyword (Measure down) known stretch later h = each.height _
-  after_keywords_lem node (Exact w) NoKeyword known stretch later h = h
-  after_keywords_lem node (Exact w) (Exact y) known stretch later h = h
-  after_keywords_lem node (Exact w) (Measure down) known stretch later h = each.height _
-  after_keywords_lem node (Measure across) NoKeyword known stretch later h = each.width _
-  after_keywords_lem node (Measure across) (Exact y) known stretch later h = each.width _
-  after_keywords_lem node (Measure across) (Measure down) known stretch later h = each.both _
+  after_keywords_lem node (Some (Measure across)) (Some (Measure down)) known stretch later h = each.both _
+  after_keywords_lem node (Some (Measure across)) _ known stretch later h = each.width _
+  after_keywords_lem node _ (Some (Measure down)) known stretch later h = each.height _
+  after_keywords_lem node _ _ known stretch later h = h
 
   -- lay out tells the node of its box and the size that the replies kept come to
   pub of_asked : (container : ContainingBlock) (style : Style) (candidate : OofCandidate) (replies : Replies)
       → let box = resolved_box container style candidate in
-      ((space : AvailableSize) → P (lay_out_asked candidate.node (size_by style box (size_keywords style box) replies) space))
+      ((space : Size AvailableSpace) → P (lay_out_asked candidate.node (size_by (sizing style box (size_keywords style box) replies)) space))
       → P (asked_after container style candidate replies)
   unfolding asked_after asked_of size_asked size_by
   of_asked container style candidate replies lays =
       let box = resolved_box container style candidate in
       let keywords = size_keywords style box in
-      let later = size_asked candidate.node style box keywords replies in
-      let h : P later = chosen (fill_given replies.fill || both_present (stretched_by style box keywords replies).known) _ _ (lays box.space) (each.fill _) in
-      chosen (is_first replies.keyword replies.fill) _ later
+      let later = size_asked candidate.node (sizing style box keywords replies) in
+      let h : P later = chosen (is_some replies.fill || both_present (stretched_by (sizing style box keywords replies)).known) _ _ (lays box.space) (each.fill _) in
+      chosen (is_first replies) _ later
       (after_keywords_lem candidate.node keywords.width keywords.height box.size (keyword_stretch box) later h)
       h
 

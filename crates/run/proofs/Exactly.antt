@@ -1,4 +1,5 @@
 -- A call is refused exactly under the first of document 01's conditions that holds, and accepted exactly where none does. Assumes nothing.
+use Rattle.std.specs.Prelude.{Option, None, Some, is_none, Err, Ok, Result}
 use Prim.Native.Nat.{ℕ, ◌<◌, ◌≤◌}
 use native.Mathlib.Omega.{arith}
 use mathlib.Core.Logic.Iff
@@ -6,18 +7,16 @@ use mathlib.Core.Logic.{inl, inr, ◌↔◌}
 use mathlib.Core.Path.{◌≡◌, refl, ap}
 use mathlib.Core.Bool.{Bool, true, false, cond, ◌||◌}
 use mathlib.Core.List.{List}
+use Rattle.std.specs.Prelude.{Ok, Err}
 use Rattle.util.proofs.Floats.{no}
 use Rattle.style.specs.Values.{is_self_relative}
 use Rattle.tree.specs.Static.{from_alignment}
 use Rattle.tree.specs.declared.layout.AxisStaticPosition.{AxisStaticPosition}
-use Rattle.tree.specs.declared.layout.Aligned.{Aligned}
-use Rattle.tree.specs.declared.layout.Aligned.TheVariants as aligned
-use Rattle.tree.specs.declared.layout.Aligned.TheVariants.{At}
 use Rattle.refusal.specs.declared.Refusal.{Refusal}
 use Rattle.refusal.specs.declared.Refusal.TheVariants.{BadArea, BadExtent, BadStyle, BadCandidate, ListFull, WrongReply, UnresolvedSide}
 use Rattle.oof_box.specs.declared.question.Reply.{Reply}
 use Rattle.oof_box.specs.declared.question.Taken.{Taken}
-use Rattle.oof_box.specs.declared.question.Taken.TheVariants.{Wrong, Kept, Laid}
+use Rattle.oof_box.specs.declared.question.Taken.TheVariants.{Kept, Laid}
 use Rattle.run.specs.declared.Opening.{Opening}
 use Rattle.run.specs.declared.Counts.{Counts}
 use Rattle.run.specs.declared.State.{State}
@@ -25,7 +24,7 @@ use Rattle.run.specs.declared.Answer.{Answer}
 use Rattle.run.specs.declared.Answer.TheVariants.{Ask, Finish, Refused}
 use Rattle.run.specs.Call.{Lent}
 use Rattle.run.specs.Refusals.{Verdict, accepted, refused, ◌when◌else◌, wrong_counts, lent_by}
-use Rattle.run.specs.Run.{claims_of, none_filled, opened, opened_by, opening_verdict, taken_by, is_wrong, replied, replied_by, reply_verdict}
+use Rattle.run.specs.Run.{claims_of, none_filled, opened, opened_by, opening_verdict, taken_by, replied, replied_by, reply_verdict}
 use Rattle.run.specs.Conditions.{places, opening_tests, reply_tests}
 use Rattle.run.specs.Theorems.{is_refused, OpeningRefusedExactly, OpeningAcceptedExactly, ReplyRefusedExactly, ReplyAcceptedExactly, OtherLengthsRefused, UnresolvedExactly}
 use Rattle.run.proofs.Ways.{passed, neither}
@@ -60,7 +59,7 @@ reply_says s given slice lent =
     then BadExtent (regroup (either (either (slices_decided lent) (lengths_decided s.opened.extents lent)) (whole_decided surfaced)))
     (λ _. then WrongReply (either (asked_decided s.progress s.replies given) (counts_decided lent s.counts))
     (λ f. then BadStyle (style_decided lent.styles)
-    (λ _. then BadCandidate (either (candidate_decided lent.styles lent.working s.counts.filled.working (filled_there lent s.counts (is_wrong (taken_by s given)) f)) (candidate_decided lent.styles surfaced (places surfaced) (omega arith)))
+    (λ _. then BadCandidate (either (candidate_decided lent.styles lent.working s.counts.filled.working (filled_there lent s.counts (is_none (taken_by s given)) f)) (candidate_decided lent.styles surfaced (places surfaced) (omega arith)))
     (λ _. then ListFull (full_decided s.opened.claims lent s.counts.filled surfaced)
     (λ _. no_more)))))
 
@@ -95,25 +94,25 @@ unfolding opened
 opening_goes o candidates lent = go (opening_verdict o candidates lent)
   where
     go : (v : Verdict) → GoesBy (opened_by v o candidates lent).step.answer v
-    go accepted = goes_accepted _ (begun_accepts o candidates lent)
-    go (refused q) = goes_refused q
+    go (Ok tt) = goes_accepted _ (begun_accepts o candidates lent)
+    go (Err q) = goes_refused q
 
 -- what is accepted is not of another kind than the question
 accepted_not_wrong : (s : State) (given : Reply) (surfaced : List ℕ) (lent : Lent) → reply_verdict s given surfaced lent ≡ accepted
-    → is_wrong (taken_by s given) ≡ false
+    → is_none (taken_by s given) ≡ false
 unfolding reply_verdict
-accepted_not_wrong s given surfaced lent d = (neither (is_wrong (taken_by s given)) _ (passed _ _ _ (passed _ _ _ d).1).0).0
+accepted_not_wrong s given surfaced lent d = (neither (is_none (taken_by s given)) _ (passed _ _ _ (passed _ _ _ d).1).0).0
 
 reply_goes : (s : State) (given : Reply) (surfaced : List ℕ) (lent : Lent)
     → GoesBy (replied s given surfaced lent).step.answer (reply_verdict s given surfaced lent)
 unfolding replied
 reply_goes s given surfaced lent = go (reply_verdict s given surfaced lent) (taken_by s given) refl refl
   where
-    go : (v : Verdict) (t : Taken) → reply_verdict s given surfaced lent ≡ v → taken_by s given ≡ t → GoesBy (replied_by v t s surfaced lent).step.answer v
-    go (refused q) t d e = goes_refused q
-    go accepted Wrong d e = no (ap is_wrong e) (accepted_not_wrong s given surfaced lent d)
-    go accepted (Kept replies) d e = goes_accepted _ (measured_accepts s replies lent)
-    go accepted (Laid overflow) d e = goes_accepted _ (laid_accepts s overflow surfaced lent)
+    go : (v : Verdict) (t : Option Taken) → reply_verdict s given surfaced lent ≡ v → taken_by s given ≡ t → GoesBy (replied_by v t s surfaced lent).step.answer v
+    go (Err q) t d e = goes_refused q
+    go (Ok tt) None d e = no (ap is_none e) (accepted_not_wrong s given surfaced lent d)
+    go (Ok tt) (Some (Kept replies)) d e = goes_accepted _ (measured_accepts s replies lent)
+    go (Ok tt) (Some (Laid overflow)) d e = goes_accepted _ (laid_accepts s overflow surfaced lent)
 
 -- ---- the theorems
 
@@ -135,18 +134,18 @@ other_lengths_refused s given surfaced lent d = (reply_refused_exactly s given s
 
 -- ---- `from_alignment`
 
-abbrev is_at : Aligned → Bool
-is_at (At p) = true
-is_at (aligned.Refused r) = false
+abbrev is_at : Result AxisStaticPosition Refusal → Bool
+is_at (Ok p) = true
+is_at (Err r) = false
 
-abbrev refusal_of : Aligned → Refusal
-refusal_of (At p) = UnresolvedSide
-refusal_of (aligned.Refused r) = r
+abbrev refusal_of : Result AxisStaticPosition Refusal → Refusal
+refusal_of (Ok p) = UnresolvedSide
+refusal_of (Err r) = r
 
 pub unresolved_exactly : UnresolvedExactly
 unfolding from_alignment ◌when◌else◌
 unresolved_exactly a area rtl r = Iff.trans (go (is_self_relative a.keyword) _) (refused_first r (then UnresolvedSide (side_decided a) (λ _. no_more)))
   where
-    go : (b : Bool) (p : AxisStaticPosition) → (cond b (aligned.Refused UnresolvedSide) (At p) ≡ aligned.Refused r) ↔ (UnresolvedSide when b else accepted ≡ refused r)
-    go true p = (λ e. ap refused (ap refusal_of e), λ e. ap aligned.Refused (ap refusal_by e))
+    go : (b : Bool) (p : AxisStaticPosition) → (cond b (Err UnresolvedSide) (Ok p) ≡ Err r) ↔ (UnresolvedSide when b else accepted ≡ refused r)
+    go true p = (λ e. ap refused (ap refusal_of e), λ e. ap Err (ap refusal_by e))
     go false p = (λ e. no {b = true} refl (ap is_at e), λ e. no {b = true} refl (ap is_accepted e))

@@ -1,6 +1,7 @@
 -- At most three questions are asked for each box begun. Between two calls of a run: a finished one has asked at most three questions a
 -- box; one that asks has asked one question more than the replies that it keeps of the box at hand, and at most three for each box
 -- before. Assumes nothing.
+use Rattle.std.specs.Prelude.{Option, None, Some, is_none, is_some, Float}
 use Prim.Native.Nat.{ℕ, ◌+◌, ◌*◌, ◌≤◌}
 use native.Mathlib.Omega.{arith}
 use native.Mathlib.Nat.{add-zero, zero-add}
@@ -9,8 +10,8 @@ use mathlib.Core.Bool.{Bool, true, false}
 use mathlib.Core.List.{List, [], ◌∷◌, foldl}
 use Rattle.util.proofs.Floats.{no}
 use Rattle.geometry.specs.declared.Rect.{Rect}
-use Rattle.oof_box.specs.Cut.{no_replies, taken, fill_given}
-use Rattle.oof_box.specs.Theorems.{is_keyword_stage, keyword_given}
+use Rattle.oof_box.specs.Cut.{no_replies, taken}
+use Rattle.oof_box.specs.Theorems.{is_keyword_stage}
 use Rattle.oof_box.proofs.Talks.{stages_move_forward}
 use Rattle.oof_box.specs.declared.question.Reply.{Reply}
 use Rattle.oof_box.specs.declared.question.Reply.TheVariants as reply
@@ -18,7 +19,7 @@ use Rattle.oof_box.specs.declared.question.Replies.{Replies}
 use Rattle.oof_box.specs.declared.question.Stage.{Stage}
 use Rattle.oof_box.specs.declared.question.Stage.TheVariants.{KeywordBoth, KeywordWidth, KeywordHeight, Fill, LayOut}
 use Rattle.oof_box.specs.declared.question.Taken.{Taken}
-use Rattle.oof_box.specs.declared.question.Taken.TheVariants.{Wrong, Kept, Laid}
+use Rattle.oof_box.specs.declared.question.Taken.TheVariants.{Kept, Laid}
 use Rattle.run.specs.declared.Opening.{Opening}
 use Rattle.run.specs.declared.Progress.{Progress}
 use Rattle.run.specs.declared.Progress.TheVariants.{Finished, Asking}
@@ -27,7 +28,7 @@ use Rattle.run.specs.declared.Opened.{Opened}
 use Rattle.run.specs.declared.State.{State}
 use Rattle.run.specs.declared.Step.{Step}
 use Rattle.run.specs.Call.{Lent}
-use Rattle.run.specs.Run.{asking, finishing, proceeding, closed, begun, opened, measured_on, laid_out, taken_by, taken_in, is_wrong, replied}
+use Rattle.run.specs.Run.{asking, finishing, proceeding, closed, begun, opened, measured_on, laid_out, taken_by, taken_in, replied}
 use Rattle.run.specs.Theorems.{Call, Asked, one_if_asked, asked_at_opening, asked_with, ThreeQuestionsABox, BegunAreHoisted}
 use Rattle.run.proofs.Ways.{NextWay, asks, ends, next_way, OpeningWay, begins, opening_way, ReplyWay, measures, lays_out, reply_way}
 
@@ -38,10 +39,10 @@ one true = 1
 one false = 0
 
 abbrev pub kept : Replies → ℕ
-kept r = one (keyword_given r.keyword) + one (fill_given r.fill)
+kept r = one (is_some r.keyword) + one (is_some r.fill)
 
 pub at_most_two : (r : Replies) → kept r ≤ 2
-at_most_two r = go (keyword_given r.keyword) (fill_given r.fill)
+at_most_two r = go (is_some r.keyword) (is_some r.fill)
   where
     go : (a b : Bool) → one a + one b ≤ 2
     go true true = omega arith
@@ -51,7 +52,7 @@ at_most_two r = go (keyword_given r.keyword) (fill_given r.fill)
 
 -- the open question is behind no kept reply
 abbrev pub Forward : Stage → Replies → Type 0
-Forward stage r = (keyword_given r.keyword ≡ true → is_keyword_stage stage ≡ false) × (fill_given r.fill ≡ true → stage ≡ LayOut)
+Forward stage r = (is_some r.keyword ≡ true → is_keyword_stage stage ≡ false) × (is_some r.fill ≡ true → stage ≡ LayOut)
 
 is_lay_out : Stage → Bool
 is_lay_out KeywordBoth = false
@@ -61,60 +62,46 @@ is_lay_out Fill = false
 is_lay_out LayOut = true
 
 -- what a question asks for is not kept yet
-not_given : (stage : Stage) (r : Replies) → Forward stage r → is_keyword_stage stage ≡ true → keyword_given r.keyword ≡ false
-not_given stage r f k = go (keyword_given r.keyword) refl
+not_given : (stage : Stage) (r : Replies) → Forward stage r → is_keyword_stage stage ≡ true → is_some r.keyword ≡ false
+not_given stage r f k = go (is_some r.keyword) refl
   where
-    go : (b : Bool) → keyword_given r.keyword ≡ b → b ≡ false
+    go : (b : Bool) → is_some r.keyword ≡ b → b ≡ false
     go true e = no k (f.0 e)
     go false e = refl
 
-not_filled : (stage : Stage) (r : Replies) → Forward stage r → is_lay_out stage ≡ false → fill_given r.fill ≡ false
+not_filled : (stage : Stage) (r : Replies) → Forward stage r → is_lay_out stage ≡ false → is_some r.fill ≡ false
 unfolding is_lay_out
-not_filled stage r f k = go (fill_given r.fill) refl
+not_filled stage r f k = go (is_some r.fill) refl
   where
-    go : (b : Bool) → fill_given r.fill ≡ b → b ≡ false
+    go : (b : Bool) → is_some r.fill ≡ b → b ≡ false
     go true e = no (ap is_lay_out (f.1 e)) k
     go false e = refl
 
 -- so each reply that is kept is one more
-abbrev pub OneMore : Replies → Taken → Type 0
-OneMore r Wrong = Unit {0}
-OneMore r (Kept after) = kept after ≡ kept r + 1
-OneMore r (Laid overflow) = Unit {0}
+abbrev pub OneMore : Replies → Option Taken → Type 0
+OneMore r None = Unit {0}
+OneMore r (Some (Kept after)) = kept after ≡ kept r + 1
+OneMore r (Some (Laid overflow)) = Unit {0}
 
 pub one_more : (r : Replies) (stage : Stage) (given : Reply) → Forward stage r → OneMore r (taken r stage given)
 unfolding taken is_lay_out
 one_more r stage given f = go stage given (not_given stage r f) (not_filled stage r f)
   where
-    keyword : keyword_given r.keyword ≡ false → 1 + one (fill_given r.fill) ≡ kept r + 1
+    keyword : is_some r.keyword ≡ false → 1 + one (is_some r.fill) ≡ kept r + 1
     keyword e = rw e (omega arith)
 
-    filled : fill_given r.fill ≡ false → one (keyword_given r.keyword) + 1 ≡ kept r + 1
+    filled : is_some r.fill ≡ false → one (is_some r.keyword) + 1 ≡ kept r + 1
     filled e = rw e (omega arith)
 
-    go : (stage : Stage) (given : Reply) → (is_keyword_stage stage ≡ true → keyword_given r.keyword ≡ false)
-        → (is_lay_out stage ≡ false → fill_given r.fill ≡ false)
+    go : (stage : Stage) (given : Reply) → (is_keyword_stage stage ≡ true → is_some r.keyword ≡ false)
+        → (is_lay_out stage ≡ false → is_some r.fill ≡ false)
         → OneMore r (taken r stage given)
     go KeywordBoth (reply.Both s) g h = keyword (g refl)
-    go KeywordBoth (reply.Width w) g h = tt
-    go KeywordBoth (reply.Height y) g h = tt
-    go KeywordBoth (reply.LaidOut o) g h = tt
-    go KeywordWidth (reply.Both s) g h = tt
     go KeywordWidth (reply.Width w) g h = keyword (g refl)
-    go KeywordWidth (reply.Height y) g h = tt
-    go KeywordWidth (reply.LaidOut o) g h = tt
-    go KeywordHeight (reply.Both s) g h = tt
-    go KeywordHeight (reply.Width w) g h = tt
     go KeywordHeight (reply.Height y) g h = keyword (g refl)
-    go KeywordHeight (reply.LaidOut o) g h = tt
     go Fill (reply.Both s) g h = filled (h refl)
-    go Fill (reply.Width w) g h = tt
-    go Fill (reply.Height y) g h = tt
-    go Fill (reply.LaidOut o) g h = tt
-    go LayOut (reply.Both s) g h = tt
-    go LayOut (reply.Width w) g h = tt
-    go LayOut (reply.Height y) g h = tt
     go LayOut (reply.LaidOut o) g h = tt
+    go _ _ g h = tt
 
 -- ---- between two calls
 
@@ -139,21 +126,21 @@ BoundedBy questions t = Bounded (questions + one_if_asked t.answer) t.state
 
 -- a reply that is kept leaves room for one question more
 one_kept : (questions begun : ℕ) (r : Replies) (p : Progress) (given : Reply) {after : Replies} → Within questions begun r p
-    → taken_in p r given ≡ Kept after
+    → taken_in p r given ≡ Some (Kept after)
     → questions + 3 ≤ 3 * begun + kept after
-one_kept questions begun r Finished given b e = no {b = true} refl (ap is_wrong e)
+one_kept questions begun r Finished given b e = no {b = true} refl (ap is_none e)
 one_kept questions begun r (Asking stage) given b e =
     let n = b.0 in
     let k = subst (OneMore r) e (one_more r stage given b.1) in
     omega arith
 
-asking_bounded : (styles working : List ℕ) (run : Opened) (counts : Counts) (overflow : Rect) (r : Replies) (questions : ℕ)
+asking_bounded : (styles working : List ℕ) (run : Opened) (counts : Counts) (overflow : Rect Float) (r : Replies) (questions : ℕ)
     → questions + 3 ≤ 3 * counts.begun + kept r
     → BoundedBy questions (asking styles working run counts overflow r)
 unfolding asking
 asking_bounded styles working run counts overflow r questions h = (omega arith, stages_move_forward _ _ _ r)
 
-proceeding_bounded : (styles working : List ℕ) (run : Opened) (counts : Counts) (overflow : Rect) (questions : ℕ)
+proceeding_bounded : (styles working : List ℕ) (run : Opened) (counts : Counts) (overflow : Rect Float) (questions : ℕ)
     → questions ≤ 3 * counts.begun
     → BoundedBy questions (proceeding styles working run counts overflow)
 unfolding finishing
@@ -198,7 +185,7 @@ three_questions_a_box o candidates lent calls =
 abbrev pub Hoisted : State → Type 0
 Hoisted s = s.counts.begun ≤ s.counts.filled.working
 
-proceeding_hoisted : (styles working : List ℕ) (run : Opened) (counts : Counts) (overflow : Rect) → counts.begun ≤ counts.filled.working
+proceeding_hoisted : (styles working : List ℕ) (run : Opened) (counts : Counts) (overflow : Rect Float) → counts.begun ≤ counts.filled.working
     → Hoisted (proceeding styles working run counts overflow).state
 unfolding asking finishing
 proceeding_hoisted styles working run counts overflow h = go (next_way styles working run counts overflow)

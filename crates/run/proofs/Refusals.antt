@@ -1,4 +1,5 @@
 -- A refused call writes nothing and returns the state as it came. Assumes nothing.
+use Rattle.std.specs.Prelude.{Option, is_none, Float}
 use Prim.Native.Nat.{ℕ}
 use mathlib.Core.Path.{◌≡◌, refl, sym, ap, ◌∙◌}
 use mathlib.Core.Bool.{Bool, true, false}
@@ -17,7 +18,7 @@ use Rattle.run.specs.declared.Answer.{Answer}
 use Rattle.run.specs.declared.Answer.TheVariants.{Ask, Finish, Refused}
 use Rattle.run.specs.declared.Step.{Step}
 use Rattle.run.specs.Call.{Lent, Outcome, unwritten}
-use Rattle.run.specs.Run.{asking, finishing, proceeding, closed, begun, opened, taken_in, taken_by, is_wrong, measured_on, laid_out, replied}
+use Rattle.run.specs.Run.{asking, finishing, proceeding, closed, begun, opened, taken_in, taken_by, measured_on, laid_out, replied}
 use Rattle.run.specs.Theorems.{is_refused, Heard, next, Loan, own, other, Turn, next_with, turned, RefusedReplyKeeps, RefusedOpeningKeeps, FinishedRefuses}
 use Rattle.run.proofs.Ways.{NextWay, asks, ends, next_way, OpeningWay, begins, opening_way, ReplyWay, measures, lays_out, reply_way}
 
@@ -26,7 +27,7 @@ refused_in o = is_refused o.step.answer
 
 -- ---- an accepted call answers with a question or a finish
 
-proceeding_accepts : (styles working : List ℕ) (run : Opened) (counts : Counts) (overflow : Rect)
+proceeding_accepts : (styles working : List ℕ) (run : Opened) (counts : Counts) (overflow : Rect Float)
     → is_refused (proceeding styles working run counts overflow).answer ≡ false
 unfolding asking finishing
 proceeding_accepts styles working run counts overflow = go (next_way styles working run counts overflow)
@@ -43,7 +44,7 @@ pub measured_accepts : (s : State) (replies : Replies) (lent : Lent) → refused
 unfolding measured_on asking
 measured_accepts s replies lent = refl
 
-pub laid_accepts : (s : State) (overflow : Rect) (surfaced : List ℕ) (lent : Lent) → refused_in (laid_out s overflow surfaced lent) ≡ false
+pub laid_accepts : (s : State) (overflow : Rect Float) (surfaced : List ℕ) (lent : Lent) → refused_in (laid_out s overflow surfaced lent) ≡ false
 unfolding laid_out
 laid_accepts s overflow surfaced lent = proceeding_accepts _ _ _ _ _
 
@@ -82,8 +83,8 @@ pub finished_refuses : FinishedRefuses
 unfolding taken_by
 finished_refuses s reply surfaced lent f = go (reply_way s reply surfaced lent)
   where
-    wrong : {t : Taken} → taken_by s reply ≡ t → is_wrong t ≡ true
-    wrong e = ap is_wrong (sym e) ∙ ap (λ (p : Progress). is_wrong (taken_in p s.replies reply)) f
+    wrong : {t : Option Taken} → taken_by s reply ≡ t → is_none t ≡ true
+    wrong e = ap is_none (sym e) ∙ ap (λ (p : Progress). is_none (taken_in p s.replies reply)) f
 
     go : ReplyWay s reply surfaced lent → refused_in (replied s reply surfaced lent) ≡ true
     go (ReplyWay.turned_down r e) = ap refused_in e

@@ -1,13 +1,14 @@
 -- With nobody else writing the lent words, the calls are the straight run: each call leaves the words of the world that it has come to, and
 -- its question is the one at which the course stands; a refused one changes neither. Assumes nothing.
+use Rattle.std.specs.Prelude.{Option, Some, Float}
 use Prim.Native.Nat.{ℕ, zero, suc, ◌+◌, ◌-◌, ◌/◌, ◌≤◌}
 use native.Mathlib.Omega.{arith}
 use native.Mathlib.Nat.{zero-add, add-zero}
 use mathlib.Core.Path.{◌≡◌, refl, sym, ap, ◌∙◌, subst, subst₂}
 use mathlib.Core.Bool.{Bool, true, false, cond}
 use mathlib.Core.List.{List, [], ◌∷◌, ◌++◌, map, foldl, append-nil, map-map}
-use mathlib.Core.Option.{some}
 use lib.ListN.{length, length-append}
+use Rattle.std.specs.Prelude.{Some}
 use Rattle.util.proofs.Floats.{no}
 use Rattle.geometry.specs.Geometry.{union_of}
 use Rattle.geometry.specs.declared.Rect.{Rect}
@@ -17,7 +18,6 @@ use Rattle.records.specs.Records.{record_at}
 use Rattle.tree_record.specs.Candidate.{candidate_width, candidate_of}
 use Rattle.style_record.specs.Decode.{style_at}
 use Rattle.sweep.specs.Sweep.{candidates_in, moved, keep, appended}
-use Rattle.sweep.specs.declared.Shift.TheVariants.{By}
 use Rattle.sweep.proofs.Steps.{appended_length}
 use Rattle.oof_box.specs.Talk.{Talk}
 use Rattle.oof_box.specs.Box.{placed, Placed}
@@ -114,11 +114,11 @@ module _ (o : Opening) (lent : Lent) where
   asked_at replies answered f = ap (λ (c : OofCandidate). Ask (question_of c replies)) (box_at answered f)
 
   kind_at_lem : {w : World} {c : OofCandidate} {rest : List OofCandidate} (replies : Replies) (answered : ℕ) → IsFirst w c rest
-      → awaited (asking_at w replies answered).step.state.progress ≡ some (kind_of_question (question_of c replies))
+      → awaited (asking_at w replies answered).step.state.progress ≡ Some (kind_of_question (question_of c replies))
   unfolding asking
   kind_at_lem {c = c} replies answered f =
-      ap (λ (c : OofCandidate). some (kind_at (stage_of c replies))) (box_at answered f)
-      ∙ ap some (sym (stage_tells_kind (container_of o) (style c.node) c replies))
+      ap (λ (c : OofCandidate). Some (kind_at (stage_of c replies))) (box_at answered f)
+      ∙ ap Some (sym (stage_tells_kind (container_of o) (style c.node) c replies))
 
   -- a reply is taken as it takes it
   taken_at : {w : World} {c : OofCandidate} {rest : List OofCandidate} (replies : Replies) (answered : ℕ) (given : Reply) → IsFirst w c rest
@@ -127,7 +127,7 @@ module _ (o : Opening) (lent : Lent) where
   taken_at replies answered given f = ap (λ (c : OofCandidate). taken replies (stage_of c replies) given) (box_at answered f)
 
   -- what it comes to
-  abbrev placed_by : OofCandidate → Replies → Rect → List ℕ → Placed
+  abbrev placed_by : OofCandidate → Replies → Rect Float → List ℕ → Placed
   placed_by c replies overflow surfaced =
       record { outcome = layout_after (container_of o) (style c.node) c replies overflow; surfaced = candidates_in surfaced }
 
@@ -149,7 +149,7 @@ module _ (o : Opening) (lent : Lent) where
   measured_at w replies r answered = refl
 
   -- the box was laid out: the world after it
-  laid_out_at : {w : World} {c : OofCandidate} {rest : List OofCandidate} (replies : Replies) (overflow : Rect) (surfaced : List ℕ) (answered : ℕ)
+  laid_out_at : {w : World} {c : OofCandidate} {rest : List OofCandidate} (replies : Replies) (overflow : Rect Float) (surfaced : List ℕ) (answered : ℕ)
       → IsFirst w c rest
       → laid_out (asking_at w replies answered).step.state overflow surfaced (lent_at w)
       ≡ proceeding_at (after_box (claims_of o) w c rest (placed_by c replies overflow surfaced)) (answered + 1)
@@ -157,7 +157,7 @@ module _ (o : Opening) (lent : Lent) where
   laid_out_at {w} {c} {rest} replies overflow surfaced answered f =
       let p = placed_by c replies overflow surfaced in
       let b : Box = record { candidate = c; layout = p.outcome.layout } in
-      let cs = map (moved (By p.outcome.layout.location)) (candidates_in surfaced) in
+      let cs = map (moved (Some p.outcome.layout.location)) (candidates_in surfaced) in
       let inside = keep (claims_of o) true cs in
       let outside = keep (claims_of o) false cs in
       let claimed = claimed_after (claims_of o) w c rest p f.waiting in
@@ -183,9 +183,9 @@ module _ (o : Opening) (lent : Lent) where
           }
 
   -- what it surfaced has room
-  room_at : (w : World) (replies : Replies) (answered : ℕ) (h : Heard) (stage : Stage) {overflow : Rect}
+  room_at : (w : World) (replies : Replies) (answered : ℕ) (h : Heard) (stage : Stage) {overflow : Rect Float}
       → reply_verdict (asking_at w replies answered).step.state h.reply h.surfaced (lent_at w) ≡ accepted
-      → taken replies stage h.reply ≡ Laid overflow
+      → taken replies stage h.reply ≡ Some (Laid overflow)
       → length (claimed_in w) + length (keep (claims_of o) true (candidates_in h.surfaced)) ≤ length lent.working / candidate_width
   unfolding asking
   room_at w replies answered h stage v k =
@@ -265,7 +265,7 @@ module _ (o : Opening) (lent : Lent) where
   replied_on w c rest most replies t answered h f m a n =
       go (reply_way (asking_at w replies answered).step.state h.reply h.surfaced (lent_at w))
     where
-      takes : {k : Taken} → taken_by (asking_at w replies answered).step.state h.reply ≡ k → taken replies (stage_of c replies) h.reply ≡ k
+      takes : {k : Option Taken} → taken_by (asking_at w replies answered).step.state h.reply ≡ k → taken replies (stage_of c replies) h.reply ≡ k
       takes k = sym (taken_at replies answered h.reply f) ∙ k
 
       front : hearing (during w t (onward most w c rest)) h ≡ during w (after t (heard_by h)) (onward most w c rest)
@@ -375,7 +375,7 @@ module _ (o : Opening) (lent : Lent) where
 
   says_asking : (w : World) (k : Placed → Course) (answered : ℕ) {q : Question} {t : Talk Placed} → Asks q t
       → (so_far (during w t k) ≡ w) × (begun_in (during w t k) ≡ length w.laid + 1) × (said_after answered (during w t k) ≡ Ask q)
-      × (awaited_in (during w t k) ≡ some (kind_of_question q))
+      × (awaited_in (during w t k) ≡ Some (kind_of_question q))
   unfolding during
   says_asking w k answered (Asks.asks reply) = (refl, refl, refl, refl)
 

@@ -1,4 +1,5 @@
 -- The size told in a lay-out question is the size written. Assumes nothing.
+use Rattle.std.specs.Prelude.{Float}
 use Prim.Native.Nat.{ℕ, ◌*◌}
 use mathlib.Core.Path.{◌≡◌, refl, sym, ap, subst, ◌∙◌}
 use mathlib.Core.Bool.{Bool, true, false}
@@ -15,7 +16,7 @@ use Rattle.oof_resolve.specs.Resolved.{resolved_box}
 use Rattle.oof_resolve.specs.declared.ContainingBlock.{ContainingBlock}
 use Rattle.oof_place.specs.Placing.{layout_of, box_layout}
 use Rattle.oof_box.specs.Box.{size_keywords}
-use Rattle.oof_box.specs.Cut.{size_by, asked_after, layout_after}
+use Rattle.oof_box.specs.Cut.{size_by, asked_after, layout_after, sizing}
 use Rattle.oof_box.specs.declared.question.LayoutInput.{LayoutInput}
 use Rattle.oof_box.specs.declared.question.Question.{Question}
 use Rattle.oof_box.specs.declared.question.Question.TheVariants.{MeasureBoth, MeasureWidth, MeasureHeight, LayOut}
@@ -38,20 +39,20 @@ use Rattle.run.proofs.EachQuestion.{of_asked}
 
 -- ---- of a box
 
-abbrev Tells : ℕ → Size → Question → Type 0
+abbrev Tells : ℕ → Size Float → Question → Type 0
 Tells node size (MeasureBoth m) = Unit {0}
 Tells node size (MeasureWidth m) = Unit {0}
 Tells node size (MeasureHeight m) = Unit {0}
 Tells node size (LayOut l) = (node ≡ l.node) × (size ≡ l.size)
 
-pub asked_size : (container : ContainingBlock) (style : Style) (candidate : OofCandidate) (replies : Replies) (overflow : Rect) (input : LayoutInput)
+pub asked_size : (container : ContainingBlock) (style : Style) (candidate : OofCandidate) (replies : Replies) (overflow : Rect Float) (input : LayoutInput)
     → (asked_after container style candidate replies).question ≡ LayOut input
     → (candidate.node ≡ input.node) × ((layout_after container style candidate replies overflow).layout.size ≡ input.size)
 unfolding layout_after box_layout layout_of
 asked_size container style candidate replies overflow input e =
     let box = resolved_box container style candidate in
-    subst (Tells candidate.node (size_by style box (size_keywords style box) replies)) e
-    (of_asked (λ a. Tells candidate.node (size_by style box (size_keywords style box) replies) a.question)
+    subst (Tells candidate.node (size_by (sizing style box (size_keywords style box) replies))) e
+    (of_asked (λ a. Tells candidate.node (size_by (sizing style box (size_keywords style box) replies)) a.question)
     (record { both = λ m. tt; width = λ m. tt; height = λ m. tt; fill = λ m. tt })
     container style candidate replies
     (λ space. (refl, refl)))
@@ -61,7 +62,7 @@ asked_size container style candidate replies overflow input e =
 abbrev open_at : List ℕ → List ℕ → Step → Answer
 open_at styles working step = open_by step.state.progress styles working step.state
 
-proceeding_open : (styles working : List ℕ) (run : Opened) (counts : Counts) (overflow : Rect)
+proceeding_open : (styles working : List ℕ) (run : Opened) (counts : Counts) (overflow : Rect Float)
     → open_at styles working (proceeding styles working run counts overflow) ≡ (proceeding styles working run counts overflow).answer
 unfolding asking finishing
 proceeding_open styles working run counts overflow = go (next_way styles working run counts overflow)
@@ -113,7 +114,7 @@ open_question : (p : Progress) (styles working : List ℕ) (s : State) (q : Ques
 open_question Finished styles working s q e = no {b = false} (ap is_ask e) refl
 open_question (Asking stage) styles working s q e = ap (λ (a : Answer). question_in a q) e
 
-pub lays_out_lem : (styles : List ℕ) (o : Outcome) (input : LayoutInput) (overflow : Rect) (surfaced : List ℕ)
+pub lays_out_lem : (styles : List ℕ) (o : Outcome) (input : LayoutInput) (overflow : Rect Float) (surfaced : List ℕ)
     → open_in styles o ≡ Ask (LayOut input)
     → let last = next styles o (record { reply = LaidOut overflow; surfaced = surfaced }) in
     refused_in last ≡ false

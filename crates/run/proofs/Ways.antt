@@ -1,4 +1,5 @@
 -- What a call comes to, by cases: the one place where the definitions of `specs/Run.antt` are taken apart. Assumes nothing.
+use Rattle.std.specs.Prelude.{Option, None, Some, Float}
 use Prim.Native.Nat.{ℕ, zero, suc, ◌+◌, ◌*◌, ◌/◌, ◌<◌, ◌≤◌}
 use native.Mathlib.Omega.{arith}
 use mathlib.Core.Path.{◌≡◌, refl, ap}
@@ -7,6 +8,7 @@ use mathlib.Core.List.{List}
 use lib.Dec.{eqb, ltb}
 use lib.ListN.{length}
 use borrow.Author.Tests.{ltb-true, ltb-false, eqb-false, leb-true, not-false}
+use Rattle.std.specs.Prelude.{Ok, Err}
 use Rattle.util.proofs.Floats.{no}
 use Rattle.geometry.specs.declared.Rect.{Rect}
 use Rattle.refusal.specs.declared.Refusal.{Refusal}
@@ -23,7 +25,7 @@ use Rattle.oof_box.specs.declared.question.Stage.{Stage}
 use Rattle.oof_box.specs.declared.question.Stage.TheVariants.{KeywordBoth, KeywordWidth, KeywordHeight, Fill, LayOut}
 use Rattle.oof_box.specs.declared.question.Replies.{Replies}
 use Rattle.oof_box.specs.declared.question.Taken.{Taken}
-use Rattle.oof_box.specs.declared.question.Taken.TheVariants.{Wrong, Kept, Laid}
+use Rattle.oof_box.specs.declared.question.Taken.TheVariants.{Kept, Laid}
 use Rattle.run.specs.declared.Opening.{Opening}
 use Rattle.run.specs.declared.Counts.{Counts}
 use Rattle.run.specs.declared.Opened.{Opened}
@@ -32,7 +34,7 @@ use Rattle.run.specs.declared.Progress.TheVariants.{Finished, Asking}
 use Rattle.run.specs.declared.State.{State}
 use Rattle.run.specs.declared.Answer.TheVariants.{Refused}
 use Rattle.run.specs.Call.{Lent, unwritten}
-use Rattle.run.specs.Refusals.{Verdict, accepted, refused, ◌when◌else◌, ragged, bad_table, bad_slices, bad_list, list_full, lent_by, wrong_counts}
+use Rattle.run.specs.Refusals.{Verdict, accepted, ◌when◌else◌, ragged, bad_table, bad_slices, bad_list, list_full, lent_by, wrong_counts}
 use Rattle.run.specs.Run.{asking, finishing, proceeding, closed, begun, opened, claims_of, none_filled, opening_verdict, measured_on, laid_out, refusing, reply_verdict, taken_in, taken_by, replied}
 
 -- ---- the next box, or the finish
@@ -40,7 +42,7 @@ use Rattle.run.specs.Run.{asking, finishing, proceeding, closed, begun, opened, 
 abbrev pub one_more : Counts → Counts
 one_more counts = record { filled = counts.filled; begun = counts.begun + 1; answered = counts.answered }
 
-pub data NextWay (styles working : List ℕ) (run : Opened) (counts : Counts) (overflow : Rect) : Type 0 where
+pub data NextWay (styles working : List ℕ) (run : Opened) (counts : Counts) (overflow : Rect Float) : Type 0 where
   asks :
       counts.begun < counts.filled.working
       → proceeding styles working run counts overflow ≡ asking styles working run (one_more counts) overflow no_replies
@@ -50,7 +52,7 @@ pub data NextWay (styles working : List ℕ) (run : Opened) (counts : Counts) (o
       → proceeding styles working run counts overflow ≡ finishing run counts overflow
       → NextWay styles working run counts overflow
 
-pub next_way : (styles working : List ℕ) (run : Opened) (counts : Counts) (overflow : Rect) → NextWay styles working run counts overflow
+pub next_way : (styles working : List ℕ) (run : Opened) (counts : Counts) (overflow : Rect Float) → NextWay styles working run counts overflow
 unfolding proceeding
 next_way styles working run counts overflow = go (ltb counts.begun counts.filled.working) refl
   where
@@ -69,19 +71,19 @@ unfolding opened
 opening_way o candidates lent = go (opening_verdict o candidates lent) refl
   where
     go : (v : Verdict) → opening_verdict o candidates lent ≡ v → OpeningWay o candidates lent
-    go accepted e = begins e (rw e refl)
-    go (refused r) e = turned_down r (rw e refl)
+    go (Ok tt) e = begins e (rw e refl)
+    go (Err r) e = turned_down r (rw e refl)
 
 -- ---- a reply
 
 pub data ReplyWay (s : State) (reply : Reply) (surfaced : List ℕ) (lent : Lent) : Type 0 where
   turned_down : (r : Refusal) → replied s reply surfaced lent ≡ refusing s lent r → ReplyWay s reply surfaced lent
   measures :
-      (replies : Replies) → reply_verdict s reply surfaced lent ≡ accepted → taken_by s reply ≡ Kept replies
+      (replies : Replies) → reply_verdict s reply surfaced lent ≡ accepted → taken_by s reply ≡ Some (Kept replies)
       → replied s reply surfaced lent ≡ measured_on s replies lent
       → ReplyWay s reply surfaced lent
   lays_out :
-      (overflow : Rect) → reply_verdict s reply surfaced lent ≡ accepted → taken_by s reply ≡ Laid overflow
+      (overflow : Rect Float) → reply_verdict s reply surfaced lent ≡ accepted → taken_by s reply ≡ Some (Laid overflow)
       → replied s reply surfaced lent ≡ laid_out s overflow surfaced lent
       → ReplyWay s reply surfaced lent
 
@@ -89,11 +91,11 @@ pub reply_way : (s : State) (reply : Reply) (surfaced : List ℕ) (lent : Lent) 
 unfolding replied
 reply_way s reply surfaced lent = go (reply_verdict s reply surfaced lent) (taken_by s reply) refl refl
   where
-    go : (v : Verdict) (t : Taken) → reply_verdict s reply surfaced lent ≡ v → taken_by s reply ≡ t → ReplyWay s reply surfaced lent
-    go (refused r) t d e = turned_down r (rw d refl)
-    go accepted Wrong d e = turned_down WrongReply (rw (d, e) refl)
-    go accepted (Kept replies) d e = measures replies d e (rw (d, e) refl)
-    go accepted (Laid overflow) d e = lays_out overflow d e (rw (d, e) refl)
+    go : (v : Verdict) (t : Option Taken) → reply_verdict s reply surfaced lent ≡ v → taken_by s reply ≡ t → ReplyWay s reply surfaced lent
+    go (Err r) t d e = turned_down r (rw d refl)
+    go (Ok tt) None d e = turned_down WrongReply (rw (d, e) refl)
+    go (Ok tt) (Some (Kept replies)) d e = measures replies d e (rw (d, e) refl)
+    go (Ok tt) (Some (Laid overflow)) d e = lays_out overflow d e (rw (d, e) refl)
 
 -- ---- what an accepted call has passed
 
@@ -102,8 +104,8 @@ unfolding ◌when◌else◌
 passed r true rest e = no {b = true} refl (ap is_accepted e)
   where
     is_accepted : Verdict → Bool
-    is_accepted accepted = false
-    is_accepted (refused r) = true
+    is_accepted (Ok tt) = false
+    is_accepted (Err r) = true
 passed r false rest e = (refl, e)
 
 pub neither : (a b : Bool) → a || b ≡ false → (a ≡ false) × (b ≡ false)
@@ -179,66 +181,52 @@ counted lent counts e =
 
 -- ---- what was taken tells the reply's kind
 
-is_laid : Taken → Bool
-is_laid Wrong = false
-is_laid (Kept r) = false
-is_laid (Laid overflow) = true
+is_laid : Option Taken → Bool
+is_laid None = false
+is_laid (Some (Kept r)) = false
+is_laid (Some (Laid overflow)) = true
 
 -- the rectangle of a box that is laid out
-laid_rect : Rect → Taken → Rect
-laid_rect other Wrong = other
-laid_rect other (Kept r) = other
-laid_rect other (Laid overflow) = overflow
+laid_rect : Rect Float → Option Taken → Rect Float
+laid_rect other None = other
+laid_rect other (Some (Kept r)) = other
+laid_rect other (Some (Laid overflow)) = overflow
 
 -- only a lay-out reply is taken as one
-laid_by : (r : Replies) (stage : Stage) (given : Reply) (overflow : Rect) → taken r stage given ≡ Laid overflow → given ≡ reply.LaidOut overflow
+laid_by : (r : Replies) (stage : Stage) (given : Reply) (overflow : Rect Float) → taken r stage given ≡ Some (Laid overflow) → given ≡ reply.LaidOut overflow
 unfolding taken is_laid laid_rect
 laid_by r stage given overflow e = go stage given e (ap is_laid e)
   where
-    go : (stage : Stage) (given : Reply) → taken r stage given ≡ Laid overflow → is_laid (taken r stage given) ≡ true → given ≡ reply.LaidOut overflow
+    go : (stage : Stage) (given : Reply) → taken r stage given ≡ Some (Laid overflow) → is_laid (taken r stage given) ≡ true → given ≡ reply.LaidOut overflow
+    go LayOut (reply.LaidOut rect) e f = ap (λ (t : Option Taken). reply.LaidOut (laid_rect rect t)) e
     go KeywordBoth (reply.Both s) e f = no f refl
-    go KeywordWidth (reply.Both s) e f = no f refl
-    go KeywordHeight (reply.Both s) e f = no f refl
-    go Fill (reply.Both s) e f = no f refl
-    go LayOut (reply.Both s) e f = no f refl
-    go KeywordBoth (reply.Width w) e f = no f refl
     go KeywordWidth (reply.Width w) e f = no f refl
-    go KeywordHeight (reply.Width w) e f = no f refl
-    go Fill (reply.Width w) e f = no f refl
-    go LayOut (reply.Width w) e f = no f refl
-    go KeywordBoth (reply.Height h) e f = no f refl
-    go KeywordWidth (reply.Height h) e f = no f refl
     go KeywordHeight (reply.Height h) e f = no f refl
-    go Fill (reply.Height h) e f = no f refl
-    go LayOut (reply.Height h) e f = no f refl
-    go KeywordBoth (reply.LaidOut rect) e f = no f refl
-    go KeywordWidth (reply.LaidOut rect) e f = no f refl
-    go KeywordHeight (reply.LaidOut rect) e f = no f refl
-    go Fill (reply.LaidOut rect) e f = no f refl
-    go LayOut (reply.LaidOut rect) e f = ap (λ (t : Taken). reply.LaidOut (laid_rect rect t)) e
+    go Fill (reply.Both s) e f = no f refl
+    go _ _ e f = no f refl
 
-pub laid_is : (s : State) (given : Reply) (overflow : Rect) → taken_by s given ≡ Laid overflow → given ≡ reply.LaidOut overflow
+pub laid_is : (s : State) (given : Reply) (overflow : Rect Float) → taken_by s given ≡ Some (Laid overflow) → given ≡ reply.LaidOut overflow
 unfolding taken_by is_laid
 laid_is s given overflow e = go s.progress e
   where
-    go : (p : Progress) → taken_in p s.replies given ≡ Laid overflow → given ≡ reply.LaidOut overflow
+    go : (p : Progress) → taken_in p s.replies given ≡ Some (Laid overflow) → given ≡ reply.LaidOut overflow
     go Finished e = no (ap is_laid e) refl
     go (Asking stage) e = laid_by s.replies stage given overflow e
 
 -- and its surfaced slice is lent
-pub lent_all : (r : Replies) (stage : Stage) (given : Reply) (surfaced : List ℕ) {overflow : Rect} → taken r stage given ≡ Laid overflow
+pub lent_all : (r : Replies) (stage : Stage) (given : Reply) (surfaced : List ℕ) {overflow : Rect Float} → taken r stage given ≡ Some (Laid overflow)
     → lent_by given surfaced ≡ surfaced
 lent_all r stage given surfaced {overflow = overflow} e = ap (λ (g : Reply). lent_by g surfaced) (laid_by r stage given overflow e)
 
 -- a lay-out reply is never kept as a measure
-pub never_kept : {A : Type 0} (s : State) (overflow : Rect) {replies : Replies} → taken_by s (reply.LaidOut overflow) ≡ Kept replies → A
+pub never_kept : {A : Type 0} (s : State) (overflow : Rect Float) {replies : Replies} → taken_by s (reply.LaidOut overflow) ≡ Some (Kept replies) → A
 unfolding taken_by taken
 never_kept s overflow e = no (ap is_kept e) (go s.progress)
   where
-    is_kept : Taken → Bool
-    is_kept Wrong = false
-    is_kept (Kept r) = true
-    is_kept (Laid overflow) = false
+    is_kept : Option Taken → Bool
+    is_kept None = false
+    is_kept (Some (Kept r)) = true
+    is_kept (Some (Laid overflow)) = false
 
     go : (p : Progress) → is_kept (taken_in p s.replies (reply.LaidOut overflow)) ≡ false
     go Finished = refl

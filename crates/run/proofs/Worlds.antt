@@ -8,6 +8,7 @@ use mathlib.Core.Bool.{true, false}
 use mathlib.Core.List.{List, [], ◌∷◌, ◌++◌, map, map-append, append_assoc}
 use lib.ListN.{length, get_or, length-append, length-map, get_or-map}
 use lib.Seq.{get_or_at}
+use Rattle.std.specs.Prelude.{Some, None}
 use Rattle.style.specs.declared.ContainingBlockClaims.{ContainingBlockClaims}
 use Rattle.tree.specs.declared.layout.OofCandidate.{OofCandidate}
 use Rattle.records.specs.Records.{record_at, records, written}
@@ -16,7 +17,6 @@ use Rattle.tree_record.specs.Candidate.{candidate_width, candidate_of}
 use Rattle.tree_record.specs.Layout.{layout_width, layout_words}
 use Rattle.sweep.specs.Sweep.{first_candidates, candidates_in, moved, keep, appended}
 use Rattle.sweep.specs.Laws.{AllFit}
-use Rattle.sweep.specs.declared.Shift.TheVariants.{Unmoved, By}
 use Rattle.sweep.proofs.Laws.{swept_fits, kept_fits, appended_back}
 use Rattle.sweep.proofs.Steps.{kept_moved, appended_twice}
 use Rattle.oof_box.specs.Box.{Placed}
@@ -80,18 +80,18 @@ fits_append (x ∷ xs) ys f g = (f.0, fits_append xs ys f.1 g)
 
 -- a box was laid out: what it surfaced and is claimed comes after all that was claimed
 pub claimed_after : (by : ContainingBlockClaims) (w : World) (c : OofCandidate) (rest : List OofCandidate) (p : Placed) → w.waiting ≡ c ∷ rest
-    → claimed_in (after_box by w c rest p) ≡ claimed_in w ++ keep by true (map (moved (By p.outcome.layout.location)) p.surfaced)
+    → claimed_in (after_box by w c rest p) ≡ claimed_in w ++ keep by true (map (moved (Some p.outcome.layout.location)) p.surfaced)
 unfolding after_box moved
 claimed_after by w c rest p e =
     let before = laid_in w in
-    let more = keep by true (map (moved (By p.outcome.layout.location)) p.surfaced) in
+    let more = keep by true (map (moved (Some p.outcome.layout.location)) p.surfaced) in
     ap (λ (l : List OofCandidate). l ++ (rest ++ more)) (map-append (λ (b : Box). b.candidate) w.laid _)
     ∙ append_assoc before (c ∷ []) (rest ++ more)
     ∙ sym (append_assoc before (c ∷ rest) more)
     ∙ rw e refl
 
 pub unclaimed_after : (by : ContainingBlockClaims) (w : World) (c : OofCandidate) (rest : List OofCandidate) (p : Placed)
-    → (after_box by w c rest p).unclaimed ≡ w.unclaimed ++ keep by false (map (moved (By p.outcome.layout.location)) p.surfaced)
+    → (after_box by w c rest p).unclaimed ≡ w.unclaimed ++ keep by false (map (moved (Some p.outcome.layout.location)) p.surfaced)
 unfolding after_box moved
 unclaimed_after by w c rest p = refl
 
@@ -106,7 +106,7 @@ pub record Sound (working : List ℕ) (w : World) : Type 0 where
   pub room : length (claimed_in w) ≤ length working / candidate_width
   pub most : length working / candidate_width ≤ 4096
 
-pub unmoved : (cs : List OofCandidate) → map (moved Unmoved) cs ≡ cs
+pub unmoved : (cs : List OofCandidate) → map (moved None) cs ≡ cs
 unfolding moved
 unmoved [] = refl
 unmoved (c ∷ cs) = ap (λ (l : List OofCandidate). c ∷ l) (unmoved cs)
@@ -117,7 +117,7 @@ pub opening_sound : (by : ContainingBlockClaims) (working candidates : List ℕ)
 unfolding at_opening
 opening_sound by working candidates h =
     record {
-      fits = (kept_fits by (candidates_in candidates) (subst AllFit (unmoved (candidates_in candidates)) (swept_fits Unmoved candidates))).0;
+      fits = (kept_fits by (candidates_in candidates) (subst AllFit (unmoved (candidates_in candidates)) (swept_fits None candidates))).0;
       room = h.0;
       most = h.1;
     }
@@ -147,7 +147,7 @@ pub after_sound : (by : ContainingBlockClaims) (working : List ℕ) {w : World} 
     → length (claimed_in w) + length (keep by true (candidates_in surfaced)) ≤ length working / candidate_width
     → Sound working (after_box by w c rest p)
 after_sound by working {w} {c} {rest} p surfaced e f h =
-    let shift = By p.outcome.layout.location in
+    let shift = Some p.outcome.layout.location in
     let cs = map (moved shift) (candidates_in surfaced) in
     let all = claimed_after by w c rest p f.waiting ∙ ap (λ (l : List OofCandidate). claimed_in w ++ keep by true (map (moved shift) l)) e in
     record {

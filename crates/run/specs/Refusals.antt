@@ -1,5 +1,5 @@
 -- When a call is refused: the rows of document 01's table, and the order in which they are tested. Assumes nothing.
-use Rattle.std.specs.Prelude.{ℕ, ◌*◌, ◌/◌, ◌%◌, Bool, true, false, cond, not, ◌||◌, List, [], eqb, ltb, length}
+use Rattle.std.specs.Prelude.{ℕ, ◌*◌, ◌/◌, ◌%◌, Bool, true, false, cond, not, ◌||◌, List, [], Result, Ok, Err, eqb, ltb, length}
 use Rattle.refusal.specs.declared.Refusal.{Refusal}
 use Rattle.records.specs.Records.{good_records, room}
 use Rattle.style.specs.declared.ContainingBlockClaims.{ContainingBlockClaims}
@@ -9,8 +9,7 @@ use Rattle.tree_record.specs.Candidate.{candidate_width, candidate_kinds}
 use Rattle.tree_record.specs.Layout.{layout_width}
 use Rattle.style_record.specs.Record.{style_words, items}
 use Rattle.style_record.specs.Check.{checked}
-use Rattle.style_record.specs.declared.check.TableCheck.{TableCheck}
-use Rattle.style_record.specs.declared.check.TableCheck.TheVariants.{Good, Bad}
+use Rattle.std.specs.Prelude.{is_err}
 use Rattle.oof_box.specs.declared.question.Reply.{Reply}
 use Rattle.oof_box.specs.declared.question.Reply.TheVariants.{Both, Width, Height, LaidOut}
 use Rattle.run.specs.declared.Opening.{Opening}
@@ -18,12 +17,17 @@ use Rattle.run.specs.declared.Counts.{Counts}
 use Rattle.run.specs.declared.Extents.{Extents}
 use Rattle.run.specs.Call.{Lent}
 
-infixr 20 ◌when◌else◌
 -- a call is accepted, or refused for one reason
-pub data Verdict : Type 0 where
-  accepted : Verdict
-  refused : Refusal → Verdict
+abbrev pub Verdict : Type 0
+Verdict = Result Unit Refusal
 
+abbrev pub accepted : Verdict
+accepted = Ok tt
+
+abbrev pub refused : Refusal → Verdict
+refused r = Err r
+
+infixr 20 ◌when◌else◌
 -- a refusal under its condition comes before all that follow
 unfoldable pub ◌when◌else◌ : Refusal → Bool → Verdict → Verdict
 r when condition else rest = cond condition (refused r) rest
@@ -71,12 +75,8 @@ lent_by (LaidOut overflow) surfaced = surfaced
 
 -- ---- 3: bad style. Some word of some item breaks a rule
 
-abbrev pub is_bad : TableCheck → Bool
-is_bad Good = false
-is_bad (Bad item word) = true
-
 unfoldable pub bad_style : List ℕ → Bool
-bad_style styles = is_bad (checked styles)
+bad_style styles = is_err (checked styles)
 
 -- ---- 4: bad candidate. Some word of the first `count` records breaks a rule
 

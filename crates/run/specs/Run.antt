@@ -1,6 +1,6 @@
 -- The run: what any call does, with any words, any lengths and any state (document 01, "The dialogue"). Read `opened` and `replied`, the
 -- last of each part, first. Assumes nothing.
-use Rattle.std.specs.Prelude.{ℕ, ◌+◌, ◌-◌, ◌*◌, Bool, true, false, cond, ◌||◌, List, map, ltb, length}
+use Rattle.std.specs.Prelude.{ℕ, ◌+◌, ◌-◌, ◌*◌, false, cond, ◌||◌, List, map, ltb, length, None, Some, is_none, Option, Ok, Err, Float}
 use Rattle.geometry.specs.Geometry.{union_of, zero_rect, zero_size, zero_point}
 use Rattle.geometry.specs.declared.Rect.{Rect}
 use Rattle.refusal.specs.declared.Refusal.{Refusal}
@@ -17,13 +17,12 @@ use Rattle.tree_record.specs.Layout.{layout_width, layout_of, layout_words}
 use Rattle.style_record.specs.Decode.{style_at}
 use Rattle.sweep.specs.Sweep.{candidates_in, moved, swept_into}
 use Rattle.sweep.specs.declared.Filled.{Filled}
-use Rattle.sweep.specs.declared.Shift.TheVariants.{By}
 use Rattle.oof_resolve.specs.declared.ContainingBlock.{ContainingBlock}
 use Rattle.oof_box.specs.Cut.{no_replies, asked_after, layout_after, taken}
 use Rattle.oof_box.specs.declared.question.Reply.{Reply}
 use Rattle.oof_box.specs.declared.question.Replies.{Replies}
 use Rattle.oof_box.specs.declared.question.Taken.{Taken}
-use Rattle.oof_box.specs.declared.question.Taken.TheVariants.{Wrong, Kept, Laid}
+use Rattle.oof_box.specs.declared.question.Taken.TheVariants.{Kept, Laid}
 use Rattle.run.specs.declared.Opening.{Opening}
 use Rattle.run.specs.declared.Progress.{Progress}
 use Rattle.run.specs.declared.Progress.TheVariants.{Finished, Asking}
@@ -34,7 +33,7 @@ use Rattle.run.specs.declared.State.{State}
 use Rattle.run.specs.declared.Answer.TheVariants.{Ask, Finish, Refused}
 use Rattle.run.specs.declared.Step.{Step}
 use Rattle.run.specs.Call.{Lent, Outcome, unwritten}
-use Rattle.run.specs.Refusals.{Verdict, accepted, refused, ◌when◌else◌, bad_area, ragged, bad_slices, bad_lent, bad_style, bad_candidate, bad_candidates, list_full, wrong_counts, lent_by}
+use Rattle.run.specs.Refusals.{Verdict, accepted, ◌when◌else◌, bad_area, ragged, bad_slices, bad_lent, bad_style, bad_candidate, bad_candidates, list_full, wrong_counts, lent_by}
 
 -- ---- from one question to the next
 
@@ -48,7 +47,7 @@ unfoldable pub box_at_hand : List ℕ → Counts → OofCandidate
 box_at_hand working counts = candidate_of (record_at candidate_width working (counts.begun - 1))
 
 -- its question, by the words as they are and by the replies kept
-unfoldable pub asking : List ℕ → List ℕ → Opened → Counts → Rect → Replies → Step
+unfoldable pub asking : List ℕ → List ℕ → Opened → Counts → Rect Float → Replies → Step
 asking styles working run counts overflow replies =
     let box = box_at_hand working counts in
     let next = asked_after run.container (style_at styles box.node) box replies in
@@ -57,7 +56,7 @@ asking styles working run counts overflow replies =
       answer = Ask next.question;
     }
 
-unfoldable pub finishing : Opened → Counts → Rect → Step
+unfoldable pub finishing : Opened → Counts → Rect Float → Step
 finishing run counts overflow =
     record {
       state = record { progress = Finished; replies = no_replies; counts = counts; overflow = overflow; opened = run };
@@ -65,7 +64,7 @@ finishing run counts overflow =
     }
 
 -- the next box of the working list, from the front; or the finish
-unfoldable pub proceeding : List ℕ → List ℕ → Opened → Counts → Rect → Step
+unfoldable pub proceeding : List ℕ → List ℕ → Opened → Counts → Rect Float → Step
 proceeding styles working run counts overflow =
     cond (ltb counts.begun counts.filled.working)
     (asking styles working run (record { filled = counts.filled; begun = counts.begun + 1; answered = counts.answered }) overflow no_replies)
@@ -140,32 +139,27 @@ begun o candidates lent =
     }
 
 abbrev pub opened_by : Verdict → Opening → List ℕ → Lent → Outcome
-opened_by accepted o candidates lent = begun o candidates lent
-opened_by (refused r) o candidates lent = unwritten lent (record { state = closed lent; answer = Refused r })
+opened_by (Ok tt) o candidates lent = begun o candidates lent
+opened_by (Err r) o candidates lent = unwritten lent (record { state = closed lent; answer = Refused r })
 
 unfoldable pub opened : Opening → List ℕ → Lent → Outcome
 opened o candidates lent = opened_by (opening_verdict o candidates lent) o candidates lent
 
 -- ---- a reply
 
-abbrev pub taken_in : Progress → Replies → Reply → Taken
-taken_in Finished replies reply = Wrong
+abbrev pub taken_in : Progress → Replies → Reply → Option Taken
+taken_in Finished replies reply = None
 taken_in (Asking stage) replies reply = taken replies stage reply
 
--- a reply to the open question: wrong, kept, or the box is laid out
-unfoldable pub taken_by : State → Reply → Taken
+-- a reply to the open question: kept, or the box is laid out; one that isn't asked for, or of another kind, comes to nothing
+unfoldable pub taken_by : State → Reply → Option Taken
 taken_by s reply = taken_in s.progress s.replies reply
-
-abbrev pub is_wrong : Taken → Bool
-is_wrong Wrong = true
-is_wrong (Kept replies) = false
-is_wrong (Laid overflow) = false
 
 -- tests 2, 6, 3, 4, 5
 unfoldable pub reply_verdict : State → Reply → List ℕ → Lent → Verdict
 reply_verdict s reply surfaced lent =
     BadExtent when (bad_lent s.opened.extents lent || ragged candidate_width (lent_by reply surfaced)) else
-    WrongReply when (is_wrong (taken_by s reply) || wrong_counts lent s.counts) else
+    WrongReply when (is_none (taken_by s reply) || wrong_counts lent s.counts) else
     BadStyle when bad_style lent.styles else
     BadCandidate when (bad_candidate lent.styles lent.working s.counts.filled.working || bad_candidates lent.styles (lent_by reply surfaced)) else
     ListFull when list_full s.opened.claims lent s.counts.filled (lent_by reply surfaced) else
@@ -178,12 +172,12 @@ measured_on s replies lent =
 
 -- the box is laid out: its layout is written at its node's place; what it surfaced is shifted by its location and swept to the rear;
 -- its contribution is joined; then the next box
-unfoldable pub laid_out : State → Rect → List ℕ → Lent → Outcome
+unfoldable pub laid_out : State → Rect Float → List ℕ → Lent → Outcome
 laid_out s overflow surfaced lent =
     let run = s.opened in
     let box = box_at_hand lent.working s.counts in
     let placed = layout_after run.container (style_at lent.styles box.node) box s.replies overflow in
-    let cs = map (moved (By placed.layout.location)) (candidates_in surfaced) in
+    let cs = map (moved (Some placed.layout.location)) (candidates_in surfaced) in
     let after = swept_into run.claims cs lent.working lent.unclaimed s.counts.filled in
     let counts : Counts =
     record {
@@ -202,11 +196,11 @@ laid_out s overflow surfaced lent =
 abbrev pub refusing : State → Lent → Refusal → Outcome
 refusing s lent r = unwritten lent (record { state = s; answer = Refused r })
 
-abbrev pub replied_by : Verdict → Taken → State → List ℕ → Lent → Outcome
-replied_by (refused r) t s surfaced lent = refusing s lent r
-replied_by accepted Wrong s surfaced lent = refusing s lent WrongReply
-replied_by accepted (Kept replies) s surfaced lent = measured_on s replies lent
-replied_by accepted (Laid overflow) s surfaced lent = laid_out s overflow surfaced lent
+abbrev pub replied_by : Verdict → Option Taken → State → List ℕ → Lent → Outcome
+replied_by (Err r) t s surfaced lent = refusing s lent r
+replied_by (Ok tt) None s surfaced lent = refusing s lent WrongReply
+replied_by (Ok tt) (Some (Kept replies)) s surfaced lent = measured_on s replies lent
+replied_by (Ok tt) (Some (Laid overflow)) s surfaced lent = laid_out s overflow surfaced lent
 
 unfoldable pub replied : State → Reply → List ℕ → Lent → Outcome
 replied s reply surfaced lent = replied_by (reply_verdict s reply surfaced lent) (taken_by s reply) s surfaced lent

@@ -1,6 +1,6 @@
 -- The run read straight through: the boxes one after another, each as oof_box/specs/Box.antt defines it, over candidates and styles and
 -- not over words (`perform_oof_layout` of the Rust). Assumes nothing.
-use Rattle.std.specs.Prelude.{ℕ, zero, suc, List, [], ◌∷◌, ◌++◌, map}
+use Rattle.std.specs.Prelude.{ℕ, zero, suc, List, [], ◌∷◌, ◌++◌, map, Float}
 use Rattle.geometry.specs.Geometry.{union_of, zero_rect}
 use Rattle.geometry.specs.declared.Rect.{Rect}
 use Rattle.style.specs.declared.Style.{Style}
@@ -24,7 +24,7 @@ pub record World : Type 0 where
   pub laid : List Box
   pub waiting : List OofCandidate
   pub unclaimed : List OofCandidate
-  pub overflow : Rect
+  pub overflow : Rect Float
 
 -- at the opening: candidates claimed, or not
 unfoldable pub at_opening : ContainingBlockClaims → List OofCandidate → World

@@ -1,7 +1,6 @@
 -- What holds of runs; each statement says what the host may do. `proofs/` proves each, under its name in small letters. Assumes nothing.
-use Rattle.std.specs.Prelude.{ℕ, ◌+◌, ◌-◌, ◌*◌, ◌≤◌, ◌↔◌, ◌≡◌, Bool, true, false, cond, eqb, length}
+use Rattle.std.specs.Prelude.{ℕ, ◌+◌, ◌-◌, ◌*◌, ◌≤◌, ◌↔◌, ◌≡◌, Bool, true, false, cond, eqb, length, Option, None, Some, Float, Err}
 use mathlib.Core.List.{List, [], ◌∷◌, ◌++◌, map, foldl}
-use Rattle.std.proofs.Math.Option.{Option, none, some}
 use Rattle.refusal.specs.Refusal.{number_of}
 use Rattle.refusal.specs.declared.Refusal.{Refusal}
 use Rattle.refusal.specs.declared.Refusal.TheVariants.{BadExtent}
@@ -9,16 +8,15 @@ use Rattle.geometry.specs.declared.Line.{Line}
 use Rattle.geometry.specs.declared.Rect.{Rect}
 use Rattle.style.specs.declared.alignment.AlignItems.{AlignItems}
 use Rattle.tree.specs.Static.{from_alignment}
-use Rattle.tree.specs.declared.layout.Aligned.TheVariants as aligned
 use Rattle.style.specs.declared.Style.{Style}
 use Rattle.tree.specs.declared.layout.Layout.{Layout}
 use Rattle.tree.specs.declared.layout.OofCandidate.{OofCandidate}
 use Rattle.records.specs.Records.{written}
 use Rattle.tree_record.specs.Layout.{layout_width, layout_words}
-use Rattle.style_record.specs.Check.{checked}
+use Rattle.style_record.specs.Check.{bad_at, checked}
 use Rattle.style_record.specs.Decode.{style_at}
-use Rattle.style_record.specs.declared.check.TableCheck.{TableCheck}
-use Rattle.style_record.specs.declared.check.TableCheck.TheVariants.{Good, Bad}
+use Rattle.style_record.specs.declared.check.BadWord.{BadWord}
+use Rattle.std.specs.Prelude.{Result, Ok, ⊤}
 use Rattle.sweep.specs.Sweep.{first_candidates, candidates_in, appended}
 use Rattle.oof_resolve.specs.declared.ContainingBlock.{ContainingBlock}
 use Rattle.oof_box.specs.Cut.{asked_after}
@@ -71,8 +69,8 @@ ReplyAcceptedExactly =
 -- and `from_alignment` with 7
 abbrev pub UnresolvedExactly : Type 0
 UnresolvedExactly =
-    (a : AlignItems) (area : Line) (rtl : Bool) (r : Refusal)
-    → (from_alignment a area rtl ≡ aligned.Refused r) ↔ FirstIs ((7, SideIsUnresolved a) ∷ []) (number_of r)
+    (a : AlignItems) (area : Line Float) (rtl : Bool) (r : Refusal)
+    → (from_alignment a area rtl ≡ Err r) ↔ FirstIs ((7, SideIsUnresolved a) ∷ []) (number_of r)
 
 -- the stage that a state keeps is of its question's kind
 abbrev pub StageTellsKind : Type 0
@@ -85,14 +83,14 @@ StageTellsKind =
 -- one exactly where refusal 3's condition holds.
 
 -- some item and word is named
-abbrev pub Names : TableCheck → Type 0
-Names found = (i : ℕ) × (k : ℕ) × (found ≡ Bad i k)
+abbrev pub Names : Result ⊤ BadWord → Type 0
+Names found = (i : ℕ) × (k : ℕ) × (found ≡ bad_at i k)
 
 abbrev pub NamedExactly : Type 0
-NamedExactly = (styles : List ℕ) (i k : ℕ) → (checked styles ≡ Bad i k) ↔ FirstNotAllowed styles i k
+NamedExactly = (styles : List ℕ) (i k : ℕ) → (checked styles ≡ bad_at i k) ↔ FirstNotAllowed styles i k
 
 abbrev pub NothingExactly : Type 0
-NothingExactly = (styles : List ℕ) → (checked styles ≡ Good) ↔ AllAllowed styles
+NothingExactly = (styles : List ℕ) → (checked styles ≡ Ok tt) ↔ AllAllowed styles
 
 abbrev pub NamedWhereBad : Type 0
 NamedWhereBad = (styles : List ℕ) → Names (checked styles) ↔ StyleIsBad styles
@@ -236,8 +234,8 @@ heeded styles o (t ∷ ts) =
 
 -- the course after a reply to its question; a reply of another kind changes nothing
 abbrev pub or_stay : {R : Type 0} → Option R → (R → Course) → Course → Course
-or_stay none next stay = stay
-or_stay (some r) next stay = next r
+or_stay None next stay = stay
+or_stay (Some r) next stay = next r
 
 unfoldable pub hearing : Course → Heard → Course
 hearing (ended w) h = ended w
@@ -287,12 +285,12 @@ open_in styles o = open_by o.step.state.progress styles o.working o.step.state
 
 -- the kind of reply that is waited for, by the state and by the course
 abbrev pub awaited : Progress → Option QuestionKind
-awaited Finished = none
-awaited (Asking stage) = some (kind_at stage)
+awaited Finished = None
+awaited (Asking stage) = Some (kind_at stage)
 
 abbrev pub awaited_in : Course → Option QuestionKind
-awaited_in (ended w) = none
-awaited_in (asks w q next) = some (kind_of_question q)
+awaited_in (ended w) = None
+awaited_in (asks w q next) = Some (kind_of_question q)
 
 -- what a call left is where the course stands, after so many replies that weren't refused: every word of the lent slices, the counts, the
 -- overflow so far, what is still open, and the answer unless it is a refusal
@@ -374,7 +372,7 @@ pub record WroteSize (input : LayoutInput) (before after : List ℕ) : Type 0 wh
 
 abbrev pub ToldIsWritten : Type 0
 ToldIsWritten =
-    (styles : List ℕ) (o : Outcome) (input : LayoutInput) (between : List Turn) (overflow : Rect) (surfaced : List ℕ)
+    (styles : List ℕ) (o : Outcome) (input : LayoutInput) (between : List Turn) (overflow : Rect Float) (surfaced : List ℕ)
     → Left styles o
     → o.step.answer ≡ Ask (LayOut input)
     → AllRefused styles o between

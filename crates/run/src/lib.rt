@@ -2,11 +2,14 @@
 // finishes (compute/oof.rs, `perform_oof_layout`); specs/Run.antt says what each call does.
 #![tactic(auto)]
 
+ghost use Rattle.std.specs.Prelude.{◌≡◌};
+ghost use Rattle.run.specs.Run.{claims_in};
+
 use geometry::Rect;
 use oof_box::question::{Question, Replies, Stage};
 use oof_resolve::ContainingBlock;
 use refusal::Refusal;
-use style::ContainingBlockClaims;
+use style::{ContainingBlockClaims, bits};
 use sweep::Filled;
 use tree::layout::OofPositioningArea;
 
@@ -18,6 +21,16 @@ pub struct Opening {
     pub claims: u32,
     pub overflowx: u32,
     pub overflowy: u32,
+}
+
+// The claims in a code: bit 0 absolute, bit 1 fixed.
+pub fn claims_in(code: u32) -> ContainingBlockClaims
+    ensures { result ≡ claims_in code }
+{
+    ContainingBlockClaims {
+        absolute: bits::bit0(code),
+        fixed: bits::bit1(code),
+    }
 }
 
 // Whether a question is open, and which one of its box.
@@ -58,14 +71,14 @@ pub struct State {
     pub progress: Progress,
     pub replies: Replies,
     pub counts: Counts,
-    pub overflow: Rect,
+    pub overflow: Rect<f32>,
     pub opened: Opened,
 }
 
 // The end of a run: its scrollable overflow, and the count of questions answered.
 #[derive(Clone, Copy)]
 pub struct Finish {
-    pub overflow: Rect,
+    pub overflow: Rect<f32>,
     pub count: usize,
 }
 

@@ -14,7 +14,8 @@ use Rattle.screen_fields.specs.declared.format.Kind.{Kind}
 use Rattle.screen_fields.specs.declared.format.Line.{Line}
 use Rattle.screen_fields.specs.declared.format.Line.TheVariants.{First, Item, Candidate}
 use Rattle.screen_fields.specs.Format.{fields_of, bytes_of}
-use Rattle.screen_fields.specs.Field.{word_of, is_good}
+use Rattle.screen_fields.specs.Field.{word_of}
+use Rattle.std.proofs.Common.{is_some}
 use Rattle.screen.specs.Screen.{good_fields, good_line, good_lines, item_count, candidate_count, candidates_at, screen_bytes, is_screen}
 use Rattle.screen.specs.Laws.{StartsLine, feed, field, StartsLines, nothing, line, IsScreen, ScreenExactly}
 use Rattle.screen_fields.proofs.Good.{field_good, good_field}
@@ -49,7 +50,7 @@ unfolding good_fields
 line_there [] [] g e = absurd (omega arith)
 line_there [] (x ∷ text) g e = subst (λ (b : ℕ). StartsLine [] (b ∷ text) text) (sym e) feed
 line_there (k ∷ ks) text g e =
-    let good = both_true (is_good (word_of k (take 11 text))) _ g in
+    let good = both_true (is_some (word_of k (take 11 text))) _ g in
     let h = is_there text (11 * suc (length ks)) e in
     let rest = line_there ks (drop 11 text) good.1 (get_or-drop 11 text (11 * length ks) 0 ∙ ap (λ (i : ℕ). get_or text i 0) (sym (past (length ks))) ∙ e) in
     let after = drop-drop (11 * length ks + 1) 11 text ∙ ap (λ (i : ℕ). drop i text) (past_feed (length ks)) in
@@ -118,7 +119,7 @@ unfolding is_screen good_line bytes_of candidates_at screen_bytes
 screen_there text e =
     let n = item_count text in
     let m = candidate_count text in
-    let told = screen_told text e in
+    let told = screen_told text _ refl e in
     let five = both_true _ (good_lines Candidate m (drop (candidates_at n) text)) e in
     let four = both_true _ (good_lines Item n (drop (bytes_of First) text)) five.0 in
     let three = both_true _ (eqb (length text) (screen_bytes n m)) four.0 in

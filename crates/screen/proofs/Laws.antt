@@ -1,19 +1,14 @@
 -- Proofs of the statements of `specs/Laws.antt`. Assumes nothing.
-use Prim.Native.Nat.{ℕ, zero, suc, ◌+◌, ◌*◌}
+use Prim.Native.Nat.{ℕ}
 use native.Mathlib.Omega.{arith}
-use native.Mathlib.Nat.{zero-mul, suc-mul}
-use mathlib.Core.Path.{◌≡◌, refl, sym, ◌∙◌}
+use mathlib.Core.Path.{◌≡◌, refl}
 use mathlib.Core.List.{List}
-use lib.ListN.{length, drop, length-append}
-use Rattle.style_record.specs.Record.{style_words}
-use Rattle.tree_record.specs.Candidate.{candidate_width}
-use Rattle.screen_fields.specs.declared.format.Kind.{Kind}
-use Rattle.screen_fields.specs.declared.format.Line.{Line}
 use Rattle.screen_fields.specs.declared.format.Line.TheVariants.{Item, Candidate}
-use Rattle.screen_fields.specs.Format.{style_fields, reply_width, reply_fields, candidate_fields, bytes_of}
-use Rattle.screen.specs.Screen.{words_of, rows_of, item_count, candidate_count, answer_of, styles_of, replies_of, candidates_of, written}
+use Rattle.screen_fields.specs.Format.{style_fields, reply_fields, candidate_fields}
+use Rattle.screen.specs.declared.ScreenLists.{ScreenLists}
+use Rattle.screen.specs.Screen.{item_count, candidate_count, answer_of, styles_of, replies_of, candidates_of, written}
 use Rattle.screen.specs.Laws.{BytesInNumbers, ScreenSize, ScreenWords, RefusalWritesNothing}
-use Rattle.screen.proofs.Lines.{words_length}
+use Rattle.screen.proofs.Lines.{rows_length}
 use Rattle.screen.proofs.Whole.{screen_told}
 
 -- ---- a screen
@@ -23,28 +18,24 @@ bytes_in_numbers = (refl, refl, refl, refl)
 
 pub screen_size : ScreenSize
 screen_size text e =
-    let t = screen_told text e in
+    let t = screen_told text _ refl e in
     let b = t.bytes in
     let i = t.few_items in
     let c = t.few_candidates in
     (b, i, c, omega arith)
 
-rows_length : (ks : List Kind) (w : ℕ) (l : Line) (n : ℕ) (text : List ℕ) → length ks ≡ w → length (rows_of ks l n text) ≡ n * w
-unfolding rows_of
-rows_length ks w l zero text e = sym (zero-mul w)
-rows_length ks w l (suc n) text e =
-    length-append (words_of ks text) (rows_of ks l n (drop (bytes_of l) text))
-    ∙ rw (words_length ks text, e, rows_length ks w l n (drop (bytes_of l) text) e, suc-mul n w) (swap w (n * w))
-  where
-    swap : (a b : ℕ) → a + b ≡ b + a
-    swap a b = omega arith
-
 pub screen_words : ScreenWords
 unfolding styles_of replies_of candidates_of style_fields reply_fields candidate_fields
 screen_words text =
-    (rows_length style_fields style_words Item (item_count text) _ refl, rows_length reply_fields reply_width Item (item_count text) _ refl, rows_length candidate_fields candidate_width Candidate (candidate_count text) _ refl)
+    (rows_length style_fields Item (item_count text) _, rows_length reply_fields Item (item_count text) _, rows_length candidate_fields Candidate (candidate_count text) _)
 
 pub refusal_writes_nothing : RefusalWritesNothing
 unfolding answer_of written
-refusal_writes_nothing text r header₀ header₁ styles₀ styles₁ replies₀ replies₁ candidates₀ candidates₁ e x =
-    (rw e at x.answer, rw e at x.header, rw e at x.styles, rw e at x.replies, rw e at x.candidates)
+refusal_writes_nothing text r before after e x =
+    (rw e at x.answer, same _ _ _ _ _ _ _ _ (rw e at x.header) (rw e at x.styles) (rw e at x.replies) (rw e at x.candidates))
+  where
+    lists : (header styles replies candidates : List ℕ) → ScreenLists
+    lists header styles replies candidates = record { header = header; styles = styles; replies = replies; candidates = candidates }
+
+    same : (h h' s s' r r' c c' : List ℕ) → h ≡ h' → s ≡ s' → r ≡ r' → c ≡ c' → lists h s r c ≡ lists h' s' r' c'
+    same h h' s s' r r' c c' e f g i = rw (e, f, g, i) refl

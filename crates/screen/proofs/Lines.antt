@@ -1,32 +1,20 @@
--- Fields one by one, and lines one by one. Assumes nothing.
-use Prim.Native.Nat.{ℕ, zero, suc, ◌+◌, ◌-◌, ◌*◌, ◌<◌, ◌≤◌}
-use native.Mathlib.Omega.{arith}
-use native.Mathlib.Nat.{suc-mul}
-use native.Mathlib.Numerals.{add-one}
-use mathlib.Core.Path.{◌≡◌, refl, ap, ◌∙◌}
-use mathlib.Core.Bool.{true, false, ◌&&◌}
-use mathlib.Core.List.{List, [], ◌∷◌, ◌++◌}
-use lib.ListN.{length, take, drop, get_or, set, length-drop, drop_of_length-le}
-use lib.Seq.{sets, drop-cons, drop-drop, get_or-drop, length-take-le}
-use lib.Dec.{eqb}
-use Rattle.boxlist_lines.proofs.Stores.{sets_append}
+-- The lines of a screen, field by field. Assumes nothing.
+use Rattle.std.proofs.Common.{◌≡◌, ℕ, zero, suc, ◌+◌, ◌-◌, ◌*◌, ◌<◌, ◌≤◌, true, ◌&&◌, List, [], ◌∷◌, ◌++◌, length, get_or, take, drop, is_some, unwrap_or, refl, sym, ap, ◌∙◌, add-one, arith}
+use Rattle.std.proofs.Math.Nat.{zero-add, zero-mul, suc-mul, mul-le-mul_right}
+use Rattle.std.proofs.Math.Seq.{length-sets}
+use borrow.Rule.Slice.PartMut.{put_mid}
+use Rattle.boxlist_lines.proofs.Stores.{part_sets, sets_append}
+use Rattle.std.proofs.lemmas.List.{append-nil, append_assoc, drop_more, drop_all, drop-drop, length-append, length-take-le, length-drop, get_or-take, get_or-drop, ext_get_or}
+use Rattle.std.proofs.lemmas.List.Edits.{sets, sets-eq}
 use Rattle.style_record.specs.Record.{style_words}
 use Rattle.screen_fields.specs.declared.format.Kind.{Kind}
 use Rattle.screen_fields.specs.declared.format.Kind.TheVariants.{Code}
 use Rattle.screen_fields.specs.declared.format.Line.{Line}
 use Rattle.screen_fields.specs.declared.format.Line.TheVariants.{First, Item, Candidate}
-use Rattle.screen_fields.specs.Format.{reply_width, fields_of, COLUMNS, bytes_of}
-use Rattle.screen_fields.specs.Field.{word_of, is_good, value_of}
-use Rattle.screen_fields.specs.Place.{part}
+use Rattle.screen_fields.specs.Format.{fields_of, COLUMNS, reply_width, bytes_of}
+use Rattle.screen_fields.specs.Field.{word_of}
 use Rattle.screen.specs.Screen.{good_fields, good_line, good_lines, words_of, rows_of}
-use Rattle.screen_fields.proofs.Text.{turn, done}
 use Rattle.screen_fields.proofs.Table.{first_width, item_width, candidate_width_lem}
-
-next : (at j : ℕ) → at + COLUMNS * j + COLUMNS ≡ at + COLUMNS * (j + 1)
-next at j = omega arith
-
-along : (to j : ℕ) → to + (j + 1) ≡ suc (to + j)
-along to j = omega arith
 
 pub width_small : (line : Line) → length (fields_of line) ≤ style_words + reply_width
 width_small First = let e = first_width in omega arith
@@ -43,113 +31,136 @@ bytes_are line = refl
 abbrev field : List ℕ → ℕ → List ℕ
 field text at = take COLUMNS (drop at text)
 
-module _ (ks : List Kind) (text : List ℕ) (at j : ℕ) where
-  pub good_none : length ks ≤ j → good_fields (drop j ks) (drop (at + COLUMNS * j) text) ≡ true
+module _ (ks : List Kind) (text : List ℕ) (j : ℕ) where
+  pub good_more : j < length ks
+      → good_fields (drop j ks) (drop (COLUMNS * j) text)
+      ≡ (is_some (word_of (get_or ks j Code) (field text (COLUMNS * j))) && good_fields (drop (j + 1) ks) (drop (COLUMNS * (j + 1)) text))
   unfolding good_fields
-  good_none h = rw (drop_of_length-le ks h) refl
+  good_more h = rw (drop_more ks j Code h, drop-drop COLUMNS (COLUMNS * j) text, next j) refl
+    where
+      next : (j : ℕ) → COLUMNS * j + COLUMNS ≡ COLUMNS * (j + 1)
+      next j = omega arith
 
-  module _ (h : j < length ks) where
-    good_more : good_fields (drop j ks) (drop (at + COLUMNS * j) text)
-        ≡ (is_good (word_of (get_or ks j Code) (field text (at + COLUMNS * j))) && good_fields (drop (j + 1) ks) (drop (at + COLUMNS * (j + 1)) text))
-    unfolding good_fields
-    good_more = rw (drop-cons ks j Code h, drop-drop COLUMNS (at + COLUMNS * j) text, next at j, add-one j) refl
-
-    pub good_stops : is_good (word_of (get_or ks j Code) (field text (at + COLUMNS * j))) ≡ false → good_fields (drop j ks) (drop (at + COLUMNS * j) text) ≡ false
-    good_stops e = good_more ∙ rw e refl
-
-    pub good_goes_on : is_good (word_of (get_or ks j Code) (field text (at + COLUMNS * j))) ≡ true
-        → good_fields (drop j ks) (drop (at + COLUMNS * j) text) ≡ good_fields (drop (j + 1) ks) (drop (at + COLUMNS * (j + 1)) text)
-    good_goes_on e = good_more ∙ rw e refl
-
-module _ (ks : List Kind) (text : List ℕ) (at first n j : ℕ) where
-  pub words_none : n ≤ j → words_of (part ks (first + j) (n - j)) (drop (at + COLUMNS * j) text) ≡ []
-  unfolding words_of part
-  words_none h = rw (done j n h) refl
-
-  module _ (h : j < n) (k : first + n ≤ length ks) where
-    here : first + j < length ks
-    here = omega arith
-
-    words_more : words_of (part ks (first + j) (n - j)) (drop (at + COLUMNS * j) text)
-        ≡ value_of (word_of (get_or ks (first + j) Code) (field text (at + COLUMNS * j))) ∷ words_of (part ks (first + (j + 1)) (n - (j + 1))) (drop (at + COLUMNS * (j + 1)) text)
-    unfolding words_of part
-    words_more = rw (turn j n h, drop-cons ks (first + j) Code here, drop-drop COLUMNS (at + COLUMNS * j) text, next at j, along first j) refl
-
-    pub words_stored : (out : List ℕ) (to : ℕ)
-        → sets out (to + j) (words_of (part ks (first + j) (n - j)) (drop (at + COLUMNS * j) text))
-        ≡ sets (set out (to + j) (value_of (word_of (get_or ks (first + j) Code) (field text (at + COLUMNS * j))))) (to + (j + 1)) (words_of (part ks (first + (j + 1)) (n - (j + 1))) (drop (at + COLUMNS * (j + 1)) text))
-    words_stored out to = rw (words_more, along to j) refl
+  pub good_none : length ks ≤ j → good_fields (drop j ks) (drop (COLUMNS * j) text) ≡ true
+  unfolding good_fields
+  good_none h = rw (drop_all j ks h) refl
 
 pub words_length : (ks : List Kind) (text : List ℕ) → length (words_of ks text) ≡ length ks
 unfolding words_of
 words_length [] text = refl
 words_length (k ∷ ks) text = ap suc (words_length ks (drop COLUMNS text))
 
-pub part_length : (ks : List Kind) (first n : ℕ) → first + n ≤ length ks → length (part ks first n) ≡ n
-unfolding part
-part_length ks first n h = length-take-le n (drop first ks) (rw (length-drop first ks) (omega arith))
-
 -- the word at a place of a line
-pub words_at : (ks : List Kind) (text : List ℕ) (j : ℕ) → j < length ks → get_or (words_of ks text) j 0 ≡ value_of (word_of (get_or ks j Code) (field text (COLUMNS * j)))
+pub words_at : (ks : List Kind) (text : List ℕ) (j : ℕ) → j < length ks → get_or (words_of ks text) j 0 ≡ unwrap_or (word_of (get_or ks j Code) (field text (COLUMNS * j))) 0
 unfolding words_of
-words_at [] text j h = absurd (native.Mathlib.Nat.not-suc-le-zero h)
+words_at [] text j h = absurd (omega arith)
 words_at (k ∷ ks) text zero h = refl
 words_at (k ∷ ks) text (suc j) h =
-    words_at ks (drop COLUMNS text) j (native.Mathlib.Nat.le_of_suc-le-suc h) ∙ rw (drop-drop (COLUMNS * j) COLUMNS text, over j) refl
+    words_at ks (drop COLUMNS text) j (omega arith) ∙ rw (drop-drop (COLUMNS * j) COLUMNS text, over j) refl
   where
     over : (j : ℕ) → COLUMNS + COLUMNS * j ≡ COLUMNS * suc j
     over j = omega arith
 
--- ---- a line
+-- fields that were read one by one
+pub words_read : (ks : List Kind) (text : List ℕ) (first : ℕ) (out : List ℕ)
+    → first + length out ≤ length ks
+    → ((k : ℕ) → k < length out → get_or out k 0 ≡ unwrap_or (word_of (get_or ks (first + k) Code) (field text (COLUMNS * (first + k)))) 0)
+    → out ≡ words_of (take (length out) (drop first ks)) (drop (COLUMNS * first) text)
+words_read ks text first out h each =
+    ext_get_or 0 out (words_of part rest) (sym (words_length part rest ∙ size))
+    (λ k l. each k l ∙ sym (words_at part rest k (rw size l) ∙ rw (get_or-take (length out) (drop first ks) k Code l, get_or-drop first ks k Code, drop-drop (COLUMNS * k) (COLUMNS * first) text, along first k) refl))
+  where
+    part : List Kind
+    part = take (length out) (drop first ks)
 
-module _ (line : Line) (text : List ℕ) (at : ℕ) where
-  pub line_bad : good_fields (fields_of line) (drop at text) ≡ false → good_line line (drop at text) ≡ false
-  unfolding good_line
-  line_bad e = rw e refl
+    rest : List ℕ
+    rest = drop (COLUMNS * first) text
 
-  pub line_fed : good_fields (fields_of line) (drop at text) ≡ true → good_line line (drop at text) ≡ eqb (get_or text (at + COLUMNS * length (fields_of line)) 0) 10
-  unfolding good_line
-  line_fed e = rw (e, get_or-drop at text (COLUMNS * length (fields_of line)) 0) refl
+    size : length part ≡ length out
+    size = length-take-le (length out) (drop first ks) (rw length-drop (omega arith))
+
+    along : (first k : ℕ) → COLUMNS * first + COLUMNS * k ≡ COLUMNS * (first + k)
+    along first k = omega arith
 
 -- ---- lines one after another
 
--- what is left to read shrinks by a line
-pub one_less : (i n w : ℕ) → i < n → (n - i) * w ≡ w + (n - (i + 1)) * w
-one_less i n w h = rw (turn i n h) (suc-mul (n - (i + 1)) w ∙ swap ((n - (i + 1)) * w) w)
-  where
-    swap : (a b : ℕ) → a + b ≡ b + a
-    swap a b = omega arith
+module _ (line : Line) (text : List ℕ) (i n : ℕ) where
+  pub lines_more : i < n
+      → good_lines line (n - i) (drop (i * bytes_of line) text)
+      ≡ (good_line line (drop (i * bytes_of line) text) && good_lines line (n - (i + 1)) (drop ((i + 1) * bytes_of line) text))
+  unfolding good_lines
+  lines_more h = rw (turn i n h, drop-drop (bytes_of line) (i * bytes_of line) text, next i (bytes_of line)) refl
+    where
+      turn : (i n : ℕ) → i < n → n - i ≡ suc (n - (i + 1))
+      turn i n h = omega arith
 
-module _ (line : Line) (text : List ℕ) (p i n : ℕ) where
-  pub lines_none : n ≤ i → good_lines line (n - i) (drop p text) ≡ true
+      next : (i b : ℕ) → i * b + b ≡ (i + 1) * b
+      next i b = omega arith
+
+  pub lines_none : n ≤ i → good_lines line (n - i) (drop (i * bytes_of line) text) ≡ true
   unfolding good_lines
   lines_none h = rw (done i n h) refl
-
-  module _ (h : i < n) where
-    lines_more : good_lines line (n - i) (drop p text) ≡ (good_line line (drop p text) && good_lines line (n - (i + 1)) (drop (p + bytes_of line) text))
-    unfolding good_lines
-    lines_more = rw (turn i n h, drop-drop (bytes_of line) p text) refl
-
-    pub lines_stop : good_line line (drop p text) ≡ false → good_lines line (n - i) (drop p text) ≡ false
-    lines_stop e = lines_more ∙ rw e refl
-
-    pub lines_go_on : good_line line (drop p text) ≡ true → good_lines line (n - i) (drop p text) ≡ good_lines line (n - (i + 1)) (drop (p + bytes_of line) text)
-    lines_go_on e = lines_more ∙ rw e refl
-
-module _ (ks : List Kind) (line : Line) (text : List ℕ) (p f i rows : ℕ) where
-  pub rows_none : rows ≤ i → rows_of ks line (rows - i) (drop (p + f) text) ≡ []
-  unfolding rows_of
-  rows_none h = rw (done i rows h) refl
-
-  rows_more : i < rows → rows_of ks line (rows - i) (drop (p + f) text) ≡ words_of ks (drop (p + f) text) ++ rows_of ks line (rows - (i + 1)) (drop (p + bytes_of line + f) text)
-  unfolding rows_of
-  rows_more h = rw (turn i rows h, drop-drop (bytes_of line) (p + f) text, over p f (bytes_of line)) refl
     where
-      over : (p f b : ℕ) → p + f + b ≡ p + b + f
-      over p f b = omega arith
+      done : (i n : ℕ) → n ≤ i → n - i ≡ 0
+      done i n h = omega arith
 
-  pub rows_stored : i < rows → (out : List ℕ) (q n : ℕ) → length ks ≡ n
-      → sets out q (rows_of ks line (rows - i) (drop (p + f) text)) ≡ sets (sets out q (words_of ks (drop (p + f) text))) (q + n) (rows_of ks line (rows - (i + 1)) (drop (p + bytes_of line + f) text))
-  rows_stored h out q n e =
-      rw (rows_more h)
-      (sets_append (words_of ks (drop (p + f) text)) (rows_of ks line (rows - (i + 1)) (drop (p + bytes_of line + f) text)) out q ∙ rw (words_length ks (drop (p + f) text), e) refl)
+-- one line more
+rows_suc : (ks : List Kind) (line : Line) (i : ℕ) (text : List ℕ)
+    → rows_of ks line (suc i) text ≡ rows_of ks line i text ++ words_of ks (drop (i * bytes_of line) text)
+unfolding rows_of
+rows_suc ks line zero text = rw (zero-mul, append-nil) refl
+rows_suc ks line (suc i) text =
+    ap (λ (ws : List ℕ). words_of ks text ++ ws) (rows_suc ks line i (drop (bytes_of line) text))
+    ∙ rw (drop-drop (i * bytes_of line) (bytes_of line) text, next i (bytes_of line))
+    (sym (append_assoc (words_of ks text) (rows_of ks line i (drop (bytes_of line) text)) (words_of ks (drop (suc i * bytes_of line) text))))
+  where
+    next : (i b : ℕ) → b + i * b ≡ suc i * b
+    next i b = rw suc-mul (omega arith)
+
+pub rows_more : (ks : List Kind) (line : Line) (i : ℕ) (text : List ℕ)
+    → rows_of ks line (i + 1) text ≡ rows_of ks line i text ++ words_of ks (drop (i * bytes_of line) text)
+rows_more ks line i text = rw add-one (rows_suc ks line i text)
+
+pub rows_length : (ks : List Kind) (line : Line) (n : ℕ) (text : List ℕ) → length (rows_of ks line n text) ≡ n * length ks
+unfolding rows_of
+rows_length ks line zero text = sym (zero-mul (length ks))
+rows_length ks line (suc n) text =
+    length-append (words_of ks text) (rows_of ks line n (drop (bytes_of line) text))
+    ∙ rw (words_length ks text, rows_length ks line n (drop (bytes_of line) text), suc-mul n (length ks)) (omega arith)
+
+-- a list that is written from its first place to its last
+pub sets_all : (l vs : List ℕ) → length vs ≡ length l → sets l 0 vs ≡ vs
+sets_all l vs e = sets-eq vs l 0 (omega arith) ∙ rw (drop_all (0 + length vs) l (omega arith)) (append-nil vs)
+
+-- ---- the rows of n fields of each line
+
+-- the first i + 1 lines end by the last
+pub one_more : (i rows b : ℕ) → i < rows → i * b + b ≤ rows * b
+one_more i rows b h = let k : suc i * b ≤ rows * b = mul-le-mul_right b h in rw suc-mul at k
+
+-- the words of one row more, written behind those before
+pub row_written : (ks : List Kind) (line : Line) (text l out new : List ℕ) (first n i rows : ℕ)
+    → first + n ≤ length ks
+    → i < rows
+    → rows * n ≤ length l
+    → out ≡ sets l 0 (rows_of (take n (drop first ks)) line i (drop (COLUMNS * first) text))
+    → new ≡ words_of (take n (drop first ks)) (drop (COLUMNS * first) (drop (i * bytes_of line) text))
+    → put_mid (i * n) n out new ≡ sets l 0 (rows_of (take n (drop first ks)) line (i + 1) (drop (COLUMNS * first) text))
+row_written ks line text l out new first n i rows in_line here in_out e f =
+    let words = rows_of part line i rest in
+    let below : i * n + n ≤ rows * n = one_more i rows n here in
+    let long : length words ≡ i * n = rows_length part line i rest ∙ ap (λ (k : ℕ). i * k) size in
+    part_sets out new (i * n) n (ap length f ∙ words_length part _ ∙ size) (rw (e, length-sets) (omega arith))
+    ∙ rw (e, f, rows_more part line i rest, sets_append words (words_of part (drop (i * bytes_of line) rest)) l 0, long, zero-add, drop-drop (COLUMNS * first) (i * bytes_of line) text, drop-drop (i * bytes_of line) (COLUMNS * first) text, swap (i * bytes_of line) (COLUMNS * first)) refl
+  where
+    part : List Kind
+    part = take n (drop first ks)
+
+    rest : List ℕ
+    rest = drop (COLUMNS * first) text
+
+    size : length part ≡ n
+    size = length-take-le n (drop first ks) (rw length-drop (omega arith))
+
+    swap : (a b : ℕ) → a + b ≡ b + a
+    swap a b = omega arith

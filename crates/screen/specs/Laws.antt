@@ -1,6 +1,6 @@
 -- What the definitions of this crate mean, as statements. `proofs/Laws.antt` and `proofs/Exactly.antt` prove each, under its name in small
 -- letters. Assumes nothing.
-use Rattle.std.specs.Prelude.{ℕ, suc, ◌+◌, ◌*◌, ◌≤◌, ◌↔◌, ◌≡◌, true, false, List, [], ◌∷◌, ◌++◌, length}
+use Rattle.std.specs.Prelude.{ℕ, suc, ◌+◌, ◌*◌, ◌≤◌, ◌↔◌, ◌≡◌, true, false, List, [], ◌∷◌, ◌++◌, length, Result, Err}
 use Rattle.style_record.specs.Record.{style_words}
 use Rattle.tree_record.specs.Candidate.{candidate_width}
 use Rattle.screen_fields.specs.declared.format.Kind.{Kind}
@@ -8,8 +8,10 @@ use Rattle.screen_fields.specs.declared.format.Line.{Line}
 use Rattle.screen_fields.specs.declared.format.Line.TheVariants.{First, Item, Candidate}
 use Rattle.screen_fields.specs.Format.{reply_width, fields_of, FIRST_BYTES, ITEM_BYTES, CANDIDATE_BYTES, MAX_BYTES}
 use Rattle.screen_fields.specs.Laws.{GoodField}
-use Rattle.screen.specs.declared.Screen.{Screen}
-use Rattle.screen.specs.declared.Screen.TheVariants.{BadLine}
+use Rattle.refusal.specs.declared.Refusal.{Refusal}
+use Rattle.refusal.specs.declared.Refusal.TheVariants.{BadScreenLine}
+use Rattle.screen.specs.declared.LineCounts.{LineCounts}
+use Rattle.screen.specs.declared.ScreenLists.{ScreenLists}
 use Rattle.screen.specs.Screen.{item_count, candidate_count, is_screen, styles_of, replies_of, candidates_of, ScreenRead}
 
 -- ---- Refusal 8, "bad screen line", as a proposition: a text that is no screen.
@@ -62,7 +64,7 @@ ScreenWords =
 -- what is no screen is refused, and no word is written
 abbrev pub RefusalWritesNothing : Type 0
 RefusalWritesNothing =
-    (text : List ℕ) (r : Screen) (header₀ header₁ styles₀ styles₁ replies₀ replies₁ candidates₀ candidates₁ : List ℕ)
+    (text : List ℕ) (r : Result LineCounts Refusal) (before after : ScreenLists)
     → is_screen text ≡ false
-    → ScreenRead text r header₀ header₁ styles₀ styles₁ replies₀ replies₁ candidates₀ candidates₁
-    → (r ≡ BadLine) × (header₁ ≡ header₀) × (styles₁ ≡ styles₀) × (replies₁ ≡ replies₀) × (candidates₁ ≡ candidates₀)
+    → ScreenRead text r before after
+    → (r ≡ Err BadScreenLine) × (after ≡ before)

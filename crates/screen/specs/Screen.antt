@@ -1,20 +1,22 @@
 -- What a text means as a screen, read from its front: a first line, item lines, candidate lines, and nothing else. Assumes nothing.
-use Rattle.std.specs.Prelude.{ℕ, zero, suc, ◌+◌, ◌*◌, ◌≡◌, Bool, true, cond, ◌&&◌, List, [], ◌∷◌, ◌++◌, length, take, drop, get_or, eqb, leb}
+use Rattle.std.specs.Prelude.{ℕ, zero, suc, ◌+◌, ◌*◌, ◌≤◌, ◌≡◌, Bool, true, cond, ◌&&◌, List, [], ◌∷◌, ◌++◌, length, take, drop, get_or, eqb, leb, Result, Ok, Err, is_some, unwrap_or}
 use Rattle.std.proofs.lemmas.List.Edits.{sets}
 use Rattle.screen_fields.specs.declared.format.Kind.{Kind}
 use Rattle.screen_fields.specs.declared.format.Line.{Line}
 use Rattle.screen_fields.specs.declared.format.Line.TheVariants.{First, Item, Candidate}
-use Rattle.screen.specs.declared.Screen.{Screen}
-use Rattle.screen.specs.declared.Screen.TheVariants.{BadLine, Read}
+use Rattle.refusal.specs.declared.Refusal.{Refusal}
+use Rattle.refusal.specs.declared.Refusal.TheVariants.{BadScreenLine}
+use Rattle.screen.specs.declared.LineCounts.{LineCounts}
+use Rattle.screen.specs.declared.ScreenLists.{ScreenLists}
 use Rattle.screen_fields.specs.Format.{first_fields, style_fields, reply_fields, candidate_fields, fields_of, ITEM_COUNT, CANDIDATE_COUNT, COLUMNS, bytes_of, MAX_ITEMS, MAX_CANDIDATES}
-use Rattle.screen_fields.specs.Field.{word_of, is_good, value_of}
+use Rattle.screen_fields.specs.Field.{word_of}
 
 -- ---- lines
 
 -- every field stands for a word
 unfoldable pub good_fields : List Kind → List ℕ → Bool
 good_fields [] text = true
-good_fields (k ∷ ks) text = is_good (word_of k (take COLUMNS text)) && good_fields ks (drop COLUMNS text)
+good_fields (k ∷ ks) text = is_some (word_of k (take COLUMNS text)) && good_fields ks (drop COLUMNS text)
 
 -- and a line feed ends them
 unfoldable pub good_line : Line → List ℕ → Bool
@@ -24,10 +26,10 @@ unfoldable pub good_lines : Line → ℕ → List ℕ → Bool
 good_lines l zero text = true
 good_lines l (suc n) text = good_line l text && good_lines l n (drop (bytes_of l) text)
 
--- the words of fields
+-- the words of fields; a field that stands for none counts as 0
 unfoldable pub words_of : List Kind → List ℕ → List ℕ
 words_of [] text = []
-words_of (k ∷ ks) text = value_of (word_of k (take COLUMNS text)) ∷ words_of ks (drop COLUMNS text)
+words_of (k ∷ ks) text = unwrap_or (word_of k (take COLUMNS text)) 0 ∷ words_of ks (drop COLUMNS text)
 
 -- the words of these fields in each of n lines, where the text starts with the first line's
 unfoldable pub rows_of : List Kind → Line → ℕ → List ℕ → List ℕ
@@ -64,8 +66,16 @@ is_screen text =
     && good_lines Item (item_count text) (drop (bytes_of First) text)
     && good_lines Candidate (candidate_count text) (drop (candidates_at (item_count text)) text)
 
-unfoldable pub answer_of : List ℕ → Screen
-answer_of text = cond (is_screen text) (Read (item_count text) (candidate_count text)) BadLine
+abbrev pub counts_of : List ℕ → LineCounts
+counts_of text = record { items = item_count text; candidates = candidate_count text }
+
+-- so many lines, or the refusal
+unfoldable pub answer_of : List ℕ → Result LineCounts Refusal
+answer_of text = cond (is_screen text) (Ok (counts_of text)) (Err BadScreenLine)
+
+-- at most 128 items and 256 candidates
+abbrev pub FewLines : LineCounts → Type 0
+FewLines counts = (counts.items ≤ MAX_ITEMS) × (counts.candidates ≤ MAX_CANDIDATES)
 
 -- the style table, and six reply words an item
 unfoldable pub styles_of : List ℕ → List ℕ
@@ -84,9 +94,9 @@ unfoldable pub written : Bool → List ℕ → List ℕ → List ℕ
 written good before words = cond good (sets before 0 words) before
 
 -- the answer r, and each lent list after
-pub record ScreenRead (text : List ℕ) (r : Screen) (header₀ header₁ styles₀ styles₁ replies₀ replies₁ candidates₀ candidates₁ : List ℕ) : Type 0 where
+pub record ScreenRead (text : List ℕ) (r : Result LineCounts Refusal) (before after : ScreenLists) : Type 0 where
   pub answer : r ≡ answer_of text
-  pub header : header₁ ≡ written (is_screen text) header₀ (header_of text)
-  pub styles : styles₁ ≡ written (is_screen text) styles₀ (styles_of text)
-  pub replies : replies₁ ≡ written (is_screen text) replies₀ (replies_of text)
-  pub candidates : candidates₁ ≡ written (is_screen text) candidates₀ (candidates_of text)
+  pub header : after.header ≡ written (is_screen text) before.header (header_of text)
+  pub styles : after.styles ≡ written (is_screen text) before.styles (styles_of text)
+  pub replies : after.replies ≡ written (is_screen text) before.replies (replies_of text)
+  pub candidates : after.candidates ≡ written (is_screen text) before.candidates (candidates_of text)

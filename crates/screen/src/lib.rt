@@ -1,15 +1,17 @@
 // The screen file that `boxlist` reads.
 #![tactic(auto)]
 
-ghost use Rattle.std.specs.Prelude.{◌≡◌, ◌+◌, ◌*◌, ◌≤◌, length, take, drop};
+ghost use Rattle.std.specs.Prelude.{◌≡◌, ◌+◌, ◌*◌, ◌≤◌, length, take, drop, replicate, unwrap_or, IfOk};
 ghost use Rattle.std.proofs.lemmas.List.Edits.{sets};
-ghost use Rattle.screen_fields.specs.Format.{fields_of, COLUMNS, bytes_of};
+ghost use Rattle.style_record.specs.Record.{style_words};
+ghost use Rattle.tree_record.specs.Candidate.{candidate_width};
+ghost use Rattle.screen_fields.specs.Format.{fields_of, COLUMNS, bytes_of, FIRST_BYTES, ITEM_BYTES, CANDIDATE_BYTES, header_width, reply_width, MAX_ITEMS, MAX_CANDIDATES};
 ghost use Rattle.screen_fields.specs.declared.format.Kind.TheVariants.{Code};
-ghost use Rattle.screen_fields.specs.Field.{word_of, value_of};
-ghost use Rattle.screen_fields.specs.Place.{part};
-ghost use Rattle.screen.specs.Screen.{good_fields, good_line, good_lines, words_of, rows_of, answer_of, ScreenRead};
+ghost use Rattle.screen_fields.specs.Field.{word_of};
+ghost use Rattle.screen.specs.Screen.{good_fields, good_line, good_lines, words_of, rows_of, answer_of, FewLines, ScreenRead};
 
-use screen_fields::field::{is_good, value_at};
+use refusal::Refusal;
+use screen_fields::field::word_at;
 use screen_fields::format::{
     CANDIDATE_BYTES, CANDIDATE_COUNT, COLUMNS, FIRST_BYTES, HEADER_WORDS, ITEM_BYTES, ITEM_COUNT,
     Kind, Line, MAX_CANDIDATES, MAX_ITEMS, REPLY_WORDS, bytes_of, kind_of, width_of,
@@ -17,184 +19,179 @@ use screen_fields::format::{
 use style_record::words::STYLE_WORDS;
 use tree_record::candidate::CANDIDATE_WORDS;
 
-// A text is no screen (refusal 8, "bad screen line"), or one with so many items and candidates.
+// How many item and candidate lines a screen has.
 #[derive(Clone, Copy)]
-pub enum Screen {
-    BadLine,
-    Read(usize, usize),
+pub struct LineCounts {
+    pub items: usize,
+    pub candidates: usize,
 }
 
-// Whether every field of the line at a place stands for a word.
-fn good_fields(text: &[u8], at: usize, line: Line) -> bool
-    requires { at + COLUMNS * length (fields_of line) ≤ length text.now }
-    ensures { result ≡ good_fields (fields_of line) (drop at text.now) }
+// The words of a screen, with room for those of the largest: the header's, the style table, six reply words an item, and the candidates.
+#[derive(Drop)]
+pub struct ScreenLists {
+    pub header: [u32; HEADER_WORDS],
+    pub styles: [u32; MAX_ITEMS * STYLE_WORDS],
+    pub replies: [u32; MAX_ITEMS * REPLY_WORDS],
+    pub candidates: [u32; MAX_CANDIDATES * CANDIDATE_WORDS],
+}
+
+impl ScreenLists {
+    // Lists of one word throughout.
+    pub fn filled(word: u32) -> ScreenLists
+        ensures header { result.header ≡ replicate header_width word }
+        ensures styles { result.styles ≡ replicate (MAX_ITEMS * style_words) word }
+        ensures replies { result.replies ≡ replicate (MAX_ITEMS * reply_width) word }
+        ensures candidates { result.candidates ≡ replicate (MAX_CANDIDATES * candidate_width) word }
+    {
+        ScreenLists {
+            header: [word; HEADER_WORDS],
+            styles: [word; MAX_ITEMS * STYLE_WORDS],
+            replies: [word; MAX_ITEMS * REPLY_WORDS],
+            candidates: [word; MAX_CANDIDATES * CANDIDATE_WORDS],
+        }
+    }
+}
+
+// Whether every field of the line that a text starts with stands for a word.
+#[tactic(auto, using(crate::proofs::Lines::good_more, crate::proofs::Lines::good_none))]
+fn good_fields(text: &[u8], line: Line) -> bool
+    requires { COLUMNS * length (fields_of line) ≤ length text.now }
+    ensures { result ≡ good_fields (fields_of line) text.now }
 {
-    let n = width_of(line);
-    let mut j: usize = 0;
-    while j < n {
-        if is_good(text, at + COLUMNS * j, kind_of(line, j)) {
-            j += 1;
-        } else {
+    for j in 0..width_of(line) {
+        if word_at(text, COLUMNS * j, kind_of(line, j)).is_none() {
             return false;
         }
     }
     true
 }
 
-// Whether the line at a place is good: its fields, and the line feed.
-fn good_line(text: &[u8], at: usize, line: Line) -> bool
-    requires { at + bytes_of line ≤ length text.now }
-    ensures { result ≡ good_line line (drop at text.now) }
+// Whether the line that a text starts with is good: its fields, and the line feed.
+#[tactic(auto, using(crate::proofs::Lines::bytes_are, crate::proofs::Lines::width_small), unfolding(crate::specs::Screen::good_line))]
+fn good_line(text: &[u8], line: Line) -> bool
+    requires { bytes_of line ≤ length text.now }
+    ensures { result ≡ good_line line text.now }
 {
-    if good_fields(text, at, line) {
-        return text[at + COLUMNS * width_of(line)] == b'\n';
-    }
-    false
+    good_fields(text, line) && text[COLUMNS * width_of(line)] == b'\n'
 }
 
-// Whether n lines from a place on are good.
-fn good_lines(text: &[u8], at: usize, line: Line, n: usize) -> bool
-    requires { at + n * bytes_of line ≤ length text.now }
-    ensures { result ≡ good_lines line n (drop at text.now) }
+// Whether the n lines that a text starts with are good.
+#[tactic(auto, using(crate::proofs::Lines::lines_more, crate::proofs::Lines::lines_none, std::proofs::lemmas::List::take_rest))]
+fn good_lines(text: &[u8], line: Line, n: usize) -> bool
+    requires { n * bytes_of line ≤ length text.now }
+    ensures { result ≡ good_lines line n text.now }
 {
-    let step = bytes_of(line);
-    let mut p = at;
-    let mut i: usize = 0;
-    while i < n {
-        if good_line(text, p, line) {
-            p += step;
-        } else {
+    for i in 0..n {
+        if !good_line(&text[i * bytes_of(line)..], line) {
             return false;
         }
-        i += 1;
     }
     true
 }
 
-// Reads n fields of a line, from the one at a place on, into words from `to` on.
-fn read_fields(
-    text: &[u8],
-    at: usize,
-    line: Line,
-    first: usize,
-    n: usize,
-    out: &mut [u32],
-    to: usize,
-)
-    requires n_in_bounds { at + COLUMNS * n ≤ length text.now }
-    requires n_in_bounds_2 { first + n ≤ length (fields_of line) }
-    requires n_in_bounds_3 { to + n ≤ length out.old }
-    ensures { out.new ≡ sets out.old to (words_of (part (fields_of line) first n) (drop at text.now)) }
+// Reads the fields of a line from a first one on, as many as there is room for, of a text that starts with the line.
+#[tactic(auto, using(crate::proofs::Lines::width_small))]
+fn read_fields(text: &[u8], line: Line, first: usize, out: &mut [u32])
+    requires in_text { COLUMNS * (first + length out.old) ≤ length text.now }
+    requires in_line { first + length out.old ≤ length (fields_of line) }
+    ensures { out.new ≡ words_of (take (length out.old) (drop first (fields_of line))) (drop (COLUMNS * first) text.now) }
 {
-    let mut j: usize = 0;
-    while j < n {
-        out[to + j] = value_at(text, at + COLUMNS * j, kind_of(line, first + j));
-        j += 1;
+    for (j, word) in out.iter_mut().enumerate() {
+        let field = first + j;
+        *word = word_at(text, COLUMNS * field, kind_of(line, field)).unwrap_or(0);
     }
 }
 
-// Reads the same fields of each of `rows` lines from a place on, one line's words after another.
-fn read_rows(
-    text: &[u8],
-    at: usize,
-    line: Line,
-    first: usize,
-    n: usize,
-    rows: usize,
-    out: &mut [u32],
-)
-    requires line_in_bounds { at + rows * bytes_of line ≤ length text.now }
-    requires n_in_bounds { first + n ≤ length (fields_of line) }
-    requires n_in_bounds_2 { rows * n ≤ length out.old }
-    ensures { out.new ≡ sets out.old 0 (rows_of (part (fields_of line) first n) line rows (drop (at + COLUMNS * first) text.now)) }
+// Reads n fields of each of the lines that a text starts with, one line's words after another.
+fn read_rows(text: &[u8], line: Line, first: usize, n: usize, rows: usize, out: &mut [u32])
+    requires in_text { rows * bytes_of line ≤ length text.now }
+    requires in_line { first + n ≤ length (fields_of line) }
+    requires in_out { rows * n ≤ length out.old }
+    ensures { out.new ≡ sets out.old 0 (rows_of (take n (drop first (fields_of line))) line rows (drop (COLUMNS * first) text.now)) }
 {
-    let step = bytes_of(line);
-    let mut p = at;
-    let mut q: usize = 0;
-    let mut i: usize = 0;
-    while i < rows {
-        read_fields(text, p + COLUMNS * first, line, first, n, out, q);
-        p += step;
-        q += n;
-        i += 1;
+    for i in 0..rows {
+        let at = i * n;
+        read_fields(
+            &text[i * bytes_of(line)..],
+            line,
+            first,
+            &mut out[at..at + n],
+        );
     }
 }
 
 // A count of the first line.
 fn count_at(text: &[u8], j: usize) -> usize
     requires { COLUMNS * j + COLUMNS ≤ length text.now }
-    ensures { result ≡ value_of (word_of Code (take COLUMNS (drop (COLUMNS * j) text.now))) }
+    ensures { result ≡ unwrap_or (word_of Code (take COLUMNS (drop (COLUMNS * j) text.now))) 0 }
 {
-    value_at(text, COLUMNS * j, Kind::Code) as usize
+    word_at(text, COLUMNS * j, Kind::Code).unwrap_or(0) as usize
 }
 
-// Whether a text is a screen: the whole of it is read, and no word written.
-pub fn check_screen(text: &[u8]) -> Screen
-    ensures { result ≡ answer_of text.now }
+// How many lines a screen has, or that a text is none: the whole of it is read, and no word written.
+#[tactic(auto, using(crate::proofs::Whole::items_told, crate::proofs::Whole::candidates_told, screen_fields::proofs::Table::line_bytes), unfolding(crate::specs::Screen::answer_of, crate::specs::Screen::is_screen))]
+pub fn check_screen(text: &[u8]) -> Result<LineCounts, Refusal>
+    ensures answer { result ≡ answer_of text.now }
+    ensures few { IfOk result FewLines }
+    ensures bytes { IfOk result (λ counts. length text.now ≡ FIRST_BYTES + counts.items * ITEM_BYTES + counts.candidates * CANDIDATE_BYTES) }
 {
-    if text.len() < FIRST_BYTES {
-        return Screen::BadLine;
+    if text.len() < FIRST_BYTES || !good_line(text, Line::First) {
+        return Err(Refusal::BadScreenLine);
     }
-    if good_line(text, 0, Line::First) {
-        let n = count_at(text, ITEM_COUNT);
-        let m = count_at(text, CANDIDATE_COUNT);
-        if MAX_ITEMS < n {
-            return Screen::BadLine;
-        }
-        if MAX_CANDIDATES < m {
-            return Screen::BadLine;
-        }
-        let first = FIRST_BYTES + n * ITEM_BYTES;
-        if text.len() != first + m * CANDIDATE_BYTES {
-            return Screen::BadLine;
-        }
-        if good_lines(text, FIRST_BYTES, Line::Item, n) {
-            if good_lines(text, first, Line::Candidate, m) {
-                return Screen::Read(n, m);
-            }
-            return Screen::BadLine;
-        }
-        return Screen::BadLine;
+    let items = count_at(text, ITEM_COUNT);
+    let candidates = count_at(text, CANDIDATE_COUNT);
+    if MAX_ITEMS < items {
+        return Err(Refusal::BadScreenLine);
     }
-    Screen::BadLine
+    if MAX_CANDIDATES < candidates {
+        return Err(Refusal::BadScreenLine);
+    }
+    let last = FIRST_BYTES + items * ITEM_BYTES;
+    if text.len() != last + candidates * CANDIDATE_BYTES {
+        return Err(Refusal::BadScreenLine);
+    }
+    if !good_lines(&text[FIRST_BYTES..], Line::Item, items) {
+        return Err(Refusal::BadScreenLine);
+    }
+    if !good_lines(&text[last..], Line::Candidate, candidates) {
+        return Err(Refusal::BadScreenLine);
+    }
+    Ok(LineCounts { items, candidates })
 }
 
-// Reads a screen: the header's words, the style table, six reply words an item, and the candidates. What is no screen writes nothing.
-pub fn read_screen(
-    text: &[u8],
-    header: &mut [u32; HEADER_WORDS],
-    styles: &mut [u32; MAX_ITEMS * STYLE_WORDS],
-    replies: &mut [u32; MAX_ITEMS * REPLY_WORDS],
-    candidates: &mut [u32; MAX_CANDIDATES * CANDIDATE_WORDS],
-) -> Screen
-    ensures { ScreenRead text.now result header.old header.new styles.old styles.new replies.old replies.new candidates.old candidates.new }
+// Reads a screen's words to the front of each list. What is no screen writes nothing.
+#[tactic(auto, using(screen_fields::proofs::Table::line_widths, screen_fields::proofs::Table::line_bytes))]
+pub fn read_screen(text: &[u8], lists: &mut ScreenLists) -> Result<LineCounts, Refusal>
+    ensures read { ScreenRead text.now result lists.old lists.new }
+    ensures few { IfOk result FewLines }
 {
-    let answer = check_screen(text);
-    match answer {
-        Screen::BadLine => Screen::BadLine,
-        Screen::Read(n, m) => {
-            read_fields(text, 0, Line::First, 0, HEADER_WORDS, header, 0);
-            read_rows(text, FIRST_BYTES, Line::Item, 0, STYLE_WORDS, n, styles);
-            read_rows(
-                text,
-                FIRST_BYTES,
-                Line::Item,
-                STYLE_WORDS,
-                REPLY_WORDS,
-                n,
-                replies,
-            );
-            let last = FIRST_BYTES + n * ITEM_BYTES;
-            read_rows(
-                text,
-                last,
-                Line::Candidate,
-                0,
-                CANDIDATE_WORDS,
-                m,
-                candidates,
-            );
-            Screen::Read(n, m)
-        }
-    }
+    let counts = check_screen(text)?;
+    read_fields(text, Line::First, 0, &mut lists.header);
+    let items = &text[FIRST_BYTES..];
+    read_rows(
+        items,
+        Line::Item,
+        0,
+        STYLE_WORDS,
+        counts.items,
+        &mut lists.styles,
+    );
+    read_rows(
+        items,
+        Line::Item,
+        STYLE_WORDS,
+        REPLY_WORDS,
+        counts.items,
+        &mut lists.replies,
+    );
+    let candidates = &text[FIRST_BYTES + counts.items * ITEM_BYTES..];
+    read_rows(
+        candidates,
+        Line::Candidate,
+        0,
+        CANDIDATE_WORDS,
+        counts.candidates,
+        &mut lists.candidates,
+    );
+    Ok(counts)
 }

@@ -4,25 +4,34 @@ use native.Mathlib.Omega.{arith}
 use mathlib.Core.Path.{◌≡◌, refl, ap, ◌∙◌}
 use mathlib.Core.Bool.{Bool, true, false, cond, ◌&&◌}
 use mathlib.Core.List.{List, [], ◌∷◌, ◌++◌}
+use Rattle.std.proofs.Common.{None}
+use lib.Dec.{leb}
 use lib.ListN.{length, replicate}
-use borrow.Author.Tests.{ne_eqb, le-leb, le-ltb}
-use Rattle.util.specs.Eighths.{float_of_count}
-use Rattle.screen_fields.specs.declared.field.Numeral.TheVariants.{Malformed, Number}
+use borrow.Author.Tests.{ne_eqb, le-leb, le-ltb, leb-true}
+use Rattle.std.proofs.lemmas.Bool.{false≢true}
+use Rattle.util.specs.Eighths.{whole, float_of_count}
 use Rattle.screen_fields.specs.Field.{unblank, is_digit, spelled, unsigned, signed, numeral_of, code_of, present_word, float_of, word_of}
 use Rattle.screen_fields.specs.Laws.{all_digits, decimal, Sign, minus, plus, none, FieldRead, CodeRead, CountRead}
-use Rattle.screen_fields.proofs.Text.{apart, digit_low}
 
 -- ---- digits
 
-spelled_read : (ds : List ℕ) (s : Bool) (v : ℕ) → all_digits ds ≡ true → spelled s v ds ≡ Number s (decimal v ds)
+spelled_read : (ds : List ℕ) (s : Bool) (v : ℕ) → all_digits ds ≡ true → spelled s v ds ≡ whole s (decimal v ds)
 unfolding spelled all_digits decimal
 spelled_read [] s v e = refl
 spelled_read (d ∷ ds) s v e = go (is_digit d) (spelled_read ds s (v * 10 + (d - 48))) e
   where
-    go : (c : Bool) → (all_digits ds ≡ true → spelled s (v * 10 + (d - 48)) ds ≡ Number s (decimal (v * 10 + (d - 48)) ds)) → (c && all_digits ds) ≡ true
-        → cond c (spelled s (v * 10 + (d - 48)) ds) Malformed ≡ Number s (decimal (v * 10 + (d - 48)) ds)
+    go : (c : Bool) → (all_digits ds ≡ true → spelled s (v * 10 + (d - 48)) ds ≡ whole s (decimal (v * 10 + (d - 48)) ds)) → (c && all_digits ds) ≡ true
+        → cond c (spelled s (v * 10 + (d - 48)) ds) None ≡ whole s (decimal (v * 10 + (d - 48)) ds)
     go true f e = f e
-    go false f e = absurd (apart e)
+    go false f e = absurd (false≢true e)
+
+digit_low : (b : ℕ) → is_digit b ≡ true → 48 ≤ b
+unfolding is_digit
+digit_low b e = leb-true 48 b (go (leb 48 b) e)
+  where
+    go : (t : Bool) → (t && leb b 57) ≡ true → t ≡ true
+    go true e = refl
+    go false e = absurd (false≢true e)
 
 first_digit : (d : ℕ) (ds : List ℕ) → all_digits (d ∷ ds) ≡ true → 48 ≤ d
 unfolding all_digits
@@ -30,16 +39,16 @@ first_digit d ds e = digit_low d (go (is_digit d) e)
   where
     go : (c : Bool) → (c && all_digits ds) ≡ true → c ≡ true
     go true e = refl
-    go false e = absurd (apart e)
+    go false e = absurd (false≢true e)
 
-unsigned_read : (ds : List ℕ) (s : Bool) → 0 < length ds → all_digits ds ≡ true → unsigned s ds ≡ Number s (decimal 0 ds)
+unsigned_read : (ds : List ℕ) (s : Bool) → 0 < length ds → all_digits ds ≡ true → unsigned s ds ≡ whole s (decimal 0 ds)
 unfolding unsigned
 unsigned_read [] s h e = absurd (omega arith)
 unsigned_read (d ∷ ds) s h e = spelled_read (d ∷ ds) s 0 e
 
 -- ---- a sign, and blanks before it
 
-signed_read : (s : Bool) (sign ds : List ℕ) → Sign s sign → 0 < length ds → all_digits ds ≡ true → signed (unblank (sign ++ ds)) ≡ Number s (decimal 0 ds)
+signed_read : (s : Bool) (sign ds : List ℕ) → Sign s sign → 0 < length ds → all_digits ds ≡ true → signed (unblank (sign ++ ds)) ≡ whole s (decimal 0 ds)
 unfolding unblank signed
 signed_read s sign ds minus h e = unsigned_read ds true h e
 signed_read s sign ds plus h e = unsigned_read ds false h e
@@ -56,7 +65,7 @@ unblank_read (suc k) bs = unblank_read k bs
 pub field_read : FieldRead
 unfolding numeral_of
 field_read bs s n f =
-    rw (f.whole, unblank_read f.blanks (f.sign ++ f.digits)) (signed_read s f.sign f.digits f.signed f.some f.all ∙ ap (Number s) f.value)
+    rw (f.whole, unblank_read f.blanks (f.sign ++ f.digits)) (signed_read s f.sign f.digits f.signed f.some f.all ∙ ap (whole s) f.value)
 
 -- ---- as a word
 

@@ -14,7 +14,7 @@ use Rattle.screen_fields.specs.declared.format.Line.{Line}
 use Rattle.screen_fields.specs.declared.format.Line.TheVariants.{First, Item, Candidate}
 use Rattle.screen_fields.specs.Format.{is_float, header_width, first_fields, style_fields, reply_width, reply_fields, candidate_fields, fields_of, bytes_of, FIRST_BYTES, ITEM_BYTES, CANDIDATE_BYTES}
 use Rattle.screen_fields.specs.Laws.{CandidateLine, item_holds_float, item_float, ItemLine, BytesByWidths}
-use Rattle.screen_fields.proofs.Text.{apart}
+use Rattle.std.proofs.lemmas.Bool.{false≢true}
 
 -- the test that the code makes
 unfoldable pub is_float_at : Line → ℕ → Bool
@@ -74,13 +74,13 @@ float_at line = told (is_float_at line) line (tested line)
 
 pub float_is : (k : Kind) → is_float k ≡ true → Eighths ≡ k
 unfolding is_float
-float_is Code e = absurd (apart e)
+float_is Code e = absurd (false≢true e)
 float_is Eighths e = refl
 
 pub code_is : (k : Kind) → is_float k ≡ false → Code ≡ k
 unfolding is_float
 code_is Code e = refl
-code_is Eighths e = absurd (apart (sym e))
+code_is Eighths e = absurd (false≢true (sym e))
 
 -- ---- sizes by the records' widths
 
@@ -96,6 +96,8 @@ pub candidate_width_lem : length (fields_of Candidate) ≡ candidate_width
 unfolding fields_of candidate_fields
 candidate_width_lem = refl
 
+pub ruleset line_widths = (first_width, item_width, candidate_width_lem)
+
 pub first_bytes : bytes_of First ≡ FIRST_BYTES
 unfolding bytes_of
 first_bytes = rw first_width refl
@@ -107,6 +109,8 @@ item_bytes = rw item_width refl
 pub candidate_bytes : bytes_of Candidate ≡ CANDIDATE_BYTES
 unfolding bytes_of
 candidate_bytes = rw candidate_width_lem refl
+
+pub ruleset line_bytes = (first_bytes, item_bytes, candidate_bytes)
 
 -- ---- laws of the lines
 

@@ -1,16 +1,11 @@
 -- A field of the screen file: blanks, at most one sign, one or more digits; and the word it stands for. Assumes nothing.
-use Rattle.std.specs.Prelude.{ℕ, ◌+◌, ◌-◌, ◌*◌, Bool, true, false, cond, ◌&&◌, List, [], ◌∷◌, eqb, leb}
+use Rattle.std.specs.Prelude.{ℕ, ◌+◌, ◌-◌, ◌*◌, Bool, true, false, cond, not, ◌&&◌, List, [], ◌∷◌, eqb, leb, Option, None, Some, Float}
 use Rattle.std.specs.Float.Ieee.{to_bits}
 use Rattle.std.specs.Float.{binary32}
-use Rattle.util.specs.declared.math.MaybeF32.{MaybeF32}
-use Rattle.util.specs.declared.math.MaybeF32.TheVariants.{None, Some}
-use Rattle.util.specs.Eighths.{float_of_count}
+use Rattle.util.specs.Eighths.{whole, float_of_count}
 use Rattle.screen_fields.specs.declared.format.Kind.{Kind}
 use Rattle.screen_fields.specs.declared.format.Kind.TheVariants.{Code, Eighths}
-use Rattle.screen_fields.specs.declared.field.Numeral.{Numeral}
-use Rattle.screen_fields.specs.declared.field.Numeral.TheVariants.{Malformed, Number}
-use Rattle.screen_fields.specs.declared.field.Word.{Word}
-use Rattle.screen_fields.specs.declared.field.Word.TheVariants.{Wrong, Of}
+use Rattle.util.specs.declared.eighths.Count.{Count}
 
 -- ---- what is spelled, in ASCII: a sign and a size
 
@@ -24,50 +19,40 @@ unfoldable pub is_digit : ℕ → Bool
 is_digit b = leb 48 b && leb b 57
 
 -- the number that all these bytes spell, after digits that spell v
-unfoldable pub spelled : Bool → ℕ → List ℕ → Numeral
-spelled s v [] = Number s v
-spelled s v (b ∷ bs) = cond (is_digit b) (spelled s (v * 10 + (b - 48)) bs) Malformed
+unfoldable pub spelled : Bool → ℕ → List ℕ → Option Count
+spelled s v [] = whole s v
+spelled s v (b ∷ bs) = cond (is_digit b) (spelled s (v * 10 + (b - 48)) bs) None
 
 -- one or more digits
-unfoldable pub unsigned : Bool → List ℕ → Numeral
-unsigned s [] = Malformed
+unfoldable pub unsigned : Bool → List ℕ → Option Count
+unsigned s [] = None
 unsigned s (b ∷ bs) = spelled s 0 (b ∷ bs)
 
 -- at most one sign, `-` or `+`, then digits
-unfoldable pub signed : List ℕ → Numeral
-signed [] = Malformed
+unfoldable pub signed : List ℕ → Option Count
+signed [] = None
 signed (b ∷ bs) = cond (eqb b 45) (unsigned true bs) (cond (eqb b 43) (unsigned false bs) (unsigned false (b ∷ bs)))
 
-unfoldable pub numeral_of : List ℕ → Numeral
+unfoldable pub numeral_of : List ℕ → Option Count
 numeral_of bs = signed (unblank bs)
 
 -- ---- the word
 
 -- a code: from 0 to 4,294,967,295; `-0` is 0
-unfoldable pub code_of : Numeral → Word
-code_of Malformed = Wrong
-code_of (Number true n) = cond (eqb n 0) (Of 0) Wrong
-code_of (Number false n) = cond (leb n 4294967295) (Of n) Wrong
+unfoldable pub code_of : Option Count → Option ℕ
+code_of None = None
+code_of (Some n) = cond (n.negative && not (eqb n.size 0)) None (cond (leb n.size 4294967295) (Some n.size) None)
 
 -- the word of a float
-unfoldable pub present_word : MaybeF32 → Word
-present_word None = Wrong
-present_word (Some x) = Of (to_bits binary32 x)
+unfoldable pub present_word : Option Float → Option ℕ
+present_word None = None
+present_word (Some x) = Some (to_bits binary32 x)
 
 -- a float: a count of eighths of size 9,999,999 at most; `-0` is +0
-unfoldable pub float_of : Numeral → Word
-float_of Malformed = Wrong
-float_of (Number s n) = present_word (float_of_count s n)
+unfoldable pub float_of : Option Count → Option ℕ
+float_of None = None
+float_of (Some n) = present_word (float_of_count n.negative n.size)
 
-unfoldable pub word_of : Kind → List ℕ → Word
+unfoldable pub word_of : Kind → List ℕ → Option ℕ
 word_of Code bs = code_of (numeral_of bs)
 word_of Eighths bs = float_of (numeral_of bs)
-
-unfoldable pub is_good : Word → Bool
-is_good Wrong = false
-is_good (Of w) = true
-
--- a wrong field counts as 0
-unfoldable pub value_of : Word → ℕ
-value_of Wrong = 0
-value_of (Of w) = w

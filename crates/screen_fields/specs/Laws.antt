@@ -1,10 +1,9 @@
 -- What the definitions of this crate mean, as statements. `proofs/Laws.antt` and `proofs/Spelled.antt` prove each, under its name in small
 -- letters. Assumes nothing.
-use Rattle.std.specs.Prelude.{ℕ, ◌+◌, ◌-◌, ◌*◌, ◌%◌, ◌<◌, ◌≤◌, ◌≡◌, Bool, true, false, cond, not, ◌&&◌, ◌||◌, List, [], ◌∷◌, ◌++◌, map, ltb, leb, eqb, length, replicate, get_or, Float}
+use Rattle.std.specs.Prelude.{ℕ, ◌+◌, ◌-◌, ◌*◌, ◌%◌, ◌<◌, ◌≤◌, ◌≡◌, Bool, true, false, cond, not, ◌&&◌, ◌||◌, List, [], ◌∷◌, ◌++◌, map, ltb, leb, eqb, length, replicate, get_or, None, Some, Float}
 use Rattle.std.specs.Float.Ieee.{of_bits, to_bits}
 use Rattle.std.specs.Float.{binary32}
-use Rattle.util.specs.declared.eighths.Count.TheVariants.{Whole}
-use Rattle.util.specs.Eighths.{eighths, count_of}
+use Rattle.util.specs.Eighths.{whole, eighths, count_of}
 use Rattle.records.specs.Records as records
 use Rattle.style_record.specs.Record as style
 use Rattle.tree_record.specs.Candidate.{candidate_kinds}
@@ -13,8 +12,6 @@ use Rattle.boxlist_lines.specs.Column.{cells, count_ink, eighths_text, code_text
 use Rattle.screen_fields.specs.declared.format.Kind.{Kind}
 use Rattle.screen_fields.specs.declared.format.Kind.TheVariants.{Code, Eighths}
 use Rattle.screen_fields.specs.declared.format.Line.TheVariants.{First, Item, Candidate}
-use Rattle.screen_fields.specs.declared.field.Numeral.TheVariants.{Malformed, Number}
-use Rattle.screen_fields.specs.declared.field.Word.TheVariants.{Of}
 use Rattle.screen_fields.specs.Format.{is_float, fields_of, COLUMNS, bytes_of, FIRST_BYTES, ITEM_BYTES, CANDIDATE_BYTES}
 use Rattle.screen_fields.specs.Field.{is_digit, numeral_of, word_of}
 
@@ -47,26 +44,26 @@ pub record Spelling (bs : List ℕ) (s : Bool) (n : ℕ) : Type 0 where
 
 -- a field that spells a number is blanks, at most one sign, one or more digits, and nothing else
 abbrev pub FieldShape : Type 0
-FieldShape = (bs : List ℕ) (s : Bool) (n : ℕ) → numeral_of bs ≡ Number s n → Spelling bs s n
+FieldShape = (bs : List ℕ) (s : Bool) (n : ℕ) → numeral_of bs ≡ whole s n → Spelling bs s n
 
 -- and every such field spells its number: `+5`, `0000005` and `-0` are read as any other
 abbrev pub FieldRead : Type 0
-FieldRead = (bs : List ℕ) (s : Bool) (n : ℕ) → Spelling bs s n → numeral_of bs ≡ Number s n
+FieldRead = (bs : List ℕ) (s : Bool) (n : ℕ) → Spelling bs s n → numeral_of bs ≡ whole s n
 
 -- as a code if it is one of 32 bits without a minus, as a float if it is at most 9,999,999 in size
 abbrev pub CodeRead : Type 0
-CodeRead = (bs : List ℕ) (n : ℕ) → Spelling bs false n → n ≤ 4294967295 → word_of Code bs ≡ Of n
+CodeRead = (bs : List ℕ) (n : ℕ) → Spelling bs false n → n ≤ 4294967295 → word_of Code bs ≡ Some n
 
 abbrev pub CountRead : Type 0
-CountRead = (bs : List ℕ) (s : Bool) (n : ℕ) → Spelling bs s n → n ≤ 9999999 → word_of Eighths bs ≡ Of (to_bits binary32 (eighths s n))
+CountRead = (bs : List ℕ) (s : Bool) (n : ℕ) → Spelling bs s n → n ≤ 9999999 → word_of Eighths bs ≡ Some (to_bits binary32 (eighths s n))
 
 -- so numbers are right-justified: no blank stands after them
 abbrev pub NoTrailingBlank : Type 0
-NoTrailingBlank = (bs : List ℕ) → numeral_of (bs ++ (32 ∷ [])) ≡ Malformed
+NoTrailingBlank = (bs : List ℕ) → numeral_of (bs ++ (32 ∷ [])) ≡ None
 
 -- `-0` and `+0` mean 0, as codes and as floats
 abbrev pub SignedZero : Type 0
-SignedZero = (k : Kind) → (word_of k (replicate 9 32 ++ (45 ∷ 48 ∷ [])) ≡ Of 0) × (word_of k (replicate 9 32 ++ (43 ∷ 48 ∷ [])) ≡ Of 0)
+SignedZero = (k : Kind) → (word_of k (replicate 9 32 ++ (45 ∷ 48 ∷ [])) ≡ Some 0) × (word_of k (replicate 9 32 ++ (43 ∷ 48 ∷ [])) ≡ Some 0)
 
 -- ---- a good field, in the words of refusal 8
 
@@ -87,27 +84,27 @@ pub record GoodField (k : Kind) (bs : List ℕ) : Type 0 where
 -- ---- a field written and read back
 
 abbrev pub CodeBack : Type 0
-CodeBack = (w : ℕ) → w ≤ 4294967295 → word_of Code (cells COLUMNS (Digits false w)) ≡ Of w
+CodeBack = (w : ℕ) → w ≤ 4294967295 → word_of Code (cells COLUMNS (Digits false w)) ≡ Some w
 
 abbrev pub CountBack : Type 0
-CountBack = (s : Bool) (n : ℕ) → n ≤ 9999999 → word_of Eighths (cells COLUMNS (Digits s n)) ≡ Of (to_bits binary32 (eighths s n))
+CountBack = (s : Bool) (n : ℕ) → n ≤ 9999999 → word_of Eighths (cells COLUMNS (Digits s n)) ≡ Some (to_bits binary32 (eighths s n))
 
 -- the word of a float that is a count of eighths comes back; of a zero, +0's
 abbrev pub FloatBack : Type 0
 FloatBack =
-    (w : ℕ) (s : Bool) (n : ℕ) → w < 4294967296 → count_of (of_bits binary32 w) ≡ Whole s n → 0 < n
-    → word_of Eighths (cells COLUMNS (count_ink (count_of (of_bits binary32 w)))) ≡ Of w
+    (w : ℕ) (s : Bool) (n : ℕ) → w < 4294967296 → count_of (of_bits binary32 w) ≡ whole s n → 0 < n
+    → word_of Eighths (cells COLUMNS (count_ink (count_of (of_bits binary32 w)))) ≡ Some w
 
 abbrev pub ZeroBack : Type 0
-ZeroBack = (w : ℕ) (s : Bool) → count_of (of_bits binary32 w) ≡ Whole s 0 → word_of Eighths (cells COLUMNS (count_ink (count_of (of_bits binary32 w)))) ≡ Of 0
+ZeroBack = (w : ℕ) (s : Bool) → count_of (of_bits binary32 w) ≡ whole s 0 → word_of Eighths (cells COLUMNS (count_ink (count_of (of_bits binary32 w)))) ≡ Some 0
 
 -- ---- no digit of the printed list is cut: a column of 8, read as a field is, spells the number that was printed, with its sign
 
 abbrev pub ListedCount : Type 0
-ListedCount = (x : Float) (s : Bool) (n : ℕ) → count_of x ≡ Whole s n → numeral_of (eighths_text x) ≡ Number s n
+ListedCount = (x : Float) (s : Bool) (n : ℕ) → count_of x ≡ whole s n → numeral_of (eighths_text x) ≡ whole s n
 
 abbrev pub ListedCode : Type 0
-ListedCode = (n : ℕ) → n ≤ 9999999 → numeral_of (code_text n) ≡ Number false n
+ListedCode = (n : ℕ) → n ≤ 9999999 → numeral_of (code_text n) ≡ whole false n
 
 -- ---- lines
 

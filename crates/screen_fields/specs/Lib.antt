@@ -1,4 +1,3 @@
 pub mod Format
 pub mod Field
-pub mod Place
 pub mod Laws

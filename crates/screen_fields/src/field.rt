@@ -1,174 +1,95 @@
 // A field of the screen file, and the word it stands for.
-ghost use Rattle.std.specs.Prelude.{◌≡◌, ◌+◌, ◌-◌, ◌≤◌, length, take, drop};
+ghost use Rattle.std.specs.Prelude.{◌≡◌, ◌+◌, ◌≤◌, length, take, drop};
 ghost use Rattle.screen_fields.specs.Format.{COLUMNS};
-ghost use Rattle.screen_fields.specs.Field.{is_digit, unsigned, numeral_of, code_of, present_word, float_of, word_of, is_good, value_of};
-ghost use Rattle.screen_fields.specs.Place.{part, Skipped};
+ghost use Rattle.screen_fields.specs.Field.{unblank, unsigned, numeral_of, code_of, present_word, float_of, word_of};
 
 use crate::format::{COLUMNS, Kind};
-use util::math::MaybeF32;
+use util::eighths::Count;
 use util::{bits, eighths};
 
-// What a field spells: a sign and a size, or nothing.
-#[derive(Clone, Copy)]
-pub enum Numeral {
-    Malformed,
-    Number(bool, u64),
-}
-
-// The word that a field stands for, or none.
-#[derive(Clone, Copy)]
-pub enum Word {
-    Wrong,
-    Of(u32),
-}
-
-fn is_digit(b: u8) -> bool
-    ensures { result ≡ is_digit b }
+// The field without the blanks in front.
+#[tactic(auto, unfolding(crate::specs::Field::unblank))]
+fn unblank(field: &[u8]) -> &[u8]
+    ensures rest { result.now ≡ unblank field.now }
+    ensures bound { length result.now ≤ length field.now }
 {
-    if b < b'0' {
-        return false;
+    let mut rest = field;
+    while let [b' ', after @ ..] = rest {
+        rest = after;
     }
-    b <= b'9'
-}
-
-fn digit_value(b: u8) -> u64
-    requires { 48 ≤ b }
-    ensures { result ≡ b - 48 }
-{
-    (b - b'0') as u64
-}
-
-// The place of the first byte that is no blank.
-fn skip_blanks(text: &[u8], from: usize, end: usize) -> usize
-    requires from_le_end { from ≤ end }
-    requires end_in_bounds { end ≤ length text.now }
-    ensures { Skipped text.now from end result }
-{
-    let mut i = from;
-    while i < end {
-        if text[i] != b' ' {
-            return i;
-        }
-        i += 1;
-    }
-    i
+    rest
 }
 
 // One or more digits, and nothing else.
-fn digits(text: &[u8], from: usize, end: usize, negative: bool) -> Numeral
-    requires from_le_end { from ≤ end }
-    requires end_bound { end ≤ from + COLUMNS }
-    requires end_in_bounds { end ≤ length text.now }
-    ensures { result ≡ unsigned negative (part text.now from (end - from)) }
+#[tactic(auto, unfolding(crate::specs::Field::unsigned, crate::specs::Field::spelled, crate::specs::Field::is_digit))]
+fn unsigned(digits: &[u8], negative: bool) -> Option<Count>
+    requires { length digits.now ≤ COLUMNS }
+    ensures { result ≡ unsigned negative digits.now }
 {
-    if from == end {
-        return Numeral::Malformed;
+    if digits.is_empty() {
+        return None;
     }
-    let mut v: u64 = 0;
-    let mut i = from;
-    while i < end {
-        let b = text[i];
-        if is_digit(b) {
-            v = v * 10 + digit_value(b);
-        } else {
-            return Numeral::Malformed;
+    let mut size: u64 = 0;
+    for b in digits {
+        if !b.is_ascii_digit() {
+            return None;
         }
-        i += 1;
+        size = size * 10 + u64::from(*b - b'0');
     }
-    Numeral::Number(negative, v)
+    Some(Count { negative, size })
 }
 
-// What the field at a place spells.
-fn numeral_at(text: &[u8], at: usize) -> Numeral
-    requires { at + COLUMNS ≤ length text.now }
-    ensures { result ≡ numeral_of (take COLUMNS (drop at text.now)) }
+// What a field spells, or none.
+#[tactic(auto, unfolding(crate::specs::Field::numeral_of, crate::specs::Field::signed))]
+fn numeral_of(field: &[u8]) -> Option<Count>
+    requires { length field.now ≤ COLUMNS }
+    ensures { result ≡ numeral_of field.now }
 {
-    let end = at + COLUMNS;
-    let i = skip_blanks(text, at, end);
-    if i == end {
-        return Numeral::Malformed;
+    match unblank(field) {
+        [] => None,
+        [b'-', digits @ ..] => unsigned(digits, true),
+        [b'+', digits @ ..] => unsigned(digits, false),
+        digits => unsigned(digits, false),
     }
-    let b = text[i];
-    if b == b'-' {
-        return digits(text, i + 1, end, true);
-    }
-    if b == b'+' {
-        return digits(text, i + 1, end, false);
-    }
-    digits(text, i, end, false)
 }
 
 // A code: a whole number that a word holds.
-fn code_of(numeral: Numeral) -> Word
+#[tactic(auto, unfolding(crate::specs::Field::code_of))]
+fn code_of(numeral: Option<Count>) -> Option<u32>
     ensures { result ≡ code_of numeral }
 {
-    match numeral {
-        Numeral::Malformed => Word::Wrong,
-        Numeral::Number(negative, size) => {
-            if negative {
-                if size == 0 {
-                    return Word::Of(0);
-                }
-                return Word::Wrong;
-            }
-            if size <= 4_294_967_295 {
-                return Word::Of(size as u32);
-            }
-            Word::Wrong
-        }
+    let count = numeral?;
+    if count.negative && count.size != 0 {
+        return None;
     }
+    u32::try_from(count.size).ok()
 }
 
-fn present_word(x: MaybeF32) -> Word
+#[tactic(auto, unfolding(crate::specs::Field::present_word))]
+fn present_word(x: Option<f32>) -> Option<u32>
     ensures { result ≡ present_word x }
 {
-    match x {
-        MaybeF32::None => Word::Wrong,
-        MaybeF32::Some(value) => Word::Of(bits::to_word(value)),
-    }
+    x.map(|value| bits::to_word(value))
 }
 
 // A float, by its eighths.
-fn float_of(numeral: Numeral) -> Word
+#[tactic(auto, unfolding(crate::specs::Field::float_of))]
+fn float_of(numeral: Option<Count>) -> Option<u32>
     ensures { result ≡ float_of numeral }
 {
-    match numeral {
-        Numeral::Malformed => Word::Wrong,
-        Numeral::Number(negative, size) => present_word(eighths::from_eighths(negative, size)),
-    }
+    let count = numeral?;
+    present_word(eighths::from_eighths(count))
 }
 
-// The word of the field at a place.
-fn word_at(text: &[u8], at: usize, kind: Kind) -> Word
+// The word that the field at a place stands for, or none.
+#[tactic(auto, unfolding(crate::specs::Field::word_of))]
+pub fn word_at(text: &[u8], at: usize, kind: Kind) -> Option<u32>
     requires { at + COLUMNS ≤ length text.now }
     ensures { result ≡ word_of kind (take COLUMNS (drop at text.now)) }
 {
+    let numeral = numeral_of(&text[at..at + COLUMNS]);
     match kind {
-        Kind::Code => code_of(numeral_at(text, at)),
-        Kind::Eighths => float_of(numeral_at(text, at)),
-    }
-}
-
-// Whether the field at a place stands for a word.
-pub fn is_good(text: &[u8], at: usize, kind: Kind) -> bool
-    requires { at + COLUMNS ≤ length text.now }
-    ensures { result ≡ is_good (word_of kind (take COLUMNS (drop at text.now))) }
-{
-    let word = word_at(text, at, kind);
-    match word {
-        Word::Wrong => false,
-        Word::Of(_) => true,
-    }
-}
-
-// The word of the field at a place, 0 if it stands for none.
-pub fn value_at(text: &[u8], at: usize, kind: Kind) -> u32
-    requires { at + COLUMNS ≤ length text.now }
-    ensures { result ≡ value_of (word_of kind (take COLUMNS (drop at text.now))) }
-{
-    let word = word_at(text, at, kind);
-    match word {
-        Word::Wrong => 0,
-        Word::Of(w) => w,
+        Kind::Code => code_of(numeral),
+        Kind::Eighths => float_of(numeral),
     }
 }

@@ -53,6 +53,7 @@ pub const MAX_BYTES: usize = FIRST_BYTES
     + MAX_CANDIDATES * CANDIDATE_BYTES;
 
 // How many fields a line has.
+#[tactic(auto, using(crate::proofs::Table::line_widths))]
 pub fn width_of(line: Line) -> usize
     ensures { result ≡ length (fields_of line) }
 {
@@ -64,6 +65,7 @@ pub fn width_of(line: Line) -> usize
 }
 
 // How many bytes a line has.
+#[tactic(auto, using(crate::proofs::Table::line_bytes))]
 pub fn bytes_of(line: Line) -> usize
     ensures { result ≡ bytes_of line }
 {
@@ -81,38 +83,23 @@ fn is_float(line: Line, j: usize) -> bool
 {
     match line {
         Line::First => j < 4,
-        Line::Item => {
-            // of a length all words but the tag; then the ratio, the scrollbar width and the replies
-            if j < words::RATIO_PRESENT {
-                return j % words::LENGTH_WORDS != 0;
-            }
-            if j == words::RATIO {
-                return true;
-            }
-            if j == words::SCROLLBAR_WIDTH {
-                return true;
-            }
-            STYLE_WORDS <= j
-        }
-        Line::Candidate => {
-            if j < 3 {
-                return false;
-            }
-            if j == LAYER {
-                return false;
-            }
-            (j - 3) % 5 < 2
-        }
+        // of a length all words but the tag; then the ratio, the scrollbar width and the replies
+        Line::Item if j < words::RATIO_PRESENT => j % words::LENGTH_WORDS != 0,
+        Line::Item => j == words::RATIO || j == words::SCROLLBAR_WIDTH || STYLE_WORDS <= j,
+        // of each axis the area; not the node, the order, the position and the layer
+        Line::Candidate => 3 <= j && j != LAYER && (j - 3) % 5 < 2,
     }
 }
 
 // What a field holds.
+#[tactic(auto, using(crate::proofs::Table::float_is, crate::proofs::Table::code_is))]
 pub fn kind_of(line: Line, j: usize) -> Kind
     requires { j < length (fields_of line) }
     ensures { result ≡ get_or (fields_of line) j Code }
 {
     if is_float(line, j) {
-        return Kind::Eighths;
+        Kind::Eighths
+    } else {
+        Kind::Code
     }
-    Kind::Code
 }

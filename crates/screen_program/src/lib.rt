@@ -5,6 +5,7 @@
 
 ghost use Rattle.std.specs.Prelude.{◌≡◌, ◌+◌, ◌≤◌, length, take, OnOk, IfOk, IfErr, IfSome};
 ghost use Rattle.std.specs.Io.KnownBytes.{Appends, Keeps};
+ghost use Rattle.std.specs.Process.{exit_status};
 ghost use Rattle.screen_fields.specs.Format.{MAX_BYTES};
 ghost use Rattle.boxlist_print.specs.Printed.{printed};
 ghost use Rattle.screen_program.specs.Input.{bytes_of, IsNotRead};
@@ -12,19 +13,21 @@ ghost use Rattle.screen_program.specs.Input.{bytes_of, IsNotRead};
 use boxlist_print::{LIST_BYTES, Listing};
 use screen_fields::format;
 use std::io::{Cursor, Read, Write};
+use std::process::ExitCode;
 use std::{fmt, io};
 
 // One byte more than the longest screen: of a longer text no more is read, and it is no screen either.
-const ROOM: usize = format::MAX_BYTES + 1;
+pub const ROOM: usize = format::MAX_BYTES + 1;
 
-fn room() -> [u8; ROOM]
+// Zeros to read a screen into.
+pub fn room() -> [u8; ROOM]
     ensures { MAX_BYTES + 1 ≡ length result }
 {
     [0; ROOM]
 }
 
 // What the input gave: so many bytes, up to its end or as many as there is room for; or a read that failed.
-fn read_input<R: Read>(input: &mut R, text: &mut [u8]) -> io::Result<usize>
+pub fn read_input<R: Read>(input: &mut R, text: &mut [u8]) -> io::Result<usize>
     ensures in_bounds { bytes_of result ≤ length text.new }
     ensures read { IfOk result (λ n. IfSome (R.remaining input.old) (λ all. take n text.new ≡ take (length text.new) all)) }
 {
@@ -91,12 +94,26 @@ pub fn run<R: Read, W: Write>(
     ensures not_read { IfErr result (λ failure. IsNotRead failure → Keeps (W.contents output.old) (W.contents output.new)) }
 {
     let mut text = room();
-    match read_input(input, &mut text) {
-        Err(error) => Err(Failure::NotRead(error)),
-        Ok(n) => match print_list(listing, &text[..n], output) {
-            Err(error) => Err(Failure::NotWritten(error)),
-            Ok(()) => Ok(()),
-        },
+    let n = read_input(input, &mut text).map_err(Failure::NotRead)?;
+    print_list(listing, &text[..n], output).map_err(Failure::NotWritten)
+}
+
+// The same, with a failure told to `errors`, behind the program's name. The status is 0 only where all was printed.
+pub fn run_named<R: Read, W: Write, E: Write>(
+    name: &str,
+    listing: Listing,
+    input: &mut R,
+    output: &mut W,
+    errors: &mut E,
+) -> ExitCode
+    ensures { exit_status result ≡ 0 → IfSome (R.remaining input.old) (λ text. Appends (W.contents output.old) (W.contents output.new) (printed listing text)) }
+{
+    match run(listing, input, output) {
+        Ok(()) => ExitCode::SUCCESS,
+        Err(failure) => {
+            let _ = writeln!(errors, "{name}: {failure}");
+            ExitCode::FAILURE
+        }
     }
 }
 

@@ -1,5 +1,6 @@
 -- A run that is played out has no open question: it asks at most three a box begun, each of those is one of the claimed candidates, and
 -- nothing is surfaced. Assumes nothing.
+use Rattle.std.specs.Prelude.{Float}
 use Prim.Native.Nat.{ℕ, zero, suc, ◌+◌, ◌*◌, ◌/◌, ◌≤◌}
 use native.Mathlib.Omega.{arith}
 use native.Mathlib.Nat.{add-zero, zero-add}
@@ -95,7 +96,7 @@ module _ (replies styles : List ℕ) (a : Asked) where
 abbrev filled_in : State → Filled
 filled_in s = s.counts.filled
 
-proceeding_filled : (styles working : List ℕ) (run : Opened) (counts : Counts) (overflow : Rect)
+proceeding_filled : (styles working : List ℕ) (run : Opened) (counts : Counts) (overflow : Rect Float)
     → filled_in (proceeding styles working run counts overflow).state ≡ counts.filled
 unfolding asking finishing
 proceeding_filled styles working run counts overflow = go (next_way styles working run counts overflow)

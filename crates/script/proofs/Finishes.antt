@@ -1,6 +1,7 @@
 -- No scripted reply is refused, so a run that is opened comes to its finish. The reply's kind is its question's; the slices have the
 -- opening's lengths, the styles its words; the working list holds the candidates that it checked; nothing is surfaced. And so the words of a
 -- finished run pass the tests of what reads it. Assumes nothing.
+use Rattle.std.specs.Prelude.{Option, None, Some, is_none, is_some, unwrap_or, Float}
 use Prim.Native.Nat.{ℕ, zero, suc, ◌+◌, ◌*◌, ◌/◌, ◌≤◌}
 use native.Mathlib.Omega.{arith}
 use native.Mathlib.Nat.{add-zero, zero-add, mul-le-mul_left, mul-div-le, le_trans}
@@ -13,7 +14,6 @@ use Rattle.util.proofs.Floats.{no}
 use Rattle.geometry.specs.Geometry.{both_present}
 use Rattle.geometry.specs.declared.Rect.{Rect}
 use Rattle.geometry.specs.declared.Size.{Size}
-use Rattle.geometry.specs.declared.MaybeSize.{MaybeSize}
 use Rattle.refusal.specs.declared.Refusal.{Refusal}
 use Rattle.style.specs.declared.Style.{Style}
 use Rattle.style_record.specs.Record.{items}
@@ -26,17 +26,17 @@ use Rattle.sweep.specs.Sweep.{first_candidates, candidates_in, keep, list_words,
 use Rattle.sweep.specs.declared.Filled.{Filled}
 use Rattle.sweep.proofs.Steps.{appended_length}
 use Rattle.oof_common.specs.declared.sizing_keyword.SizingKeywordResolution.{SizingKeywordResolution}
-use Rattle.oof_common.specs.declared.sizing_keyword.SizingKeywordResolution.TheVariants.{NoKeyword, Exact, Measure}
+use Rattle.oof_common.specs.declared.sizing_keyword.SizingKeywordResolution.TheVariants.{Exact, Measure}
 use Rattle.oof_resolve.specs.Resolved.{resolved_box}
 use Rattle.oof_resolve.specs.declared.ContainingBlock.{ContainingBlock}
 use Rattle.oof_box.specs.Box.{size_keywords, keyword_stretch}
-use Rattle.oof_box.specs.Cut.{no_replies, taken, keyword_asked, size_asked, or_later, is_first, fill_given, stretched_by, asked_of, asked_after}
+use Rattle.oof_box.specs.Cut.{no_replies, taken, keyword_asked, size_asked, is_first, stretched_by, asked_of, asked_after, sizing}
 use Rattle.oof_box.specs.declared.question.Reply.{Reply}
 use Rattle.oof_box.specs.declared.question.Reply.TheVariants.{Both, Width, Height, LaidOut}
 use Rattle.oof_box.specs.declared.question.Replies.{Replies}
 use Rattle.oof_box.specs.declared.question.Asked.{Asked}
 use Rattle.oof_box.specs.declared.question.Taken.{Taken}
-use Rattle.oof_box.specs.declared.question.Taken.TheVariants.{Wrong, Kept, Laid}
+use Rattle.oof_box.specs.declared.question.Taken.TheVariants.{Kept, Laid}
 use Rattle.run.specs.declared.Opening.{Opening}
 use Rattle.run.specs.declared.State.{State}
 use Rattle.run.specs.declared.Progress.{Progress}
@@ -49,7 +49,7 @@ use Rattle.run.specs.declared.Answer.TheVariants.{Ask, Finish, Refused}
 use Rattle.run.specs.Call.{Lent, Outcome}
 use Rattle.run.specs.Call as call
 use Rattle.run.specs.Refusals.{Verdict, accepted, ◌when◌else◌, ragged, bad_table, bad_list, bad_slices, other_lengths, bad_lent, lent_by, bad_style, bad_candidate, bad_candidates, list_full, above_lists, wrong_counts}
-use Rattle.run.specs.Run.{box_at_hand, asking, finishing, proceeding, claims_of, container_of, extents_of, opening_verdict, begun, opened, taken_by, is_wrong, reply_verdict, measured_on, laid_out, replied}
+use Rattle.run.specs.Run.{box_at_hand, asking, finishing, proceeding, claims_of, container_of, extents_of, opening_verdict, begun, opened, taken_by, reply_verdict, measured_on, laid_out, replied}
 use Rattle.run.specs.Theorems.{asked_at_opening, one_if_asked, is_refused, next}
 use Rattle.run.proofs.Ways.{NextWay, asks, ends, next_way, OpeningWay, begins, opening_way, passed, neither}
 use Rattle.run.proofs.Questions.{three_questions_a_box}
@@ -66,32 +66,27 @@ use Rattle.sweep.proofs.Listed.{listed_good}
 module _ (replies : List ℕ) where
   -- the reply to a question is taken at the stage at which it is asked
   abbrev Fits : Asked → Type 0
-  Fits a = (r : Replies) → is_wrong (taken r a.stage (scripted_reply replies a.question)) ≡ false
+  Fits a = (r : Replies) → is_none (taken r a.stage (scripted_reply replies a.question)) ≡ false
 
   either : (b : Bool) (x y : Asked) → Fits x → Fits y → Fits (cond b x y)
   either true x y f g = f
   either false x y f g = g
 
-  keyword_fits : (node : ℕ) (across down : SizingKeywordResolution) (known : MaybeSize) (stretch : Size) (later : Asked) → Fits later
-      → Fits (or_later (keyword_asked node across down known stretch) later)
+  keyword_fits : (node : ℕ) (across down : Option SizingKeywordResolution) (known : Size (Option Float)) (stretch : Size Float) (later : Asked) → Fits later
+      → Fits (unwrap_or (keyword_asked node across down known stretch) later)
   unfolding keyword_asked taken
-  keyword_fits node NoKeyword NoKeyword known stretch later f = f
-  keyword_fits node NoKeyword (Exact h) known stretch later f = f
-  keyword_fits node NoKeyword (Measure down) known stretch later f = λ r. refl
-  keyword_fits node (Exact w) NoKeyword known stretch later f = f
-  keyword_fits node (Exact w) (Exact h) known stretch later f = f
-  keyword_fits node (Exact w) (Measure down) known stretch later f = λ r. refl
-  keyword_fits node (Measure across) NoKeyword known stretch later f = λ r. refl
-  keyword_fits node (Measure across) (Exact h) known stretch later f = λ r. refl
-  keyword_fits node (Measure across) (Measure down) known stretch later f = λ r. refl
+  keyword_fits node (Some (Measure across)) (Some (Measure down)) known stretch later f = λ r. refl
+  keyword_fits node (Some (Measure across)) _ known stretch later f = λ r. refl
+  keyword_fits node _ (Some (Measure down)) known stretch later f = λ r. refl
+  keyword_fits node _ _ known stretch later f = f
 
   asked_fits : (container : ContainingBlock) (style : Style) (candidate : OofCandidate) (kept : Replies) → Fits (asked_after container style candidate kept)
   unfolding asked_after asked_of size_asked taken
   asked_fits container style candidate kept =
       let box = resolved_box container style candidate in
       let keywords = size_keywords style box in
-      let later : Fits (size_asked candidate.node style box keywords kept) = either (fill_given kept.fill || both_present (stretched_by style box keywords kept).known) _ _ (λ r. refl) (λ r. refl) in
-      either (is_first kept.keyword kept.fill) _ _ (keyword_fits candidate.node keywords.width keywords.height box.size (keyword_stretch box) _ later) later
+      let later : Fits (size_asked candidate.node (sizing style box keywords kept)) = either (is_some kept.fill || both_present (stretched_by (sizing style box keywords kept)).known) _ _ (λ r. refl) (λ r. refl) in
+      either (is_first kept) _ _ (keyword_fits candidate.node keywords.width keywords.height box.size (keyword_stretch box) _ later) later
 
 -- ---- an accepted opening
 
@@ -147,7 +142,7 @@ past r d e = rw d e
 fewer : {questions begun begun' answered : ℕ} → questions ≤ 3 * begun → questions ≡ answered + 1 → begun ≡ begun' → answered ≤ 3 * begun'
 fewer a b c = omega (arith, a, b, c)
 
-laid_length : (s : State) (overflow : Rect) (surfaced : List ℕ) (lent : Lent) → length (laid_out s overflow surfaced lent).layouts ≡ length lent.layouts
+laid_length : (s : State) (overflow : Rect Float) (surfaced : List ℕ) (lent : Lent) → length (laid_out s overflow surfaced lent).layouts ≡ length lent.layouts
 unfolding laid_out
 laid_length s overflow surfaced lent = written_length lent.layouts _ _
 
@@ -224,9 +219,9 @@ module _ (replies : List ℕ) (o : Opening) (candidates : List ℕ) (lent : Lent
           (record { working = fits_working; unclaimed = fits_unclaimed; first = first; begun = begun_few; answered = few })
 
       -- no test turns a reply of the right kind down
-      accepts : (progress : Progress) (kept : Replies) (overflow : Rect) (given : Reply)
+      accepts : (progress : Progress) (kept : Replies) (overflow : Rect Float) (given : Reply)
           → let s : State = record { progress = progress; replies = kept; counts = counts; overflow = overflow; opened = run } in
-          is_wrong (taken_by s given) ≡ false → reply_verdict s given [] (lending layouts) ≡ accepted
+          is_none (taken_by s given) ≡ false → reply_verdict s given [] (lending layouts) ≡ accepted
       unfolding reply_verdict
       accepts progress kept overflow given right =
           let whole : ragged candidate_width (lent_by given []) ≡ false = rw (lent_none given) refl in
@@ -239,7 +234,7 @@ module _ (replies : List ℕ) (o : Opening) (candidates : List ℕ) (lent : Lent
   -- a question is open, asked by the words of the opening and by what was replied to the box at hand
   record Going (x : Outcome) : Type 0 where
     counts : Counts
-    overflow : Rect
+    overflow : Rect Float
     kept : Replies
     step : x.step ≡ asking lent.styles working run counts overflow kept
     layouts : length x.layouts ≡ length lent.layouts
@@ -252,7 +247,7 @@ module _ (replies : List ℕ) (o : Opening) (candidates : List ℕ) (lent : Lent
   -- no box is left
   record Ended (x : Outcome) : Type 0 where
     counts : Counts
-    overflow : Rect
+    overflow : Rect Float
     step : x.step ≡ finishing run counts overflow
     layouts : length x.layouts ≡ length lent.layouts
     lists : (x.working ≡ working) × (x.unclaimed ≡ unclaimed)
@@ -290,7 +285,7 @@ module _ (replies : List ℕ) (o : Opening) (candidates : List ℕ) (lent : Lent
       }
 
   -- the next box, or the finish
-  proceeds : (x : Outcome) (counts : Counts) (overflow : Rect) → x.step ≡ proceeding lent.styles working run counts overflow
+  proceeds : (x : Outcome) (counts : Counts) (overflow : Rect Float) → x.step ≡ proceeding lent.styles working run counts overflow
       → length x.layouts ≡ length lent.layouts
       → (x.working ≡ working) × (x.unclaimed ≡ unclaimed)
       → counts.filled ≡ filled
@@ -342,7 +337,7 @@ module _ (replies : List ℕ) (o : Opening) (candidates : List ℕ) (lent : Lent
         fewer (three_questions_a_box o candidates lent g.reached.calls) g.reached.questions
         (ap (λ (s : State). s.counts.begun) (g.reached.state ∙ ap (λ (t : Step). t.state) g.step))
 
-    right : is_wrong (taken_by state given) ≡ false
+    right : is_none (taken_by state given) ≡ false
     unfolding taken_by
     right = asked_fits replies run.container (style_at lent.styles box.node) box g.kept g.kept
 
@@ -374,7 +369,7 @@ module _ (replies : List ℕ) (o : Opening) (candidates : List ℕ) (lent : Lent
         })
 
     -- the box was laid out
-    laid_on : (overflow : Rect) → played_on_lem ≡ laid_out state overflow [] (lending x.layouts) → Alive played_on_lem
+    laid_on : (overflow : Rect Float) → played_on_lem ≡ laid_out state overflow [] (lending x.layouts) → Alive played_on_lem
     unfolding laid_out candidates_in first_candidates records keep list_words written
     laid_on overflow e =
         proceeds played_on_lem _ _ (ap (λ (y : Outcome). y.step) e)
@@ -383,11 +378,11 @@ module _ (replies : List ℕ) (o : Opening) (candidates : List ℕ) (lent : Lent
         (rw (add-zero g.counts.filled.working, add-zero g.counts.filled.unclaimed) g.held)
         reached
 
-    takes : (t : Taken) → taken_by state given ≡ t → is_wrong t ≡ false → Alive played_on_lem
+    takes : (t : Option Taken) → taken_by state given ≡ t → is_none t ≡ false → Alive played_on_lem
     unfolding replied
-    takes Wrong e f = no refl f
-    takes (Kept r) e f = kept_on r (is_reply ∙ rw (verdict, e) refl)
-    takes (Laid overflow) e f = laid_on overflow (is_reply ∙ rw (verdict, e) refl)
+    takes None e f = no refl f
+    takes (Some (Kept r)) e f = kept_on r (is_reply ∙ rw (verdict, e) refl)
+    takes (Some (Laid overflow)) e f = laid_on overflow (is_reply ∙ rw (verdict, e) refl)
 
     goes_on : Alive played_on_lem
     goes_on = takes (taken_by state given) refl right

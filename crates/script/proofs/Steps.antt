@@ -1,7 +1,6 @@
 -- The steps of the code are those of the definitions. Assumes nothing.
-use Prim.Native.Nat.{ℕ, zero, suc, ◌-◌, ◌*◌, ◌/◌, ◌<◌, ◌≤◌}
+use Prim.Native.Nat.{ℕ, suc, ◌+◌, ◌-◌, ◌*◌, ◌/◌, ◌<◌, ◌≤◌}
 use native.Mathlib.Omega.{arith}
-use native.Mathlib.Numerals.{unary_clauses}
 use mathlib.Core.Path.{◌≡◌, refl, sym, ap, ◌∙◌}
 use mathlib.Core.List.{List, []}
 use lib.ListN.{length}
@@ -38,28 +37,33 @@ module _ (replies styles : List ℕ) (s : Step) (l w u : List ℕ) where
 
 -- ---- the loop
 
-one_turn : (replies styles : List ℕ) (o : Outcome) (n : ℕ) → 0 < n → played n replies styles o ≡ played (n - 1) replies styles (played_on replies styles o)
+one_turn : (replies styles : List ℕ) (o : Outcome) (i n : ℕ) → i < n → played (n - i) replies styles o ≡ played (n - (i + 1)) replies styles (played_on replies styles o)
 unfolding played
-one_turn replies styles o zero h = absurd (omega (arith, h))
-one_turn replies styles o (suc n) h = simp unary_clauses refl
+one_turn replies styles o i n h = rw (turn i n h) refl
+  where
+    turn : (i n : ℕ) → i < n → n - i ≡ suc (n - (i + 1))
+    turn i n h = omega arith
 
-no_turn : (replies styles : List ℕ) (o : Outcome) (n : ℕ) → n ≤ 0 → played n replies styles o ≡ o
+no_turn : (replies styles : List ℕ) (o : Outcome) (i n : ℕ) → n ≤ i → played (n - i) replies styles o ≡ o
 unfolding played
-no_turn replies styles o zero h = refl
-no_turn replies styles o (suc n) h = absurd (omega (arith, h))
+no_turn replies styles o i n h = rw (done i n h) refl
+  where
+    done : (i n : ℕ) → n ≤ i → n - i ≡ 0
+    done i n h = omega arith
 
 module _ (replies styles : List ℕ) (s : Step) (l w u : List ℕ) where
   -- one turn, after which r and the words with a mark are left
-  pub turned : {r : Step} {l' w' u' : List ℕ} (n : ℕ) → 0 < n → outcome r l' w' u' ≡ played_on replies styles (outcome s l w u)
-      → played n replies styles (outcome s l w u) ≡ played (n - 1) replies styles (outcome r l' w' u')
-  turned n h p = one_turn replies styles (outcome s l w u) n h ∙ ap (played (n - 1) replies styles) (sym p)
+  pub turned : {r : Step} {l' w' u' : List ℕ} (i n : ℕ) → i < n → outcome r l' w' u' ≡ played_on replies styles (outcome s l w u)
+      → played (n - i) replies styles (outcome s l w u) ≡ played (n - (i + 1)) replies styles (outcome r l' w' u')
+  turned i n h p = one_turn replies styles (outcome s l w u) i n h ∙ ap (played (n - (i + 1)) replies styles) (sym p)
 
   -- no turn is left: what is left is what was opened, played out
-  pub ended : {r : Step} {l' w' u' : List ℕ} (o : Opening) (candidates l₀ w₀ u₀ : List ℕ) (n : ℕ) → n ≤ 0
+  pub ended : {r : Step} {l' w' u' : List ℕ} (o : Opening) (candidates l₀ w₀ u₀ : List ℕ) (i n : ℕ)
+      → n ≡ 3 * (length candidates / candidate_width)
+      → n ≤ i
       → outcome s l w u ≡ opened o candidates (lent styles l₀ w₀ u₀)
-      → played (3 * (length candidates / candidate_width)) replies styles (outcome s l w u) ≡ played n replies styles (outcome r l' w' u')
+      → played n replies styles (outcome s l w u) ≡ played (n - i) replies styles (outcome r l' w' u')
       → outcome r l' w' u' ≡ played_out o replies candidates (lent styles l₀ w₀ u₀)
   unfolding played_out
-  ended {r} {l'} {w'} {u'} o candidates l₀ w₀ u₀ n h p e =
-      sym (no_turn replies styles (outcome r l' w' u') n h) ∙ sym e
-      ∙ ap (played (3 * (length candidates / candidate_width)) replies styles) p
+  ended {r} {l'} {w'} {u'} o candidates l₀ w₀ u₀ i n k h p e =
+      sym (no_turn replies styles (outcome r l' w' u') i n h) ∙ sym e ∙ rw k (ap (played (3 * (length candidates / candidate_width)) replies styles) p)

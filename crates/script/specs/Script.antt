@@ -23,10 +23,10 @@ use Rattle.run.specs.Theorems.{next}
 unfoldable pub scripted : List ℕ → ℕ → ℕ → Float
 scripted replies node k = float_at replies (reply_width * node + k)
 
-abbrev pub scripted_size : List ℕ → ℕ → Size
+abbrev pub scripted_size : List ℕ → ℕ → Size Float
 scripted_size replies node = record { width = scripted replies node 0; height = scripted replies node 1 }
 
-abbrev pub scripted_overflow : List ℕ → ℕ → Rect
+abbrev pub scripted_overflow : List ℕ → ℕ → Rect Float
 scripted_overflow replies node =
     record { left = scripted replies node 2; right = scripted replies node 3; top = scripted replies node 4; bottom = scripted replies node 5 }
 

@@ -2,7 +2,8 @@
 // any (document 01, "Program boxlist": measured width and height, then overflow left, right, top, bottom).
 #![tactic(auto)]
 
-ghost use Rattle.std.specs.Prelude.{◌≡◌};
+ghost use Rattle.std.specs.Prelude.{◌≡◌, ◌<◌};
+ghost use Rattle.screen_fields.specs.Format.{reply_width};
 ghost use Rattle.run.specs.Call.{outcome, lent};
 ghost use Rattle.script.specs.Script.{scripted, scripted_size, scripted_overflow, scripted_reply, played_on, played_out};
 
@@ -16,24 +17,17 @@ use util::bits;
 // At most two questions to measure a box, then one to lay it out.
 const QUESTIONS: usize = 3;
 
-fn wide(n: u32) -> usize
-    ensures { result ≡ n }
-{
-    n as usize
-}
-
 // The float of word k of a node's replies; 0 beyond their end.
-fn scripted(replies: &[u32], node: u32, k: u32) -> f32
+#[tactic(auto, unfolding(crate::specs::Script::scripted))]
+fn scripted(replies: &[u32], node: u32, k: usize) -> f32
+    requires { k < reply_width }
     ensures { result ≡ scripted replies.now node k }
 {
-    let at = REPLY_WORDS * wide(node) + wide(k);
-    if at < replies.len() {
-        return bits::from_word(replies[at]);
-    }
-    bits::from_word(0)
+    let word = replies.get(REPLY_WORDS * node as usize + k);
+    bits::from_word(word.copied().unwrap_or(0))
 }
 
-fn scripted_size(replies: &[u32], node: u32) -> Size
+fn scripted_size(replies: &[u32], node: u32) -> Size<f32>
     ensures { result ≡ scripted_size replies.now node }
 {
     Size {
@@ -42,7 +36,7 @@ fn scripted_size(replies: &[u32], node: u32) -> Size
     }
 }
 
-fn scripted_overflow(replies: &[u32], node: u32) -> Rect
+fn scripted_overflow(replies: &[u32], node: u32) -> Rect<f32>
     ensures { result ≡ scripted_overflow replies.now node }
 {
     Rect {
@@ -82,7 +76,7 @@ fn play_on(
         Answer::Ask(question) => placer::reply(
             state,
             scripted_reply(replies, question),
-            &styles[..0],
+            &[],
             styles,
             layouts,
             working,
@@ -106,10 +100,8 @@ pub fn play_out(
     ensures { outcome result layouts.new working.new unclaimed.new ≡ played_out o replies.now candidates.now (lent styles.now layouts.old working.old unclaimed.old) }
 {
     let mut step = placer::open(o, styles, candidates, layouts, working, unclaimed);
-    let mut left = QUESTIONS * (candidates.len() / CANDIDATE_WORDS);
-    while 0 < left {
+    for _ in 0..QUESTIONS * (candidates.len() / CANDIDATE_WORDS) {
         step = play_on(step, replies, styles, layouts, working, unclaimed);
-        left -= 1;
     }
     step
 }

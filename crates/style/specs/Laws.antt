@@ -1,7 +1,6 @@
 -- What the definitions of this crate mean, as statements. `proofs/Laws.antt` proves each, under its name in small letters. Assumes nothing.
-use Rattle.std.specs.Prelude.{ℕ, ◌≤◌, ◌%◌, ◌≡◌, Bool, false, ◌||◌, List, [], ◌∷◌, eqb, Float}
+use Rattle.std.specs.Prelude.{ℕ, ◌≤◌, ◌%◌, ◌≡◌, Bool, false, ◌||◌, List, [], ◌∷◌, eqb, Float, Some}
 use Rattle.util.specs.Number.{◌⊕◌, ◌⊗◌}
-use Rattle.util.specs.declared.math.MaybeF32.TheVariants.{Some}
 use Rattle.style.specs.declared.compact_length.CompactLength.{CompactLength}
 use Rattle.style.specs.declared.resolve.Field.{Field}
 use Rattle.style.specs.declared.resolve.Field.TheVariants as field

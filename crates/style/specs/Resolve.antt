@@ -1,14 +1,9 @@
 -- Lengths: which tags a field takes, and what a length comes to in it (document 01, "Tags"; step 1 and step 2; request #105). Assumes nothing.
-use Rattle.std.specs.Prelude.{ℕ, Bool, true, false, cond, eqb, Float}
+use Rattle.std.specs.Prelude.{ℕ, Bool, true, false, cond, eqb, Float, None, Option, Some}
 use Rattle.util.specs.Number.{◌⊕◌, ◌⊗◌, 0f}
-use Rattle.util.specs.declared.math.MaybeF32.{MaybeF32}
-use Rattle.util.specs.declared.math.MaybeF32.TheVariants.{None, Some}
 use Rattle.geometry.specs.declared.Size.{Size}
-use Rattle.geometry.specs.declared.MaybeSize.{MaybeSize}
-use Rattle.geometry.specs.declared.MaybeRect.{MaybeRect}
+use Rattle.geometry.specs.declared.Rect.{Rect}
 use Rattle.style.specs.declared.compact_length.CompactLength.{CompactLength}
-use Rattle.style.specs.declared.compact_length.LengthRect.{LengthRect}
-use Rattle.style.specs.declared.compact_length.LengthSize.{LengthSize}
 use Rattle.style.specs.declared.resolve.Field.{Field}
 use Rattle.style.specs.declared.resolve.Field.TheVariants as field
 use Rattle.style.specs.declared.resolve.SizingKeyword.TheVariants as keyword
@@ -76,17 +71,17 @@ takes f tag = is_allowed (resolved f (record { tag = tag; value = 0f; second = 0
 -- ---- values
 
 -- the number of pixels, if it comes to one
-abbrev pub value_of : Resolved → MaybeF32
+abbrev pub value_of : Resolved → Option Float
 value_of NotAllowed = None
 value_of Absent = None
 value_of (Length x) = Some x
 value_of (Keyword k) = None
 
-unfoldable pub maybe_resolved : Field → CompactLength → Float → MaybeF32
+unfoldable pub maybe_resolved : Field → CompactLength → Float → Option Float
 maybe_resolved f length basis = value_of (resolved f length basis)
 
 -- four sides: left and right against one basis, top and bottom against another
-unfoldable pub resolved_rect : Field → LengthRect → Float → Float → MaybeRect
+unfoldable pub resolved_rect : Field → Rect CompactLength → Float → Float → Rect (Option Float)
 resolved_rect f sides basisX basisY =
     record {
       left = maybe_resolved f sides.left basisX;
@@ -96,6 +91,6 @@ resolved_rect f sides basisX basisY =
     }
 
 -- width and height, each against its own basis
-unfoldable pub resolved_size : Field → LengthSize → Size → MaybeSize
+unfoldable pub resolved_size : Field → Size CompactLength → Size Float → Size (Option Float)
 resolved_size f size basis =
     record { width = maybe_resolved f size.width basis.width; height = maybe_resolved f size.height basis.height }

@@ -1,10 +1,9 @@
 -- Values of the properties that placement reads: position, overflow, containment, direction, self-alignment, available space
 -- (style/mod.rs, style/alignment.rs, style/available_space.rs). Assumes nothing.
-use Rattle.std.specs.Prelude.{Bool, true, false, cond, not, ◌&&◌, ◌||◌}
+use Rattle.std.specs.Prelude.{Bool, true, false, cond, not, ◌&&◌, ◌||◌, Float, Option}
 use Rattle.util.specs.Maybe.{clamped}
-use Rattle.util.specs.declared.math.MaybeF32.{MaybeF32}
+use Rattle.geometry.specs.Geometry.{clamped_each}
 use Rattle.geometry.specs.declared.Size.{Size}
-use Rattle.geometry.specs.declared.MaybeSize.{MaybeSize}
 use Rattle.style.specs.declared.Position.{Position}
 use Rattle.style.specs.declared.Position.TheVariants as position
 use Rattle.style.specs.declared.ContainingBlockClaims.{ContainingBlockClaims}
@@ -12,7 +11,7 @@ use Rattle.style.specs.declared.BoxSizing.{BoxSizing}
 use Rattle.style.specs.declared.BoxSizing.TheVariants.{BorderBox, ContentBox}
 use Rattle.style.specs.declared.Overflow.{Overflow}
 use Rattle.style.specs.declared.Overflow.TheVariants.{Visible, Clip, Hidden, Scroll}
-use Rattle.style.specs.declared.OverflowPoint.{OverflowPoint}
+use Rattle.geometry.specs.declared.Point.{Point}
 use Rattle.style.specs.declared.Contain.{Contain}
 use Rattle.style.specs.declared.Direction.{Direction}
 use Rattle.style.specs.declared.Direction.TheVariants.{Ltr, Rtl}
@@ -21,7 +20,6 @@ use Rattle.style.specs.declared.alignment.AlignItemsKeyword.TheVariants as keywo
 use Rattle.style.specs.declared.alignment.AlignItems.{AlignItems}
 use Rattle.style.specs.declared.available_space.AvailableSpace.{AvailableSpace}
 use Rattle.style.specs.declared.available_space.AvailableSpace.TheVariants.{Definite, MinContent, MaxContent}
-use Rattle.style.specs.declared.available_space.AvailableSize.{AvailableSize}
 
 -- ---- claims: absolute boxes by one bit, fixed ones by another, no others
 
@@ -44,7 +42,7 @@ is_scroll_container Clip = false
 is_scroll_container Hidden = true
 is_scroll_container Scroll = true
 
-abbrev pub any_scroll_container : OverflowPoint → Bool
+abbrev pub any_scroll_container : Point Overflow → Bool
 any_scroll_container o = is_scroll_container o.x || is_scroll_container o.y
 
 abbrev pub is_visible : Overflow → Bool
@@ -107,14 +105,13 @@ self_relative a item container inline =
 -- ---- available space
 
 -- a definite space is clamped; min-content and max-content stay
-unfoldable pub clamped_space : AvailableSpace → MaybeF32 → MaybeF32 → AvailableSpace
+unfoldable pub clamped_space : AvailableSpace → Option Float → Option Float → AvailableSpace
 clamped_space (Definite x) min max = Definite (clamped x min max)
 clamped_space MinContent min max = MinContent
 clamped_space MaxContent min max = MaxContent
 
-unfoldable pub clamped_spaces : AvailableSize → MaybeSize → MaybeSize → AvailableSize
-clamped_spaces s min max =
-    record { width = clamped_space s.width min.width max.width; height = clamped_space s.height min.height max.height }
+unfoldable pub clamped_spaces : Size AvailableSpace → Size (Option Float) → Size (Option Float) → Size AvailableSpace
+clamped_spaces = clamped_each clamped_space
 
-unfoldable pub definite_spaces : Size → AvailableSize
+unfoldable pub definite_spaces : Size Float → Size AvailableSpace
 definite_spaces size = record { width = Definite size.width; height = Definite size.height }

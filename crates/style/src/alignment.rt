@@ -1,12 +1,12 @@
 // style/alignment.rs: self-alignment.
-ghost use Rattle.std.specs.Prelude.{◌≡◌, ◌&&◌};
+ghost use Rattle.std.specs.Prelude.{◌≡◌};
 ghost use Rattle.style.specs.Codes.{keyword_of, safety_of, alignment_of};
-ghost use Rattle.style.specs.Values.{differs, keyword_relative, self_relative};
+ghost use Rattle.style.specs.Values.{keyword_relative, self_relative};
 
 use crate::Direction;
 
 // The position keyword, in the Rust's order: 0 to 9 in a record.
-#[derive(Clone, Copy)]
+#[derive(Clone, Copy, PartialEq, Eq)]
 pub enum AlignItemsKeyword {
     Normal,
     Start,
@@ -21,24 +21,24 @@ pub enum AlignItemsKeyword {
 }
 
 // The overflow position.
-#[derive(Clone, Copy)]
+#[derive(Clone, Copy, PartialEq, Eq)]
 pub enum AlignmentSafety {
     Default,
     Unsafe,
     Safe,
 }
 
-#[derive(Clone, Copy)]
+#[derive(Clone, Copy, PartialEq, Eq)]
 pub struct AlignItems {
     pub keyword: AlignItemsKeyword,
     pub safety: AlignmentSafety,
 }
 
-impl AlignItemsKeyword {
-    // The code of a record: 0 to 9 in the order above.
-    pub fn from_code(code: u32) -> AlignItemsKeyword
-        ensures { result ≡ keyword_of code }
-    {
+// The code of a record: 0 to 9 in the order above.
+impl From<u32> for AlignItemsKeyword {
+    ghost from_gives = { λ code r. r ≡ keyword_of code };
+
+    fn from(code: u32) -> AlignItemsKeyword {
         match code {
             0 => AlignItemsKeyword::Normal,
             1 => AlignItemsKeyword::Start,
@@ -54,11 +54,11 @@ impl AlignItemsKeyword {
     }
 }
 
-impl AlignmentSafety {
-    // The code of a record: 0 default, 1 unsafe, 2 safe.
-    pub fn from_code(code: u32) -> AlignmentSafety
-        ensures { result ≡ safety_of code }
-    {
+// The code of a record: 0 default, 1 unsafe, 2 safe.
+impl From<u32> for AlignmentSafety {
+    ghost from_gives = { λ code r. r ≡ safety_of code };
+
+    fn from(code: u32) -> AlignmentSafety {
         match code {
             0 => AlignmentSafety::Default,
             1 => AlignmentSafety::Unsafe,
@@ -72,37 +72,12 @@ fn keyword_relative(keyword: AlignItemsKeyword, flipped: bool) -> AlignItemsKeyw
     ensures { result ≡ keyword_relative keyword flipped }
 {
     match keyword {
-        AlignItemsKeyword::Normal => AlignItemsKeyword::Normal,
-        AlignItemsKeyword::Start => AlignItemsKeyword::Start,
-        AlignItemsKeyword::End => AlignItemsKeyword::End,
-        AlignItemsKeyword::FlexStart => AlignItemsKeyword::FlexStart,
-        AlignItemsKeyword::FlexEnd => AlignItemsKeyword::FlexEnd,
-        AlignItemsKeyword::SelfStart => {
-            if flipped {
-                return AlignItemsKeyword::End;
-            }
-            AlignItemsKeyword::Start
-        }
-        AlignItemsKeyword::SelfEnd => {
-            if flipped {
-                return AlignItemsKeyword::Start;
-            }
-            AlignItemsKeyword::End
-        }
-        AlignItemsKeyword::Center => AlignItemsKeyword::Center,
-        AlignItemsKeyword::Baseline => AlignItemsKeyword::Baseline,
-        AlignItemsKeyword::Stretch => AlignItemsKeyword::Stretch,
+        AlignItemsKeyword::SelfStart if flipped => AlignItemsKeyword::End,
+        AlignItemsKeyword::SelfStart => AlignItemsKeyword::Start,
+        AlignItemsKeyword::SelfEnd if flipped => AlignItemsKeyword::Start,
+        AlignItemsKeyword::SelfEnd => AlignItemsKeyword::End,
+        other => other,
     }
-}
-
-// Whether the item's start is the container's end: in the inline axis, where the two directions differ.
-fn is_flipped(item: Direction, container: Direction, inline: bool) -> bool
-    ensures { result ≡ (inline && differs item container) }
-{
-    if inline {
-        return item.differs(container);
-    }
-    false
 }
 
 impl AlignItems {
@@ -117,8 +92,8 @@ impl AlignItems {
             };
         }
         AlignItems {
-            keyword: AlignItemsKeyword::from_code(keyword),
-            safety: AlignmentSafety::from_code(safety),
+            keyword: AlignItemsKeyword::from(keyword),
+            safety: AlignmentSafety::from(safety),
         }
     }
 
@@ -132,11 +107,9 @@ impl AlignItems {
     ) -> AlignItems
         ensures { result ≡ self_relative self item container inline }
     {
-        let keyword = self.keyword;
-        let safety = self.safety;
         AlignItems {
-            keyword: keyword_relative(keyword, is_flipped(item, container, inline)),
-            safety: safety,
+            keyword: keyword_relative(self.keyword, inline && item != container),
+            safety: self.safety,
         }
     }
 }

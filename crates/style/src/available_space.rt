@@ -1,61 +1,28 @@
 // style/available_space.rs: the space that a box may take in one axis.
-ghost use Rattle.std.specs.Prelude.{◌≡◌};
-ghost use Rattle.style.specs.Values.{clamped_space, clamped_spaces, definite_spaces};
+ghost use Rattle.std.specs.Prelude.{refl};
+ghost use Rattle.util.specs.Maybe.{at_most, at_least, clamped};
+ghost use Rattle.style.specs.declared.available_space.AvailableSpace.TheVariants.{Definite, MinContent, MaxContent};
+ghost use Rattle.style.specs.Values.{clamped_space};
 
-use geometry::{MaybeSize, Size};
-use util::math;
-use util::math::MaybeF32;
+use util::math::MaybeMath;
 
-#[derive(Clone, Copy)]
+#[derive(Clone, Copy, PartialEq)]
 pub enum AvailableSpace {
     Definite(f32),
     MinContent,
     MaxContent,
 }
 
-// `Size<AvailableSpace>` of the Rust.
-#[derive(Clone, Copy)]
-pub struct AvailableSize {
-    pub width: AvailableSpace,
-    pub height: AvailableSpace,
-}
+// A definite space is clamped; the others stay.
+impl MaybeMath for AvailableSpace {
+    ghost clamp = { clamped_space };
 
-impl AvailableSpace {
-    // A definite space clamped, as util/math.rs has it: max first, then min.
-    pub fn maybe_clamp(self, min: MaybeF32, max: MaybeF32) -> AvailableSpace
-        ensures { result ≡ clamped_space self min max }
-    {
+    ghost unbounded = { elim [ Definite x ↦ unfold clamped_space in unfold clamped in unfold at_most in unfold at_least in refl | MinContent ↦ unfold clamped_space in refl | MaxContent ↦ unfold clamped_space in refl ] };
+
+    fn maybe_clamp(self, min: Option<f32>, max: Option<f32>) -> AvailableSpace {
         match self {
-            AvailableSpace::Definite(x) => AvailableSpace::Definite(math::clamp(x, min, max)),
-            AvailableSpace::MinContent => AvailableSpace::MinContent,
-            AvailableSpace::MaxContent => AvailableSpace::MaxContent,
-        }
-    }
-}
-
-impl AvailableSize {
-    // `map(AvailableSpace::Definite)` of the Rust.
-    pub fn definite(size: Size) -> AvailableSize
-        ensures { result ≡ definite_spaces size }
-    {
-        AvailableSize {
-            width: AvailableSpace::Definite(size.width),
-            height: AvailableSpace::Definite(size.height),
-        }
-    }
-
-    pub fn maybe_clamp(self, min: MaybeSize, max: MaybeSize) -> AvailableSize
-        ensures { result ≡ clamped_spaces self min max }
-    {
-        let width = self.width;
-        let height = self.height;
-        let min_width = min.width;
-        let min_height = min.height;
-        let max_width = max.width;
-        let max_height = max.height;
-        AvailableSize {
-            width: width.maybe_clamp(min_width, max_width),
-            height: height.maybe_clamp(min_height, max_height),
+            AvailableSpace::Definite(x) => AvailableSpace::Definite(x.maybe_clamp(min, max)),
+            AvailableSpace::MinContent | AvailableSpace::MaxContent => self,
         }
     }
 }

@@ -1,13 +1,13 @@
 // style/mod.rs: the style of an out-of-flow box, as far as its placement reads it.
-#![tactic(auto)]
+#![tactic(auto, unfolding(crate::specs::Codes::sizing_of, crate::specs::Codes::overflow_of, crate::specs::Codes::direction_of, crate::specs::Codes::safety_of, crate::specs::Codes::keyword_of, crate::specs::Codes::alignment_of, crate::specs::Codes::contain_of, crate::specs::Values::self_relative, crate::specs::Values::clamped_space, crate::specs::Values::definite_spaces, crate::specs::Resolve::by_tag, crate::specs::Resolve::resolved, crate::specs::Resolve::takes, crate::specs::Resolve::maybe_resolved, crate::specs::Resolve::resolved_rect, crate::specs::Resolve::resolved_size))]
 
 ghost use Rattle.std.specs.Prelude.{◌≡◌};
 ghost use Rattle.style.specs.Codes.{sizing_of, overflow_of, direction_of, contain_of};
-ghost use Rattle.style.specs.Values.{claims, is_scroll_container, any_scroll_container, is_visible, is_scroll, contains_overflow, is_rtl, differs, is_content_box};
+ghost use Rattle.style.specs.Values.{claims, is_scroll_container, any_scroll_container, contains_overflow, is_rtl};
 
 use crate::alignment::AlignItems;
-use crate::compact_length::{LengthRect, LengthSize};
-use util::math::MaybeF32;
+use crate::compact_length::CompactLength;
+use geometry::{Point, Rect, Size};
 
 pub mod alignment;
 pub mod available_space;
@@ -15,7 +15,7 @@ pub mod bits;
 pub mod compact_length;
 pub mod resolve;
 
-#[derive(Clone, Copy)]
+#[derive(Clone, Copy, PartialEq, Eq)]
 pub enum Position {
     Static,
     Relative,
@@ -37,43 +37,32 @@ impl ContainingBlockClaims {
         ensures { result ≡ claims self position }
     {
         match position {
-            Position::Static => false,
-            Position::Relative => false,
             Position::Absolute => self.absolute,
             Position::Fixed => self.fixed,
-            Position::Sticky => false,
+            Position::Static | Position::Relative | Position::Sticky => false,
         }
     }
 }
 
-#[derive(Clone, Copy)]
+#[derive(Clone, Copy, PartialEq, Eq)]
 pub enum BoxSizing {
     BorderBox,
     ContentBox,
 }
 
-impl BoxSizing {
-    // The code of a record: 0 border, 1 content.
-    pub fn from_code(code: u32) -> BoxSizing
-        ensures { result ≡ sizing_of code }
-    {
+// The code of a record: 0 border, 1 content.
+impl From<u32> for BoxSizing {
+    ghost from_gives = { λ code r. r ≡ sizing_of code };
+
+    fn from(code: u32) -> BoxSizing {
         match code {
             0 => BoxSizing::BorderBox,
             _ => BoxSizing::ContentBox,
         }
     }
-
-    pub fn is_content_box(self) -> bool
-        ensures { result ≡ is_content_box self }
-    {
-        match self {
-            BoxSizing::BorderBox => false,
-            BoxSizing::ContentBox => true,
-        }
-    }
 }
 
-#[derive(Clone, Copy)]
+#[derive(Clone, Copy, PartialEq, Eq)]
 pub enum Overflow {
     Visible,
     Clip,
@@ -81,11 +70,11 @@ pub enum Overflow {
     Scroll,
 }
 
-impl Overflow {
-    // The code of a record: 0 visible, 1 clip, 2 hidden, 3 scroll.
-    pub fn from_code(code: u32) -> Overflow
-        ensures { result ≡ overflow_of code }
-    {
+// The code of a record: 0 visible, 1 clip, 2 hidden, 3 scroll.
+impl From<u32> for Overflow {
+    ghost from_gives = { λ code r. r ≡ overflow_of code };
+
+    fn from(code: u32) -> Overflow {
         match code {
             0 => Overflow::Visible,
             1 => Overflow::Clip,
@@ -93,59 +82,21 @@ impl Overflow {
             _ => Overflow::Scroll,
         }
     }
+}
 
+impl Overflow {
     pub fn is_scroll_container(self) -> bool
         ensures { result ≡ is_scroll_container self }
     {
-        match self {
-            Overflow::Visible => false,
-            Overflow::Clip => false,
-            Overflow::Hidden => true,
-            Overflow::Scroll => true,
-        }
-    }
-
-    // `== Overflow::Visible` of the Rust.
-    pub fn is_visible(self) -> bool
-        ensures { result ≡ is_visible self }
-    {
-        match self {
-            Overflow::Visible => true,
-            Overflow::Clip => false,
-            Overflow::Hidden => false,
-            Overflow::Scroll => false,
-        }
-    }
-
-    // `== Overflow::Scroll` of the Rust: a scrollbar is shown.
-    pub fn is_scroll(self) -> bool
-        ensures { result ≡ is_scroll self }
-    {
-        match self {
-            Overflow::Visible => false,
-            Overflow::Clip => false,
-            Overflow::Hidden => false,
-            Overflow::Scroll => true,
-        }
+        matches!(self, Overflow::Hidden | Overflow::Scroll)
     }
 }
 
-// `Point<Overflow>` of the Rust.
-#[derive(Clone, Copy)]
-pub struct OverflowPoint {
-    pub x: Overflow,
-    pub y: Overflow,
-}
-
-impl OverflowPoint {
-    // Whether either axis makes a scroll container.
-    pub fn is_scroll_container(self) -> bool
-        ensures { result ≡ any_scroll_container self }
-    {
-        let x = self.x;
-        let y = self.y;
-        x.is_scroll_container() || y.is_scroll_container()
-    }
+// Whether either axis makes a scroll container.
+pub fn any_scroll_container(overflow: Point<Overflow>) -> bool
+    ensures { result ≡ any_scroll_container overflow }
+{
+    overflow.x.is_scroll_container() || overflow.y.is_scroll_container()
 }
 
 // Layout and paint containment; the other bits of the record's word are not read.
@@ -155,17 +106,19 @@ pub struct Contain {
     pub paint: bool,
 }
 
-impl Contain {
-    // The word of a record: bit 0 layout, bit 1 paint.
-    pub fn from_code(code: u32) -> Contain
-        ensures { result ≡ contain_of code }
-    {
+// The word of a record: bit 0 layout, bit 1 paint.
+impl From<u32> for Contain {
+    ghost from_gives = { λ code r. r ≡ contain_of code };
+
+    fn from(code: u32) -> Contain {
         Contain {
             layout: bits::bit0(code),
             paint: bits::bit1(code),
         }
     }
+}
 
+impl Contain {
     pub fn contains_scrollable_overflow(self) -> bool
         ensures { result ≡ contains_overflow self }
     {
@@ -173,40 +126,29 @@ impl Contain {
     }
 }
 
-#[derive(Clone, Copy)]
+#[derive(Clone, Copy, PartialEq, Eq)]
 pub enum Direction {
     Ltr,
     Rtl,
 }
 
-impl Direction {
-    // The code of a record: 0 left-to-right, 1 right-to-left.
-    pub fn from_code(code: u32) -> Direction
-        ensures { result ≡ direction_of code }
-    {
+// The code of a record: 0 left-to-right, 1 right-to-left.
+impl From<u32> for Direction {
+    ghost from_gives = { λ code r. r ≡ direction_of code };
+
+    fn from(code: u32) -> Direction {
         match code {
             0 => Direction::Ltr,
             _ => Direction::Rtl,
         }
     }
+}
 
+impl Direction {
     pub fn is_rtl(self) -> bool
         ensures { result ≡ is_rtl self }
     {
-        match self {
-            Direction::Ltr => false,
-            Direction::Rtl => true,
-        }
-    }
-
-    // `!=` of the Rust.
-    pub fn differs(self, other: Direction) -> bool
-        ensures { result ≡ differs self other }
-    {
-        match self {
-            Direction::Ltr => other.is_rtl(),
-            Direction::Rtl => !other.is_rtl(),
-        }
+        matches!(self, Direction::Rtl)
     }
 }
 
@@ -214,21 +156,21 @@ impl Direction {
 // box_sizing and scrollbar_width; `justify` and `align` its justify_self and align_self, absent ones as normal.
 #[derive(Clone, Copy)]
 pub struct Style {
-    pub inset: LengthRect,
-    pub margin: LengthRect,
-    pub padding: LengthRect,
-    pub border: LengthRect,
-    pub size: LengthSize,
-    pub min: LengthSize,
-    pub max: LengthSize,
-    pub ratio: MaybeF32,
+    pub inset: Rect<CompactLength>,
+    pub margin: Rect<CompactLength>,
+    pub padding: Rect<CompactLength>,
+    pub border: Rect<CompactLength>,
+    pub size: Size<CompactLength>,
+    pub min: Size<CompactLength>,
+    pub max: Size<CompactLength>,
+    pub ratio: Option<f32>,
     pub sizing: BoxSizing,
     pub replaced: bool,
     pub table: bool,
     pub direction: Direction,
     pub justify: AlignItems,
     pub align: AlignItems,
-    pub overflow: OverflowPoint,
+    pub overflow: Point<Overflow>,
     pub scrollbar: f32,
     pub contain: Contain,
 }

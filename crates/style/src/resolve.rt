@@ -3,12 +3,11 @@
 ghost use Rattle.std.specs.Prelude.{◌≡◌};
 ghost use Rattle.style.specs.Resolve.{auto_in, in_size, without_keyword, from_size, resolved, is_allowed, takes, value_of, maybe_resolved, resolved_rect, resolved_size};
 
-use crate::compact_length::{CompactLength, LengthRect, LengthSize};
-use geometry::{MaybeRect, MaybeSize, Size};
-use util::math::MaybeF32;
+use crate::compact_length::CompactLength;
+use geometry::{Rect, Size};
 
 // The fields that hold lengths, by the tags that they take.
-#[derive(Clone, Copy)]
+#[derive(Clone, Copy, PartialEq, Eq)]
 pub enum Field {
     InsetOrMargin,
     PaddingOrBorder,
@@ -17,7 +16,7 @@ pub enum Field {
 }
 
 // A sizing keyword. A limit of fit-content is a number of pixels.
-#[derive(Clone, Copy)]
+#[derive(Clone, Copy, PartialEq)]
 pub enum SizingKeyword {
     MinContent,
     MaxContent,
@@ -26,7 +25,7 @@ pub enum SizingKeyword {
     Stretch,
 }
 
-#[derive(Clone, Copy)]
+#[derive(Clone, Copy, PartialEq)]
 pub enum Resolved {
     NotAllowed,
     Absent,
@@ -40,10 +39,8 @@ impl Resolved {
         ensures { result ≡ without_keyword self }
     {
         match self {
-            Resolved::NotAllowed => Resolved::NotAllowed,
-            Resolved::Absent => Resolved::Absent,
-            Resolved::Length(x) => Resolved::Length(x),
             Resolved::Keyword(_) => Resolved::Absent,
+            other => other,
         }
     }
 
@@ -51,23 +48,16 @@ impl Resolved {
     fn is_allowed(self) -> bool
         ensures { result ≡ is_allowed self }
     {
-        match self {
-            Resolved::NotAllowed => false,
-            Resolved::Absent => true,
-            Resolved::Length(_) => true,
-            Resolved::Keyword(_) => true,
-        }
+        !matches!(self, Resolved::NotAllowed)
     }
 
     // The number of pixels, if it comes to one.
-    pub fn value(self) -> MaybeF32
+    pub fn value(self) -> Option<f32>
         ensures { result ≡ value_of self }
     {
         match self {
-            Resolved::NotAllowed => MaybeF32::None,
-            Resolved::Absent => MaybeF32::None,
-            Resolved::Length(x) => MaybeF32::Some(x),
-            Resolved::Keyword(_) => MaybeF32::None,
+            Resolved::Length(x) => Some(x),
+            Resolved::NotAllowed | Resolved::Absent | Resolved::Keyword(_) => None,
         }
     }
 }
@@ -78,10 +68,8 @@ impl Field {
         ensures { result ≡ auto_in self }
     {
         match self {
-            Field::InsetOrMargin => Resolved::Absent,
             Field::PaddingOrBorder => Resolved::NotAllowed,
-            Field::Size => Resolved::Absent,
-            Field::MinOrMax => Resolved::Absent,
+            Field::InsetOrMargin | Field::Size | Field::MinOrMax => Resolved::Absent,
         }
     }
 
@@ -90,8 +78,7 @@ impl Field {
         ensures { result ≡ from_size self size }
     {
         match self {
-            Field::InsetOrMargin => Resolved::NotAllowed,
-            Field::PaddingOrBorder => Resolved::NotAllowed,
+            Field::InsetOrMargin | Field::PaddingOrBorder => Resolved::NotAllowed,
             Field::Size => size,
             Field::MinOrMax => size.without_keyword(),
         }
@@ -102,8 +89,7 @@ impl Field {
 fn in_size(length: CompactLength, basis: f32) -> Resolved
     ensures { result ≡ in_size length.tag length.value basis }
 {
-    let word = length.tag;
-    match word {
+    match length.tag {
         11 => Resolved::Keyword(SizingKeyword::MinContent),
         15 => Resolved::Keyword(SizingKeyword::FitContentLimit(basis * length.value)),
         27 => Resolved::Keyword(SizingKeyword::MaxContent),
@@ -120,8 +106,7 @@ fn in_size(length: CompactLength, basis: f32) -> Resolved
 pub fn resolve(field: Field, length: CompactLength, basis: f32) -> Resolved
     ensures { result ≡ resolved field length basis }
 {
-    let tag = length.tag;
-    match tag {
+    match length.tag {
         1 => Resolved::Length(length.value),
         3 => field.auto(),
         5 => Resolved::Length(basis * length.value),
@@ -145,36 +130,39 @@ impl Field {
 }
 
 // The number of pixels that a length comes to, if any.
-pub fn maybe_resolve(field: Field, length: CompactLength, basis: f32) -> MaybeF32
+pub fn maybe_resolve(field: Field, length: CompactLength, basis: f32) -> Option<f32>
     ensures { result ≡ maybe_resolved field length basis }
 {
     resolve(field, length, basis).value()
 }
 
 // Four sides: left and right against one basis, top and bottom against another.
-pub fn maybe_resolve_rect(field: Field, sides: LengthRect, basisx: f32, basisy: f32) -> MaybeRect
+pub fn maybe_resolve_rect(
+    field: Field,
+    sides: Rect<CompactLength>,
+    basisx: f32,
+    basisy: f32,
+) -> Rect<Option<f32>>
     ensures { result ≡ resolved_rect field sides basisx basisy }
 {
-    let left = sides.left;
-    let right = sides.right;
-    let top = sides.top;
-    let bottom = sides.bottom;
-    MaybeRect {
-        left: maybe_resolve(field, left, basisx),
-        right: maybe_resolve(field, right, basisx),
-        top: maybe_resolve(field, top, basisy),
-        bottom: maybe_resolve(field, bottom, basisy),
+    Rect {
+        left: maybe_resolve(field, sides.left, basisx),
+        right: maybe_resolve(field, sides.right, basisx),
+        top: maybe_resolve(field, sides.top, basisy),
+        bottom: maybe_resolve(field, sides.bottom, basisy),
     }
 }
 
 // Width and height, each against its own basis.
-pub fn maybe_resolve_size(field: Field, size: LengthSize, basis: Size) -> MaybeSize
+pub fn maybe_resolve_size(
+    field: Field,
+    size: Size<CompactLength>,
+    basis: Size<f32>,
+) -> Size<Option<f32>>
     ensures { result ≡ resolved_size field size basis }
 {
-    let width = size.width;
-    let height = size.height;
-    MaybeSize {
-        width: maybe_resolve(field, width, basis.width),
-        height: maybe_resolve(field, height, basis.height),
+    Size {
+        width: maybe_resolve(field, size.width, basis.width),
+        height: maybe_resolve(field, size.height, basis.height),
     }
 }

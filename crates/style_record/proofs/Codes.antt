@@ -3,11 +3,11 @@ use Prim.Native.Nat.{ℕ, ◌+◌, ◌-◌, ◌<◌, ◌≤◌}
 use native.Mathlib.Omega.{arith}
 use native.Mathlib.Nat.{eq-or-lt_of_le}
 use mathlib.Core.Logic.{⊎_elim}
-use mathlib.Core.Path.{◌≡◌, refl, ◌∙◌, subst}
+use mathlib.Core.Path.{◌≡◌, refl, subst}
 use mathlib.Core.Bool.{Bool, true, false, cond, not, ◌&&◌}
 use lib.Dec.{eqb, ltb}
-use borrow.Author.Tests.{lt-ltb, le-ltb}
-use Rattle.style_record.specs.Record.{Kind, tag, number, up_to, ratio, keyword, safety, contain, kind_of, code_kinds, after_lengths, style_words, ratio_present_word, box_sizing_word, flags_word, direction_word, justify_word, align_word, overflow_x_word, overflow_y_word, contain_word}
+use borrow.Author.Tests.{le-ltb}
+use Rattle.style_record.specs.Record.{Kind, tag, number, up_to, ratio, keyword, safety, contain, kind_of, code_kinds, after_lengths, style_words}
 use Rattle.style_record.specs.Check.{safety_breaks, breaks_as, breaks_rule}
 use Rattle.style_record.specs.Codes.{last_code, is_ignored}
 use Rattle.style_record.specs.Laws.{CodesByTheLast}
@@ -42,35 +42,6 @@ module _ (P : ℕ → Type 0) (k : ℕ) where
     where
       over : (k : ℕ) → style_words ≤ k → k < style_words → ⊥
       over k p q = omega arith
-
--- ---- the last code
-
-unfoldable pub last_of : ℕ → ℕ
-last_of k =
-    cond (eqb k ratio_present_word) 1
-    (cond (eqb k box_sizing_word) 1
-    (cond (eqb k flags_word) 3
-    (cond (eqb k direction_word) 1
-    (cond (eqb k justify_word) 10
-    (cond (eqb k (justify_word + 1)) 2
-    (cond (eqb k align_word) 10
-    (cond (eqb k (align_word + 1)) 2
-    (cond (eqb k overflow_x_word) 3
-    (cond (eqb k overflow_y_word) 3
-    (cond (eqb k contain_word) 255 4294967295))))))))))
-
-pub last_of_lem : (k : ℕ) → after_lengths ≤ k → k < style_words → last_of k ≡ last_code (kind_of k)
-unfolding last_of last_code kind_of code_kinds
-last_of_lem k = each (λ j. last_of j ≡ last_code (kind_of j)) k refl refl refl refl refl refl refl refl refl refl refl refl refl
-
--- ---- the safety of an absent keyword
-
-unfoldable pub ignored_of : (ℕ → ℕ) → ℕ → Bool
-ignored_of r k = cond (eqb k (justify_word + 1)) (eqb (r justify_word) 10) (cond (eqb k (align_word + 1)) (eqb (r align_word) 10) false)
-
-pub ignored_of_lem : (r : ℕ → ℕ) (k : ℕ) → after_lengths ≤ k → k < style_words → ignored_of r k ≡ is_ignored (kind_of k) (r (k - 1))
-unfolding ignored_of is_ignored kind_of code_kinds
-ignored_of_lem r k = each (λ j. ignored_of r j ≡ is_ignored (kind_of j) (r (j - 1))) k refl refl refl refl refl refl refl refl refl refl refl refl refl
 
 -- ---- a word up to the last code, and one above it
 
@@ -111,13 +82,8 @@ by_last contain before w _ p = alone (ltb 255 w)
 pub codes_by_the_last : CodesByTheLast
 codes_by_the_last k before w from below p = by_last (kind_of k) before w (codes k from below) p
 
-module _ (r : ℕ → ℕ) (k : ℕ) (from : after_lengths ≤ k) (below : k < style_words) (p : r k < 4294967296) where
-  rule : breaks_rule r k ≡ ltb (last_code (kind_of k)) (r k) && not (is_ignored (kind_of k) (r (k - 1)))
-  unfolding breaks_rule
-  rule = codes_by_the_last k (r (k - 1)) (r k) from below p
-
-  pub held : r k ≤ last_code (kind_of k) → breaks_rule r k ≡ false
-  held h = rule ∙ rw (le-ltb (last_code (kind_of k)) (r k) h) refl
-
-  pub above : last_code (kind_of k) < r k → breaks_rule r k ≡ not (is_ignored (kind_of k) (r (k - 1)))
-  above h = rule ∙ rw (lt-ltb (last_code (kind_of k)) (r k) h) refl
+pub code_rule :
+    (r : ℕ → ℕ) (k : ℕ) → after_lengths ≤ k → k < style_words → r k < 4294967296
+    → breaks_rule r k ≡ ltb (last_code (kind_of k)) (r k) && not (is_ignored (kind_of k) (r (k - 1)))
+unfolding breaks_rule
+code_rule r k from below p = codes_by_the_last k (r (k - 1)) (r k) from below p

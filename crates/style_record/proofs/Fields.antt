@@ -4,8 +4,7 @@ use native.Mathlib.Omega.{arith}
 use mathlib.Core.Path.{◌≡◌, refl, sym, ◌∙◌}
 use mathlib.Core.Bool.{Bool, true, false, not}
 use lib.Dec.{ltb}
-use Rattle.util.specs.declared.math.MaybeF32.{MaybeF32}
-use Rattle.util.specs.declared.math.MaybeF32.TheVariants.{None, Some}
+use borrow.Author.Tests.{not-false}
 use Rattle.style.specs.Resolve.{takes}
 use Rattle.style.specs.Laws.{tags_of, among}
 use Rattle.style.proofs.Laws.{takes_its_tags}
@@ -20,8 +19,9 @@ use Rattle.style.specs.declared.alignment.AlignItemsKeyword.{AlignItemsKeyword}
 use Rattle.style.specs.declared.alignment.AlignItemsKeyword.TheVariants as keyword
 use Rattle.style.specs.declared.alignment.AlignmentSafety.{AlignmentSafety}
 use Rattle.style.specs.declared.alignment.AlignmentSafety.TheVariants.{Default, Unsafe, Safe}
-use Rattle.style.specs.declared.compact_length.LengthRect.{LengthRect}
-use Rattle.style.specs.declared.compact_length.LengthSize.{LengthSize}
+use Rattle.geometry.specs.declared.Rect.{Rect}
+use Rattle.style.specs.declared.compact_length.CompactLength.{CompactLength}
+use Rattle.geometry.specs.declared.Size.{Size}
 use Rattle.style.specs.declared.Style.{Style}
 use Rattle.style.specs.declared.resolve.Field.{Field}
 use Rattle.style.specs.declared.resolve.Field.TheVariants as field
@@ -29,30 +29,29 @@ use Rattle.style_record.specs.Record.{length_field, length_kinds, code_kinds, ki
 use Rattle.style_record.specs.Check.{safety_breaks, breaks_as, breaks_rule, breaks, first_from, first_broken, or_rest, checked_from, checked}
 use Rattle.style_record.specs.Encode.{present_code, length_words_of, rect_words_of, size_words_of, align_words_of, encoded}
 use Rattle.style_record.specs.Laws.{TagsOfRect, TagsOfSize, TagsOfStyle, WrittenIsGood}
-use Rattle.style_record.specs.declared.check.TableCheck.TheVariants as table
+use Rattle.std.specs.Prelude.{Ok, Float, None, Option, Some}
 use Rattle.style_record.proofs.Laws.{good_is_none}
-use Rattle.style_record.proofs.Walk.{was_true}
 use Rattle.style_record.proofs.Written.{present_keyword}
 
 -- ---- tags that break no rule
 
 module _ (f : Field) where
   taken : (w : ℕ) → not (takes f w) ≡ false → among (tags_of f) w ≡ true
-  taken w e = sym (takes_its_tags f w) ∙ was_true (takes f w) e
+  taken w e = sym (takes_its_tags f w) ∙ not-false (takes f w) e
 
   rect :
-      (r : LengthRect)
+      (r : Rect CompactLength)
       → not (takes f r.left.tag) ≡ false → not (takes f r.right.tag) ≡ false → not (takes f r.top.tag) ≡ false → not (takes f r.bottom.tag) ≡ false
       → TagsOfRect f r
   rect r a b c d = record { left = taken _ a; right = taken _ b; top = taken _ c; bottom = taken _ d }
 
-  size : (s : LengthSize) → not (takes f s.width.tag) ≡ false → not (takes f s.height.tag) ≡ false → TagsOfSize f s
+  size : (s : Size CompactLength) → not (takes f s.width.tag) ≡ false → not (takes f s.height.tag) ≡ false → TagsOfSize f s
   size s a b = record { width = taken _ a; height = taken _ b }
 
 inside : (l : ℕ) → l < lengths → tag_word l < style_words
 inside l h = omega arith
 
-tags_of_lem : (y : Style) → checked (encoded y) ≡ table.Good → TagsOfStyle y
+tags_of_lem : (y : Style) → checked (encoded y) ≡ Ok tt → TagsOfStyle y
 unfolding items breaks breaks_rule breaks_as kind_of length_field length_kinds encoded rect_words_of size_words_of length_words_of align_words_of
 tags_of_lem y e =
     let tag : (l : ℕ) → l < lengths → breaks (encoded y) 0 (tag_word l) ≡ false = λ l h. (good_is_none (encoded y)).0 e 0 (omega arith) (tag_word l) (inside l h) in
@@ -68,7 +67,7 @@ tags_of_lem y e =
 
 -- ---- every value has a code that is allowed
 
-present_allowed : (x : MaybeF32) → ltb 1 (present_code x) ≡ false
+present_allowed : (x : Option Float) → ltb 1 (present_code x) ≡ false
 unfolding present_code
 present_allowed None = refl
 present_allowed (Some x) = refl
@@ -119,7 +118,7 @@ keyword_allowed keyword.Stretch = refl
 took : (f : Field) (w : ℕ) → among (tags_of f) w ≡ true → takes f w ≡ true
 took f w e = takes_its_tags f w ∙ e
 
-good_of : (y : Style) → TagsOfStyle y → checked (encoded y) ≡ table.Good
+good_of : (y : Style) → TagsOfStyle y → checked (encoded y) ≡ Ok tt
 unfolding checked checked_from or_rest first_broken first_from breaks_rule breaks_as safety_breaks items kind_of length_field length_kinds code_kinds encoded rect_words_of size_words_of length_words_of align_words_of
 good_of y t =
     rw (took field.InsetOrMargin _ t.inset.left, took field.InsetOrMargin _ t.inset.right, took field.InsetOrMargin _ t.inset.top, took field.InsetOrMargin _ t.inset.bottom)

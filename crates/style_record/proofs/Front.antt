@@ -13,8 +13,8 @@ use Rattle.util.proofs.Floats.{no}
 use Rattle.style_record.specs.Record.{style_words, item, items}
 use Rattle.style_record.specs.Check.{breaks_rule, breaks, checked}
 use Rattle.style_record.specs.Laws.{AllGood, NoneBreaks, First, FirstItemWins, FrontDecides, or_behind, BehindIsNext, PartIsPassedOver}
-use Rattle.style_record.specs.declared.check.TableCheck.{TableCheck}
-use Rattle.style_record.specs.declared.check.TableCheck.TheVariants as table
+use Rattle.style_record.specs.declared.check.BadWord.{BadWord}
+use Rattle.std.specs.Prelude.{Result, Ok, Err, ⊤}
 use Rattle.style_record.proofs.First.{TableIs, good, bad, table_is}
 use Rattle.style_record.proofs.Laws.{order, good_is_none, bad_is_first}
 
@@ -131,7 +131,7 @@ module _ (s t : List ℕ) (n : ℕ) (whole : length s ≡ style_words * n) where
       go true q = all_front a h (ltb-true h n q)
       go false q = all_behind h (ltb-false h n q) (b (ltb-false h n q))
 
-  next : (c d : TableCheck) → TableIs s c → TableIs t d → checked s ≡ c → checked (s ++ t) ≡ or_behind n c d
+  next : (c d : Result ⊤ BadWord) → TableIs s c → TableIs t d → checked s ≡ c → checked (s ++ t) ≡ or_behind n c d
   next _ d (bad i k f) v e =
       front_decides s (s ++ t) i k e (subst (λ (x : ℕ). style_words * i + style_words ≤ x) (sym (length-append s t)) (long i (length s) (length t) whole (here i f.item_there)))
       (λ j p. front j (within i j k p f.word_there (here i f.item_there)))
@@ -169,12 +169,12 @@ part_is_passed_over s t n whole short = behind_is_next s t n whole ∙ ap (or_be
     none : (m : ℕ) → m < style_words → m / style_words ≡ 0
     none m p = omega arith
 
-    nothing : checked t ≡ table.Good
+    nothing : checked t ≡ Ok tt
     nothing = (good_is_none t).1 (λ i p. absurd (empty i p))
       where
         empty : (i : ℕ) → i < items t → ⊥
         empty i p = let e = none (length t) short in omega arith
 
-    back : (c : TableCheck) → or_behind n c table.Good ≡ c
-    back table.Good = refl
-    back (table.Bad i k) = refl
+    back : (c : Result ⊤ BadWord) → or_behind n c (Ok tt) ≡ c
+    back (Ok _) = refl
+    back (Err first) = refl

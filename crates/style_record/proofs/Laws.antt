@@ -2,19 +2,19 @@
 use Prim.Native.Nat.{ℕ, ◌<◌}
 use native.Mathlib.Nat.{eq-or-lt_of_le}
 use mathlib.Core.Logic.{◌⊎◌, inl, inr, ⊎_elim}
-use mathlib.Core.Path.{◌≡◌, refl, subst, ap}
+use mathlib.Core.Path.{◌≡◌, refl, subst}
 use mathlib.Core.Bool.{Bool, true, false}
 use mathlib.Core.List.{List}
 use lib.Dec.{leb}
 use borrow.Author.Tests.{leb-true, leb-false}
 use Rattle.util.proofs.Floats.{no}
 use Rattle.style_record.specs.Record.{length_kinds, code_kinds, item}
-use Rattle.style_record.specs.Check.{breaks, ItemCheck, NoWord, Word, first_broken, checked}
+use Rattle.style_record.specs.Check.{breaks, first_broken, bad_at, checked}
 use Rattle.style_record.specs.Decode.{length_at, rect_at, size_at, align_at, ratio_at, overflow_at, style_of, style_at}
 use Rattle.style_record.specs.Encode.{length_words_of, rect_words_of, size_words_of, align_words_of, encoded, kept}
 use Rattle.style_record.specs.Laws.{WidthsAgree, AllGood, NoneBreaks, First, ItemGoodIsNone, GoodIsNone, BadIsFirst, SomeIsFound, EachWordAtItsIndex, EachWordIsRead, EachFieldIsWritten, DecodingIsExact}
-use Rattle.style_record.specs.declared.check.TableCheck.{TableCheck}
-use Rattle.style_record.specs.declared.check.TableCheck.TheVariants as table
+use Rattle.style_record.specs.declared.check.BadWord.{BadWord}
+use Rattle.std.specs.Prelude.{Option, IsNone, Result, Ok, ⊤}
 use Rattle.style_record.proofs.First.{ItemIs, item_good, item_bad, item_is, TableIs, good, bad, table_is}
 use Rattle.style_record.proofs.Written.{written_back, decoded_back}
 
@@ -26,44 +26,25 @@ widths_agree f y = (refl, refl, refl, refl)
 
 -- ---- the check
 
--- the parts of an answer
-is_good : TableCheck → Bool
-is_good table.Good = true
-is_good (table.Bad i k) = false
-
-item_of : TableCheck → ℕ
-item_of table.Good = 0
-item_of (table.Bad i k) = i
-
-word_of : TableCheck → ℕ
-word_of table.Good = 0
-word_of (table.Bad i k) = k
-
-is_good_item : ItemCheck → Bool
-is_good_item NoWord = true
-is_good_item (Word k) = false
-
 pub item_good_is_none : ItemGoodIsNone
-unfolding is_good_item
 item_good_is_none s i = (λ e. there (first_broken s i) (item_is s i) e, λ a. back (first_broken s i) (item_is s i) a)
   where
-    there : (c : ItemCheck) → ItemIs s i c → c ≡ NoWord → AllGood s i
+    there : (c : Option ℕ) → ItemIs s i c → IsNone c → AllGood s i
     there _ (item_good a) e = a
-    there _ (item_bad k p q w) e = no (ap is_good_item e) refl
+    there _ (item_bad k p q w) e = no refl e
 
-    back : (c : ItemCheck) → ItemIs s i c → AllGood s i → c ≡ NoWord
+    back : (c : Option ℕ) → ItemIs s i c → AllGood s i → IsNone c
     back _ (item_good a) n = refl
     back _ (item_bad k p q w) n = no q (n k p)
 
 pub good_is_none : GoodIsNone
-unfolding is_good
 good_is_none s = (λ e. there (checked s) (table_is s) e, λ a. back (checked s) (table_is s) a)
   where
-    there : (c : TableCheck) → TableIs s c → c ≡ table.Good → NoneBreaks s
+    there : (c : Result ⊤ BadWord) → TableIs s c → c ≡ Ok tt → NoneBreaks s
     there _ (good a) e = a
-    there _ (bad i k f) e = no (ap is_good e) refl
+    there _ (bad i k f) e = absurd (cc)
 
-    back : (c : TableCheck) → TableIs s c → NoneBreaks s → c ≡ table.Good
+    back : (c : Result ⊤ BadWord) → TableIs s c → NoneBreaks s → c ≡ Ok tt
     back _ (good a) n = refl
     back _ (bad i k f) n = no f.breaks_it (n i f.item_there k f.word_there)
 
@@ -88,14 +69,15 @@ one_word s i k l f g =
     (order k l)
 
 pub bad_is_first : BadIsFirst
-unfolding is_good item_of word_of
 bad_is_first s i k = (λ e. there (checked s) (table_is s) e, λ f. back (checked s) (table_is s) f)
   where
-    there : (c : TableCheck) → TableIs s c → c ≡ table.Bad i k → First s i k
-    there _ (good a) e = no refl (ap is_good e)
-    there _ (bad j l f) e = subst (First s i) (ap word_of e) (subst (λ (x : ℕ). First s x l) (ap item_of e) f)
+    there : (c : Result ⊤ BadWord) → TableIs s c → c ≡ bad_at i k → First s i k
+    there _ (good a) e = absurd (cc)
+    there _ (bad j l f) e =
+        let same : ◌≡◌ {A = BadWord} (record { item = j; word = l }) (record { item = i; word = k }) = cc in
+        subst (λ (b : BadWord). First s b.item b.word) same f
 
-    back : (c : TableCheck) → TableIs s c → First s i k → c ≡ table.Bad i k
+    back : (c : Result ⊤ BadWord) → TableIs s c → First s i k → c ≡ bad_at i k
     back _ (good a) f = no f.breaks_it (a i f.item_there k f.word_there)
     back _ (bad j l g) f =
         let p = one_item s j i l k g f in
@@ -105,7 +87,7 @@ bad_is_first s i k = (λ e. there (checked s) (table_is s) e, λ f. back (checke
 pub some_is_found : SomeIsFound
 some_is_found s i k p q e = go (checked s) (table_is s) refl
   where
-    go : (c : TableCheck) → TableIs s c → checked s ≡ c → (j : ℕ) × (l : ℕ) × (checked s ≡ table.Bad j l)
+    go : (c : Result ⊤ BadWord) → TableIs s c → checked s ≡ c → (j : ℕ) × (l : ℕ) × (checked s ≡ bad_at j l)
     go _ (good a) x = no e (a i p k q)
     go _ (bad j l f) x = (j, l, x)
 

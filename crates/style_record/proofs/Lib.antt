@@ -1,7 +1,7 @@
 pub mod Computed
 pub mod Codes
 pub mod Walk
-pub mod Room
+pub mod Same
 pub mod First
 pub mod Written
 pub mod Laws

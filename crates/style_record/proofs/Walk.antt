@@ -11,8 +11,8 @@ use Rattle.style.proofs.Laws.{takes_its_tags}
 use Rattle.style.specs.declared.resolve.Field.{Field}
 use Rattle.style.specs.declared.resolve.Field.TheVariants as field
 use Rattle.style_record.specs.Record.{tag, number, kind_of, length_kinds, length_field, length_words, after_lengths, style_words, tag_word, item}
-use Rattle.style_record.specs.Check.{breaks_as, breaks_rule, NoWord, Word, first_from, or_rest, first_broken, checked_from}
-use Rattle.style_record.specs.declared.check.TableCheck.TheVariants as table
+use Rattle.style_record.specs.Check.{breaks_as, breaks_rule, first_from, bad_at, or_rest, first_broken, checked_from}
+use Rattle.std.specs.Prelude.{None, Some, Ok}
 
 -- ---- n numbers, one by one
 
@@ -25,7 +25,7 @@ over n i h = omega arith
 -- ---- a record's words
 
 module _ (r : ℕ → ℕ) (k : ℕ) where
-  word_bad : k < style_words → breaks_rule r k ≡ true → first_from r (style_words - k) k ≡ Word k
+  word_bad : k < style_words → breaks_rule r k ≡ true → first_from r (style_words - k) k ≡ Some k
   unfolding first_from
   word_bad h e = rw (turn style_words k h) (rw e refl)
 
@@ -33,7 +33,7 @@ module _ (r : ℕ → ℕ) (k : ℕ) where
   unfolding first_from
   word_good h e = rw (turn style_words k h) (rw e refl)
 
-  words_done : style_words ≤ k → first_from r (style_words - k) k ≡ NoWord
+  words_done : style_words ≤ k → first_from r (style_words - k) k ≡ None
   unfolding first_from
   words_done h = rw (over style_words k h) refl
 
@@ -88,7 +88,7 @@ module _ (r : ℕ → ℕ) (k : ℕ) (h : k < after_lengths) (first : k % length
   unfolding breaks_rule breaks_as
   second_rule = rw (second_kind k h first) refl
 
-  tag_bad : takes (length_field (k / length_words)) (r k) ≡ false → first_from r (style_words - k) k ≡ Word k
+  tag_bad : takes (length_field (k / length_words)) (r k) ≡ false → first_from r (style_words - k) k ≡ Some k
   tag_bad e = word_bad r k (below k h) (tag_rule ∙ ap not e)
 
   tag_good : takes (length_field (k / length_words)) (r k) ≡ true → first_from r (style_words - k) k ≡ first_from r (style_words - (k + length_words)) (k + length_words)
@@ -144,13 +144,13 @@ unfolding first_broken
 all_words s i = refl
 
 module _ (s : List ℕ) (i k : ℕ) (here : From s i k) where
-  pub words_end : style_words ≤ k → first_broken s i ≡ NoWord
+  pub words_end : style_words ≤ k → first_broken s i ≡ None
   words_end h = here ∙ words_done (item s i) k h
 
   pub word_on : k < style_words → breaks_rule (item s i) k ≡ false → From s i (k + 1)
   word_on h e = here ∙ word_good (item s i) k h e
 
-  pub word_stop : k < style_words → breaks_rule (item s i) k ≡ true → first_broken s i ≡ Word k
+  pub word_stop : k < style_words → breaks_rule (item s i) k ≡ true → first_broken s i ≡ Some k
   word_stop h e = here ∙ word_bad (item s i) k h e
 
 -- a tag of a stretch is reached
@@ -158,8 +158,8 @@ abbrev pub Tags : ℕ → ℕ → List ℕ → ℕ → ℕ → Type 0
 Tags from to s i k = (from ≤ k) × (k ≤ to) × (k % length_words ≡ 0) × From s i k
 
 -- the stretch is over, and the next begins
-pub next_tags : (from to end : ℕ) (s : List ℕ) (i k : ℕ) → to ≤ end → Tags from to s i k → to ≤ k → Tags to end s i k
-next_tags from to end s i k p here h = (h, omega arith, here.2, here.3)
+pub next_tags : (from to end : ℕ) (s : List ℕ) (i k : ℕ) → to ≤ end → Tags from to s i k → to ≤ k → Tags to end s i to
+next_tags from to end s i k p here h = let e : k ≡ to = omega (arith, here.1) in (omega arith, p, rw e at here.2, rw e at here.3)
 
 module _ (f : Field) (from to : ℕ) (stretch : Stretch f from to) (s : List ℕ) (i k : ℕ) (here : Tags from to s i k) (h : k < to) where
   below_end : k < after_lengths
@@ -178,29 +178,20 @@ module _ (f : Field) (from to : ℕ) (stretch : Stretch f from to) (s : List ℕ
       again : k % length_words ≡ 0 → (k + length_words) % length_words ≡ 0
       again a = omega arith
 
-  pub tag_stop : takes f (item s i k) ≡ false → first_broken s i ≡ Word k
+  pub tag_stop : takes f (item s i k) ≡ false → first_broken s i ≡ Some k
   tag_stop e = here.3 ∙ tag_bad (item s i) k below_end here.2 (stretch.taken k here.0 h _ ∙ e)
-
--- a test of `!b`
-pub was_true : (b : Bool) → not b ≡ false → b ≡ true
-was_true true e = refl
-was_true false e = sym e
-
-pub was_false : (b : Bool) → not b ≡ true → b ≡ false
-was_false true e = sym e
-was_false false e = refl
 
 -- ---- a table's items
 
 module _ (s : List ℕ) (i n : ℕ) (h : i < n) where
-  pub item_bad : {k : ℕ} → first_broken s i ≡ Word k → checked_from s (n - i) i ≡ table.Bad i k
+  pub item_bad : {k : ℕ} → first_broken s i ≡ Some k → checked_from s (n - i) i ≡ bad_at i k
   unfolding checked_from or_rest
   item_bad e = rw (turn n i h) (rw e refl)
 
-  pub item_good : first_broken s i ≡ NoWord → checked_from s (n - i) i ≡ checked_from s (n - (i + 1)) (i + 1)
+  pub item_good : first_broken s i ≡ None → checked_from s (n - i) i ≡ checked_from s (n - (i + 1)) (i + 1)
   unfolding checked_from or_rest
   item_good e = rw (turn n i h) (rw e refl)
 
-pub items_done : (s : List ℕ) (i n : ℕ) → n ≤ i → checked_from s (n - i) i ≡ table.Good
+pub items_done : (s : List ℕ) (i n : ℕ) → n ≤ i → checked_from s (n - i) i ≡ Ok tt
 unfolding checked_from
 items_done s i n h = rw (over n i h) refl

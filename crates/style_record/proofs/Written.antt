@@ -1,4 +1,5 @@
 -- Each word is decoded by its meaning: decoding and writing are inverse. Assumes nothing.
+use Rattle.std.specs.Prelude.{Float, None, Option, Some}
 use Prim.Native.Nat.{ℕ, zero, suc, ◌+◌, ◌-◌, ◌%◌, ◌<◌, ◌≤◌}
 use native.Mathlib.Omega.{arith}
 use mathlib.Core.Path.{◌≡◌, refl, ◌∙◌, ap}
@@ -8,11 +9,9 @@ use lib.ListN.{get_or}
 use lib.Ieee.{Float, of_bits, to_bits, binary32}
 use lib.Ieee.Bits.{of_bits-to_bits}
 use borrow.Author.Tests.{ltb-false, eqb-false}
-use Rattle.util.specs.declared.math.MaybeF32.{MaybeF32}
-use Rattle.util.specs.declared.math.MaybeF32.TheVariants.{None, Some}
 use Rattle.style.specs.declared.compact_length.CompactLength.{CompactLength}
-use Rattle.style.specs.declared.compact_length.LengthRect.{LengthRect}
-use Rattle.style.specs.declared.compact_length.LengthSize.{LengthSize}
+use Rattle.geometry.specs.declared.Rect.{Rect}
+use Rattle.geometry.specs.declared.Size.{Size}
 use Rattle.style.specs.declared.alignment.AlignItemsKeyword.{AlignItemsKeyword}
 use Rattle.style.specs.declared.alignment.AlignItemsKeyword.TheVariants as keyword
 use Rattle.style.specs.declared.alignment.AlignmentSafety.TheVariants as safety
@@ -35,7 +34,7 @@ again l = record { tag = l.tag; value = of_bits binary32 (to_bits binary32 l.val
 length_back : (l : CompactLength) → FitsLength l → again l ≡ l
 length_back l f = λ j. record { tag = l.tag; value = of_bits-to_bits binary32 l.value f.value j; second = of_bits-to_bits binary32 l.second f.second j }
 
-rect_back : (r : LengthRect) → FitsLengthRect r → record { left = again r.left; right = again r.right; top = again r.top; bottom = again r.bottom } ≡ r
+rect_back : (r : Rect CompactLength) → FitsLengthRect r → record { left = again r.left; right = again r.right; top = again r.top; bottom = again r.bottom } ≡ r
 rect_back r f =
     λ j. record {
       left = length_back r.left f.left j;
@@ -44,10 +43,10 @@ rect_back r f =
       bottom = length_back r.bottom f.bottom j;
     }
 
-size_back : (s : LengthSize) → FitsLengthSize s → record { width = again s.width; height = again s.height } ≡ s
+size_back : (s : Size CompactLength) → FitsLengthSize s → record { width = again s.width; height = again s.height } ≡ s
 size_back s f = λ j. record { width = length_back s.width f.width j; height = length_back s.height f.height j }
 
-ratio_back : (m : MaybeF32) → FitsMaybe m → cond (eqb (present_code m) 0) None (Some (of_bits binary32 (ratio_bits m))) ≡ m
+ratio_back : (m : Option Float) → FitsMaybe m → cond (eqb (present_code m) 0) None (Some (of_bits binary32 (ratio_bits m))) ≡ m
 unfolding present_code ratio_bits
 ratio_back None f = refl
 ratio_back (Some x) f = ap (λ (y : Float). Some y) (of_bits-to_bits binary32 x f)

@@ -1,15 +1,14 @@
 -- A style record decoded: each word at its index and by its meaning (document 01, "Style"; request #105). What a word is read as that the
 -- check refuses, style/specs/Codes.antt says. Assumes nothing.
-use Rattle.std.specs.Prelude.{ℕ, ◌+◌, ◌*◌, cond, List, eqb}
+use Rattle.std.specs.Prelude.{ℕ, ◌+◌, ◌*◌, cond, List, eqb, Float, None, Option, Some}
 use Rattle.std.specs.Float.Ieee.{of_bits}
 use Rattle.std.specs.Float.{binary32}
-use Rattle.util.specs.declared.math.MaybeF32.{MaybeF32}
-use Rattle.util.specs.declared.math.MaybeF32.TheVariants.{None, Some}
 use Rattle.style.specs.declared.compact_length.CompactLength.{CompactLength}
-use Rattle.style.specs.declared.compact_length.LengthRect.{LengthRect}
-use Rattle.style.specs.declared.compact_length.LengthSize.{LengthSize}
+use Rattle.geometry.specs.declared.Rect.{Rect}
+use Rattle.geometry.specs.declared.Size.{Size}
 use Rattle.style.specs.declared.alignment.AlignItems.{AlignItems}
-use Rattle.style.specs.declared.OverflowPoint.{OverflowPoint}
+use Rattle.geometry.specs.declared.Point.{Point}
+use Rattle.style.specs.declared.Overflow.{Overflow}
 use Rattle.style.specs.declared.Style.{Style}
 use Rattle.style.specs.Codes.{sizing_of, overflow_of, direction_of, alignment_of, bit0, bit1, contain_of}
 use Rattle.style_record.specs.Record.{length_words, tag_word, ratio_present_word, ratio_word, box_sizing_word, flags_word, direction_word, justify_word, align_word, overflow_x_word, overflow_y_word, scrollbar_word, contain_word, item}
@@ -19,7 +18,7 @@ use Rattle.style_record.specs.Record.{length_words, tag_word, ratio_present_word
 unfoldable pub length_at : (ℕ → ℕ) → ℕ → CompactLength
 length_at r k = record { tag = r k; value = of_bits binary32 (r (k + 1)); second = of_bits binary32 (r (k + 2)) }
 
-unfoldable pub rect_at : (ℕ → ℕ) → ℕ → LengthRect
+unfoldable pub rect_at : (ℕ → ℕ) → ℕ → Rect CompactLength
 rect_at r k =
     record {
       left = length_at r k;
@@ -28,7 +27,7 @@ rect_at r k =
       bottom = length_at r (k + 3 * length_words);
     }
 
-unfoldable pub size_at : (ℕ → ℕ) → ℕ → LengthSize
+unfoldable pub size_at : (ℕ → ℕ) → ℕ → Size CompactLength
 size_at r k = record { width = length_at r k; height = length_at r (k + length_words) }
 
 -- a keyword and its safety
@@ -38,10 +37,10 @@ align_at r k = alignment_of (r k) (r (k + 1))
 -- ---- the words after the lengths
 
 -- the ratio's word is read where it is present
-unfoldable pub ratio_at : (ℕ → ℕ) → MaybeF32
+unfoldable pub ratio_at : (ℕ → ℕ) → Option Float
 ratio_at r = cond (eqb (r ratio_present_word) 0) None (Some (of_bits binary32 (r ratio_word)))
 
-unfoldable pub overflow_at : (ℕ → ℕ) → OverflowPoint
+unfoldable pub overflow_at : (ℕ → ℕ) → Point Overflow
 overflow_at r = record { x = overflow_of (r overflow_x_word); y = overflow_of (r overflow_y_word) }
 
 -- ---- a whole record

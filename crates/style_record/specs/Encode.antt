@@ -1,13 +1,11 @@
 -- A style written as a record: the words in document 01's order, each length with its second value behind its value (request #105). Assumes
 -- nothing.
-use Rattle.std.specs.Prelude.{ℕ, zero, suc, ◌+◌, ◌-◌, ◌%◌, cond, List, [], ◌∷◌, ◌++◌, eqb}
+use Rattle.std.specs.Prelude.{ℕ, zero, suc, ◌+◌, ◌-◌, ◌%◌, cond, List, [], ◌∷◌, ◌++◌, eqb, Float, None, Option, Some}
 use Rattle.std.specs.Float.Ieee.{of_bits, to_bits}
 use Rattle.std.specs.Float.{binary32}
-use Rattle.util.specs.declared.math.MaybeF32.{MaybeF32}
-use Rattle.util.specs.declared.math.MaybeF32.TheVariants.{None, Some}
 use Rattle.style.specs.declared.compact_length.CompactLength.{CompactLength}
-use Rattle.style.specs.declared.compact_length.LengthRect.{LengthRect}
-use Rattle.style.specs.declared.compact_length.LengthSize.{LengthSize}
+use Rattle.geometry.specs.declared.Rect.{Rect}
+use Rattle.geometry.specs.declared.Size.{Size}
 use Rattle.style.specs.declared.alignment.AlignItems.{AlignItems}
 use Rattle.style.specs.declared.Style.{Style}
 use Rattle.style.specs.Codes.{sizing_code, overflow_code, direction_code, safety_code, keyword_code, bits_code}
@@ -18,18 +16,18 @@ use Rattle.style_record.specs.Record.{Kind, tag, number, up_to, ratio, keyword, 
 unfoldable pub length_words_of : CompactLength → List ℕ
 length_words_of l = l.tag ∷ to_bits binary32 l.value ∷ to_bits binary32 l.second ∷ []
 
-unfoldable pub rect_words_of : LengthRect → List ℕ
+unfoldable pub rect_words_of : Rect CompactLength → List ℕ
 rect_words_of r = length_words_of r.left ++ length_words_of r.right ++ length_words_of r.top ++ length_words_of r.bottom
 
-unfoldable pub size_words_of : LengthSize → List ℕ
+unfoldable pub size_words_of : Size CompactLength → List ℕ
 size_words_of s = length_words_of s.width ++ length_words_of s.height
 
-unfoldable pub present_code : MaybeF32 → ℕ
+unfoldable pub present_code : Option Float → ℕ
 present_code None = 0
 present_code (Some x) = 1
 
 -- an absent ratio is written as 0
-unfoldable pub ratio_bits : MaybeF32 → ℕ
+unfoldable pub ratio_bits : Option Float → ℕ
 ratio_bits None = 0
 ratio_bits (Some x) = to_bits binary32 x
 

@@ -1,25 +1,22 @@
 -- What the definitions of this crate mean, as statements. `proofs/` proves each, under its name in small letters.
 -- `fits binary32 x` says that x is a value of an f32: true of every f32 of a program. Assumes nothing.
-use Rattle.std.specs.Prelude.{ℕ, ◌+◌, ◌*◌, ◌<◌, ◌≤◌, ◌⊎◌, ◌↔◌, ◌≡◌, true, false, not, ◌&&◌, List, ◌++◌, get_or, length, T, ltb}
+use Rattle.std.specs.Prelude.{ℕ, ◌+◌, ◌*◌, ◌<◌, ◌≤◌, ◌⊎◌, ◌↔◌, ◌≡◌, true, false, not, ◌&&◌, List, ◌++◌, get_or, length, T, ltb, IsNone, Result, Ok, Err, ⊤, Float, None, Option, Some}
 use Rattle.std.specs.Float.Ieee.{fits, of_bits}
 use Rattle.std.specs.Float.{binary32}
-use Rattle.util.specs.declared.math.MaybeF32.{MaybeF32}
-use Rattle.util.specs.declared.math.MaybeF32.TheVariants.{None, Some}
 use Rattle.style.specs.declared.compact_length.CompactLength.{CompactLength}
-use Rattle.style.specs.declared.compact_length.LengthRect.{LengthRect}
-use Rattle.style.specs.declared.compact_length.LengthSize.{LengthSize}
+use Rattle.geometry.specs.declared.Rect.{Rect}
+use Rattle.geometry.specs.declared.Size.{Size}
 use Rattle.style.specs.declared.Style.{Style}
 use Rattle.style.specs.declared.resolve.Field.{Field}
-use Rattle.style.specs.declared.resolve.Field.TheVariants.{InsetOrMargin, PaddingOrBorder, Size, MinOrMax}
+use Rattle.style.specs.declared.resolve.Field.TheVariants as field
 use Rattle.style.specs.Codes.{sizing_of, overflow_of, direction_of, alignment_of, bit0, bit1, contain_of}
 use Rattle.style.specs.Laws.{tags_of, among}
 use Rattle.style_record.specs.Record.{length_words, code_words, after_lengths, style_words, length_kinds, code_kinds, kind_of, items}
-use Rattle.style_record.specs.Check.{breaks_as, breaks, NoWord, first_broken, checked}
+use Rattle.style_record.specs.Check.{breaks_as, breaks, first_broken, bad_at, checked}
 use Rattle.style_record.specs.Codes.{last_code, is_ignored}
 use Rattle.style_record.specs.Decode.{style_of, style_at}
 use Rattle.style_record.specs.Encode.{encoded, kept}
-use Rattle.style_record.specs.declared.check.TableCheck.{TableCheck}
-use Rattle.style_record.specs.declared.check.TableCheck.TheVariants as table
+use Rattle.style_record.specs.declared.check.BadWord.{BadWord}
 
 -- ---- the widths
 
@@ -46,19 +43,19 @@ pub record First (s : List ℕ) (i k : ℕ) : Type 0 where
 
 -- an item is good exactly where none of its words breaks a rule
 abbrev pub ItemGoodIsNone : Type 0
-ItemGoodIsNone = (s : List ℕ) (i : ℕ) → (first_broken s i ≡ NoWord → AllGood s i) × (AllGood s i → first_broken s i ≡ NoWord)
+ItemGoodIsNone = (s : List ℕ) (i : ℕ) → (IsNone (first_broken s i) → AllGood s i) × (AllGood s i → IsNone (first_broken s i))
 
 -- a table is good exactly where no word of it breaks a rule
 abbrev pub GoodIsNone : Type 0
-GoodIsNone = (s : List ℕ) → (checked s ≡ table.Good → NoneBreaks s) × (NoneBreaks s → checked s ≡ table.Good)
+GoodIsNone = (s : List ℕ) → (checked s ≡ Ok tt → NoneBreaks s) × (NoneBreaks s → checked s ≡ Ok tt)
 
 -- bad exactly at the first that does
 abbrev pub BadIsFirst : Type 0
-BadIsFirst = (s : List ℕ) (i k : ℕ) → (checked s ≡ table.Bad i k → First s i k) × (First s i k → checked s ≡ table.Bad i k)
+BadIsFirst = (s : List ℕ) (i k : ℕ) → (checked s ≡ bad_at i k → First s i k) × (First s i k → checked s ≡ bad_at i k)
 
 -- where some word of some item breaks a rule, there is a first one
 abbrev pub SomeIsFound : Type 0
-SomeIsFound = (s : List ℕ) (i k : ℕ) → i < items s → k < style_words → breaks s i k ≡ true → (j : ℕ) × (l : ℕ) × (checked s ≡ table.Bad j l)
+SomeIsFound = (s : List ℕ) (i k : ℕ) → i < items s → k < style_words → breaks s i k ≡ true → (j : ℕ) × (l : ℕ) × (checked s ≡ bad_at j l)
 
 -- a word after the lengths breaks its rule exactly where it is above the last code of its kind and isn't ignored: so the code tests it
 abbrev pub CodesByTheLast : Type 0
@@ -67,36 +64,36 @@ CodesByTheLast =
     → breaks_as (kind_of k) before w ≡ ltb (last_code (kind_of k)) w && not (is_ignored (kind_of k) before)
 
 -- a style's tags, each one that its field takes (document 01, "Tags"), by the fields' names
-pub record TagsOfRect (f : Field) (r : LengthRect) : Type 0 where
+pub record TagsOfRect (f : Field) (r : Rect CompactLength) : Type 0 where
   pub left : among (tags_of f) r.left.tag ≡ true
   pub right : among (tags_of f) r.right.tag ≡ true
   pub top : among (tags_of f) r.top.tag ≡ true
   pub bottom : among (tags_of f) r.bottom.tag ≡ true
 
-pub record TagsOfSize (f : Field) (s : LengthSize) : Type 0 where
+pub record TagsOfSize (f : Field) (s : Size CompactLength) : Type 0 where
   pub width : among (tags_of f) s.width.tag ≡ true
   pub height : among (tags_of f) s.height.tag ≡ true
 
 pub record TagsOfStyle (y : Style) : Type 0 where
-  pub inset : TagsOfRect InsetOrMargin y.inset
-  pub margin : TagsOfRect InsetOrMargin y.margin
-  pub padding : TagsOfRect PaddingOrBorder y.padding
-  pub border : TagsOfRect PaddingOrBorder y.border
-  pub size : TagsOfSize Size y.size
-  pub min : TagsOfSize MinOrMax y.min
-  pub max : TagsOfSize MinOrMax y.max
+  pub inset : TagsOfRect field.InsetOrMargin y.inset
+  pub margin : TagsOfRect field.InsetOrMargin y.margin
+  pub padding : TagsOfRect field.PaddingOrBorder y.padding
+  pub border : TagsOfRect field.PaddingOrBorder y.border
+  pub size : TagsOfSize field.Size y.size
+  pub min : TagsOfSize field.MinOrMax y.min
+  pub max : TagsOfSize field.MinOrMax y.max
 
 -- a style, written as a record, breaks no rule exactly where each tag is its field's: its floats may be any, and every value of its codes has
 -- a code that is allowed. So which tags are taken at which word is fixed by the fields' names, and no code that a value is written as is
 -- refused. (Codes that none is written as, keyword 10, a safety behind it and contain from 4 on, have rows; that no rule is too lax:
 -- `EachWordIsRead` and the rows)
 abbrev pub WrittenIsGood : Type 0
-WrittenIsGood = (y : Style) → (checked (encoded y) ≡ table.Good) ↔ TagsOfStyle y
+WrittenIsGood = (y : Style) → (checked (encoded y) ≡ Ok tt) ↔ TagsOfStyle y
 
 -- the first item wins over the first word: any word that breaks a rule is of a later item than the word found, or of its item and not before it
 abbrev pub FirstItemWins : Type 0
 FirstItemWins =
-    (s : List ℕ) (i k j l : ℕ) → checked s ≡ table.Bad i k
+    (s : List ℕ) (i k j l : ℕ) → checked s ≡ bad_at i k
     → j < items s → l < style_words → breaks s j l ≡ true
     → (i < j) ⊎ ((i ≡ j) × (k ≤ l))
 
@@ -104,16 +101,16 @@ FirstItemWins =
 -- long it is and whatever else it holds. A theorem can't speak of time: this is why the walk may stop there
 abbrev pub FrontDecides : Type 0
 FrontDecides =
-    (s t : List ℕ) (i k : ℕ) → checked s ≡ table.Bad i k
+    (s t : List ℕ) (i k : ℕ) → checked s ≡ bad_at i k
     → style_words * i + style_words ≤ length t
     → ((j : ℕ) → j ≤ style_words * i + k → get_or t j 0 ≡ get_or s j 0)
-    → checked t ≡ table.Bad i k
+    → checked t ≡ bad_at i k
 
 -- what is found in a table, or else in one that stands behind its n items
-abbrev pub or_behind : ℕ → TableCheck → TableCheck → TableCheck
-or_behind n (table.Bad i k) behind = table.Bad i k
-or_behind n table.Good table.Good = table.Good
-or_behind n table.Good (table.Bad i k) = table.Bad (n + i) k
+abbrev pub or_behind : ℕ → Result ⊤ BadWord → Result ⊤ BadWord → Result ⊤ BadWord
+or_behind n (Err first) behind = Err first
+or_behind n (Ok _) (Ok _) = Ok tt
+or_behind n (Ok _) (Err first) = bad_at (n + first.item) first.word
 
 -- a table behind n whole items has a say exactly where none of theirs is bad, and its items count on from theirs
 abbrev pub BehindIsNext : Type 0
@@ -128,13 +125,13 @@ PartIsPassedOver = (s t : List ℕ) (n : ℕ) → length s ≡ style_words * n �
 abbrev pub length_of : ℕ → ℕ → ℕ → CompactLength
 length_of tag value second = record { tag = tag; value = of_bits binary32 value; second = of_bits binary32 second }
 
-pub record SidesAt (r : ℕ → ℕ) (from : ℕ) (sides : LengthRect) : Type 0 where
+pub record SidesAt (r : ℕ → ℕ) (from : ℕ) (sides : Rect CompactLength) : Type 0 where
   pub left : sides.left ≡ length_of (r from) (r (from + 1)) (r (from + 2))
   pub right : sides.right ≡ length_of (r (from + 3)) (r (from + 4)) (r (from + 5))
   pub top : sides.top ≡ length_of (r (from + 6)) (r (from + 7)) (r (from + 8))
   pub bottom : sides.bottom ≡ length_of (r (from + 9)) (r (from + 10)) (r (from + 11))
 
-pub record SizesAt (r : ℕ → ℕ) (from : ℕ) (sizes : LengthSize) : Type 0 where
+pub record SizesAt (r : ℕ → ℕ) (from : ℕ) (sizes : Size CompactLength) : Type 0 where
   pub width : sizes.width ≡ length_of (r from) (r (from + 1)) (r (from + 2))
   pub height : sizes.height ≡ length_of (r (from + 3)) (r (from + 4)) (r (from + 5))
 
@@ -169,23 +166,23 @@ EachWordAtItsIndex = (s : List ℕ) (i : ℕ) → WordsOf (λ k. get_or s (79 * 
 
 -- an item that breaks no rule, decoded and written again
 abbrev pub EachWordIsRead : Type 0
-EachWordIsRead = (s : List ℕ) (i : ℕ) → first_broken s i ≡ NoWord → encoded (style_at s i) ≡ kept s i
+EachWordIsRead = (s : List ℕ) (i : ℕ) → IsNone (first_broken s i) → encoded (style_at s i) ≡ kept s i
 
 pub record FitsLength (l : CompactLength) : Type 0 where
   pub value : T (fits binary32 l.value)
   pub second : T (fits binary32 l.second)
 
-pub record FitsLengthRect (r : LengthRect) : Type 0 where
+pub record FitsLengthRect (r : Rect CompactLength) : Type 0 where
   pub left : FitsLength r.left
   pub right : FitsLength r.right
   pub top : FitsLength r.top
   pub bottom : FitsLength r.bottom
 
-pub record FitsLengthSize (s : LengthSize) : Type 0 where
+pub record FitsLengthSize (s : Size CompactLength) : Type 0 where
   pub width : FitsLength s.width
   pub height : FitsLength s.height
 
-abbrev pub FitsMaybe : MaybeF32 → Type 0
+abbrev pub FitsMaybe : Option Float → Type 0
 FitsMaybe None = Unit {0}
 FitsMaybe (Some x) = T (fits binary32 x)
 

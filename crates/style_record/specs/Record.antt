@@ -1,7 +1,7 @@
 -- The style record, word by word (document 01, "Style", with three words a length after request #105): 22 lengths, then 13 words. Assumes nothing.
 use Rattle.std.specs.Prelude.{ℕ, ◌+◌, ◌*◌, ◌-◌, ◌/◌, ◌%◌, cond, List, [], ◌∷◌, ltb, get_or, length}
 use Rattle.style.specs.declared.resolve.Field.{Field}
-use Rattle.style.specs.declared.resolve.Field.TheVariants.{InsetOrMargin, PaddingOrBorder, Size, MinOrMax}
+use Rattle.style.specs.declared.resolve.Field.TheVariants as field
 
 -- ---- widths
 
@@ -84,7 +84,7 @@ pub data Kind : Type 0 where
 
 -- the field of a length: eight of insets and margins, eight of padding and borders, two of the size, then min and max
 unfoldable pub length_field : ℕ → Field
-length_field l = cond (ltb l 8) InsetOrMargin (cond (ltb l 16) PaddingOrBorder (cond (ltb l 18) Size MinOrMax))
+length_field l = cond (ltb l 8) field.InsetOrMargin (cond (ltb l 16) field.PaddingOrBorder (cond (ltb l 18) field.Size field.MinOrMax))
 
 -- the words of a length
 unfoldable pub length_kinds : Field → List Kind

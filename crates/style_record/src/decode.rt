@@ -1,91 +1,90 @@
 // The words of one item as a style by value.
-ghost use Rattle.std.specs.Prelude.{◌≡◌, ◌+◌, ◌*◌, ◌≤◌, length};
-ghost use Rattle.std.specs.Float.Ieee.{of_bits};
-ghost use Rattle.std.specs.Float.{binary32};
-ghost use Rattle.style_record.specs.Record.{length_words, style_words, words_from};
-ghost use Rattle.style_record.specs.Decode.{length_at, rect_at, size_at, ratio_at, align_at, overflow_at, style_at};
+ghost use Rattle.std.specs.Prelude.{◌≡◌, ◌+◌, ◌*◌, ◌≤◌, length, slice_index};
+ghost use Rattle.style_record.specs.Record.{length_words, style_words};
+ghost use Rattle.style_record.specs.Decode.{length_at, rect_at, size_at, ratio_at, style_of, style_at};
 
 use crate::words;
+use crate::words::STYLE_WORDS;
+use geometry::{Point, Rect, Size};
+use records::record_at;
 use style::alignment::AlignItems;
-use style::compact_length::{CompactLength, LengthRect, LengthSize};
-use style::{BoxSizing, Contain, Direction, Overflow, OverflowPoint, Style, bits};
+use style::compact_length::CompactLength;
+use style::{BoxSizing, Contain, Direction, Overflow, Style, bits};
 use util::bits as floats;
-use util::math::MaybeF32;
 
-// Each of these reads the record that starts at word `at`, from its word k on.
+// Each of these reads an item's words, from word k on where a k is given.
 
-fn word_at(styles: &[u32], at: usize, k: usize) -> u32
-    requires { at + (k + 1) ≤ length styles.now }
-    ensures { result ≡ words_from styles.now at k }
-{
-    styles[at + k]
-}
-
-fn float_at(styles: &[u32], at: usize, k: usize) -> f32
-    requires { at + (k + 1) ≤ length styles.now }
-    ensures { result ≡ of_bits binary32 (words_from styles.now at k) }
-{
-    floats::from_word(styles[at + k])
-}
-
-fn length_at(styles: &[u32], at: usize, k: usize) -> CompactLength
-    requires { at + (k + length_words) ≤ length styles.now }
-    ensures { result ≡ length_at (words_from styles.now at) k }
+#[tactic(auto, unfolding(crate::specs::Decode::length_at))]
+fn length_at(item: &[u32; STYLE_WORDS], k: usize) -> CompactLength
+    requires { k + length_words ≤ style_words }
+    ensures { result ≡ length_at (slice_index item.now) k }
 {
     CompactLength {
-        tag: word_at(styles, at, k),
-        value: float_at(styles, at, k + 1),
-        second: float_at(styles, at, k + 2),
+        tag: item[k],
+        value: floats::from_word(item[k + 1]),
+        second: floats::from_word(item[k + 2]),
     }
 }
 
-fn rect_at(styles: &[u32], at: usize, k: usize) -> LengthRect
-    requires { at + (k + 4 * length_words) ≤ length styles.now }
-    ensures { result ≡ rect_at (words_from styles.now at) k }
+#[tactic(auto, unfolding(crate::specs::Decode::rect_at))]
+fn rect_at(item: &[u32; STYLE_WORDS], k: usize) -> Rect<CompactLength>
+    requires { k + 4 * length_words ≤ style_words }
+    ensures { result ≡ rect_at (slice_index item.now) k }
 {
-    LengthRect {
-        left: length_at(styles, at, k),
-        right: length_at(styles, at, k + words::LENGTH_WORDS),
-        top: length_at(styles, at, k + 2 * words::LENGTH_WORDS),
-        bottom: length_at(styles, at, k + 3 * words::LENGTH_WORDS),
+    Rect {
+        left: length_at(item, k),
+        right: length_at(item, k + words::LENGTH_WORDS),
+        top: length_at(item, k + 2 * words::LENGTH_WORDS),
+        bottom: length_at(item, k + 3 * words::LENGTH_WORDS),
     }
 }
 
-fn size_at(styles: &[u32], at: usize, k: usize) -> LengthSize
-    requires { at + (k + 2 * length_words) ≤ length styles.now }
-    ensures { result ≡ size_at (words_from styles.now at) k }
+#[tactic(auto, unfolding(crate::specs::Decode::size_at))]
+fn size_at(item: &[u32; STYLE_WORDS], k: usize) -> Size<CompactLength>
+    requires { k + 2 * length_words ≤ style_words }
+    ensures { result ≡ size_at (slice_index item.now) k }
 {
-    LengthSize {
-        width: length_at(styles, at, k),
-        height: length_at(styles, at, k + words::LENGTH_WORDS),
+    Size {
+        width: length_at(item, k),
+        height: length_at(item, k + words::LENGTH_WORDS),
     }
 }
 
-fn ratio_at(styles: &[u32], at: usize) -> MaybeF32
-    requires { at + style_words ≤ length styles.now }
-    ensures { result ≡ ratio_at (words_from styles.now at) }
+#[tactic(auto, unfolding(crate::specs::Decode::ratio_at))]
+fn ratio_at(item: &[u32; STYLE_WORDS]) -> Option<f32>
+    ensures { result ≡ ratio_at (slice_index item.now) }
 {
-    if word_at(styles, at, words::RATIO_PRESENT) == 0 {
-        return MaybeF32::None;
+    if item[words::RATIO_PRESENT] == 0 {
+        return None;
     }
-    MaybeF32::Some(float_at(styles, at, words::RATIO))
+    Some(floats::from_word(item[words::RATIO]))
 }
 
-// A keyword and its safety.
-fn align_at(styles: &[u32], at: usize, k: usize) -> AlignItems
-    requires { at + (k + 2) ≤ length styles.now }
-    ensures { result ≡ align_at (words_from styles.now at) k }
+#[tactic(auto, unfolding(crate::specs::Decode::style_of, crate::specs::Decode::align_at, crate::specs::Decode::overflow_at))]
+fn style_of(item: &[u32; STYLE_WORDS]) -> Style
+    ensures { result ≡ style_of (slice_index item.now) }
 {
-    AlignItems::from_codes(word_at(styles, at, k), word_at(styles, at, k + 1))
-}
-
-fn overflow_at(styles: &[u32], at: usize) -> OverflowPoint
-    requires { at + style_words ≤ length styles.now }
-    ensures { result ≡ overflow_at (words_from styles.now at) }
-{
-    OverflowPoint {
-        x: Overflow::from_code(word_at(styles, at, words::OVERFLOW_X)),
-        y: Overflow::from_code(word_at(styles, at, words::OVERFLOW_Y)),
+    Style {
+        inset: rect_at(item, words::INSET),
+        margin: rect_at(item, words::MARGIN),
+        padding: rect_at(item, words::PADDING),
+        border: rect_at(item, words::BORDER),
+        size: size_at(item, words::SIZE),
+        min: size_at(item, words::MIN),
+        max: size_at(item, words::MAX),
+        ratio: ratio_at(item),
+        sizing: BoxSizing::from(item[words::BOX_SIZING]),
+        replaced: bits::bit0(item[words::FLAGS]),
+        table: bits::bit1(item[words::FLAGS]),
+        direction: Direction::from(item[words::DIRECTION]),
+        justify: AlignItems::from_codes(item[words::JUSTIFY], item[words::JUSTIFY_SAFETY]),
+        align: AlignItems::from_codes(item[words::ALIGN], item[words::ALIGN_SAFETY]),
+        overflow: Point {
+            x: Overflow::from(item[words::OVERFLOW_X]),
+            y: Overflow::from(item[words::OVERFLOW_Y]),
+        },
+        scrollbar: floats::from_word(item[words::SCROLLBAR_WIDTH]),
+        contain: Contain::from(item[words::CONTAIN]),
     }
 }
 
@@ -94,24 +93,5 @@ pub fn style_at(styles: &[u32], node: usize) -> Style
     requires { style_words * node + style_words ≤ length styles.now }
     ensures { result ≡ style_at styles.now node }
 {
-    let at = words::STYLE_WORDS * node;
-    Style {
-        inset: rect_at(styles, at, words::INSET),
-        margin: rect_at(styles, at, words::MARGIN),
-        padding: rect_at(styles, at, words::PADDING),
-        border: rect_at(styles, at, words::BORDER),
-        size: size_at(styles, at, words::SIZE),
-        min: size_at(styles, at, words::MIN),
-        max: size_at(styles, at, words::MAX),
-        ratio: ratio_at(styles, at),
-        sizing: BoxSizing::from_code(word_at(styles, at, words::BOX_SIZING)),
-        replaced: bits::bit0(word_at(styles, at, words::FLAGS)),
-        table: bits::bit1(word_at(styles, at, words::FLAGS)),
-        direction: Direction::from_code(word_at(styles, at, words::DIRECTION)),
-        justify: align_at(styles, at, words::JUSTIFY),
-        align: align_at(styles, at, words::ALIGN),
-        overflow: overflow_at(styles, at),
-        scrollbar: float_at(styles, at, words::SCROLLBAR_WIDTH),
-        contain: Contain::from_code(word_at(styles, at, words::CONTAIN)),
-    }
+    style_of(record_at(styles, node))
 }

@@ -11,6 +11,8 @@ use lib.Ieee.Fits.{add-fits}
 use lib.ListN.{length}
 use lib.Seq.{take_at, drop_at}
 use borrow.Author.Tests.{lt-leb, leb-false}
+use Rattle.std.specs.Prelude.{Option, Some, None, Ok, Err, Float}
+use Rattle.geometry.specs.declared.Point.{Point}
 use Rattle.records.specs.Records.{records, room}
 use Rattle.records.proofs.Laws.{rear_back}
 use Rattle.refusal.specs.declared.Refusal.{Refusal}
@@ -22,10 +24,7 @@ use Rattle.tree.specs.Static.{shifted_axis, translated}
 use Rattle.tree_record.specs.Candidate.{candidate_width, candidate_of, candidate_words}
 use Rattle.tree_record.specs.Laws.{FitsCandidate}
 use Rattle.tree_record.proofs.Laws.{candidate_widths, decoded_fits, candidate_back}
-use Rattle.sweep.specs.declared.Shift.{Shift}
-use Rattle.sweep.specs.declared.Shift.TheVariants.{Unmoved, By}
 use Rattle.sweep.specs.declared.Filled.{Filled}
-use Rattle.sweep.specs.declared.Swept.TheVariants.{Refused, Into}
 use Rattle.sweep.specs.Sweep.{first_candidates, candidates_in, moved, side, keep, list_words, appended, Outcome, swept}
 use Rattle.sweep.specs.Laws.{KeepSplits, FullIsExceeded, RefusedKeeps, AllFit, SweptFits, KeptFits, AppendedBack}
 use Rattle.sweep.proofs.Steps.{words_length}
@@ -43,16 +42,16 @@ keep_splits by (c ∷ cs) = go (claims by c.position) (keep by true cs) (keep by
 
 -- ---- refusal 5
 
-pub never : {A : Type 0} {f : Filled} {r : Refusal} → Into f ≡ Refused r → A
+pub never : {A : Type 0} {f : Filled} {r : Refusal} → Ok f ≡ Err r → A
 never e = absurd (let z : ◌≡◌ {A = ℕ} 0 1 = cc in omega arith)
 
 -- by the two tests: what is answered, and what that says
-by_tests : (m p n q : ℕ) (o full : Outcome) (f : Filled) → o.answer ≡ Into f
-    → ((cond (leb m p && leb n q) o full).answer ≡ Refused ListFull → (p < m) ⊎ (q < n))
+by_tests : (m p n q : ℕ) (o full : Outcome) (f : Filled) → o.answer ≡ Ok f
+    → ((cond (leb m p && leb n q) o full).answer ≡ Err ListFull → (p < m) ⊎ (q < n))
     × ((p < m) ⊎ (q < n) → cond (leb m p && leb n q) o full ≡ full)
 by_tests m p n q o full f i = (go (leb m p) (leb n q) refl refl, ⊎_elim (λ h. rw (lt-leb m p h) refl) (λ h. rw (lt-leb n q h) (second (leb m p))))
   where
-    go : (a b : Bool) → leb m p ≡ a → leb n q ≡ b → (cond (a && b) o full).answer ≡ Refused ListFull → (p < m) ⊎ (q < n)
+    go : (a b : Bool) → leb m p ≡ a → leb n q ≡ b → (cond (a && b) o full).answer ≡ Err ListFull → (p < m) ⊎ (q < n)
     go true true d e r = never (sym i ∙ r)
     go true false d e r = inr (leb-false n q e)
     go false b d e r = inl (leb-false m p d)
@@ -64,7 +63,7 @@ by_tests m p n q o full f i = (go (leb m p) (leb n q) refl refl, ⊎_elim (λ h.
 pub full_is_exceeded : FullIsExceeded
 unfolding swept room
 full_is_exceeded by cs w u f =
-    let t = by_tests (f.working + length (keep by true cs)) (length w / candidate_width) (f.unclaimed + length (keep by false cs)) (length u / candidate_width) _ (record { answer = Refused ListFull; working = w; unclaimed = u }) _ refl in
+    let t = by_tests (f.working + length (keep by true cs)) (length w / candidate_width) (f.unclaimed + length (keep by false cs)) (length u / candidate_width) _ (record { answer = Err ListFull; working = w; unclaimed = u }) _ refl in
     (t.0, λ x. ap (λ (o : Outcome). o.answer) (t.1 x))
 
 pub refused_keeps : RefusedKeeps
@@ -81,24 +80,24 @@ refused_keeps by cs w u f r e =
     into : Outcome
     into =
         record {
-          answer = Into (record { working = f.working + length inside; unclaimed = f.unclaimed + length outside });
+          answer = Ok (record { working = f.working + length inside; unclaimed = f.unclaimed + length outside });
           working = appended w f.working inside;
           unclaimed = appended u f.unclaimed outside;
         }
 
     full : Outcome
-    full = record { answer = Refused ListFull; working = w; unclaimed = u }
+    full = record { answer = Err ListFull; working = w; unclaimed = u }
 
-    go : (b : Bool) → (cond b into full).answer ≡ Refused r → ((cond b into full).working ≡ w) × ((cond b into full).unclaimed ≡ u)
+    go : (b : Bool) → (cond b into full).answer ≡ Err r → ((cond b into full).working ≡ w) × ((cond b into full).unclaimed ≡ u)
     go true e = never e
     go false e = (refl, refl)
 
 -- ---- the lists, read back
 
-moved_fits : (s : Shift) (c : OofCandidate) → FitsCandidate c → FitsCandidate (moved s c)
+moved_fits : (s : Option (Point Float)) (c : OofCandidate) → FitsCandidate c → FitsCandidate (moved s c)
 unfolding moved translated shifted_axis
-moved_fits Unmoved c f = f
-moved_fits (By location) c f = (
+moved_fits None c f = f
+moved_fits (Some location) c f = (
   (add-fits binary32 c.place.x.area.start location.x, add-fits binary32 c.place.x.area.end location.x),
   (add-fits binary32 c.place.y.area.start location.y, add-fits binary32 c.place.y.area.end location.y),
 )

@@ -7,27 +7,26 @@ use mathlib.Core.List.{List, [], ◌∷◌, ◌++◌, map, map-append}
 use mathlib.Core.Path.{◌≡◌, refl, sym, ap, ◌∙◌}
 use lib.ListN.{length}
 use borrow.Author.Tests.{leb-true}
+use Rattle.std.specs.Prelude.{Option, Some, None, Ok, Float}
+use Rattle.geometry.specs.declared.Point.{Point}
 use Rattle.records.specs.Records.{room}
 use Rattle.style.specs.declared.ContainingBlockClaims.{ContainingBlockClaims}
 use Rattle.style.specs.declared.Position.{Position}
 use Rattle.tree.specs.declared.layout.OofCandidate.{OofCandidate}
 use Rattle.tree.specs.Static.{translated}
 use Rattle.tree_record.specs.Candidate.{candidate_width}
-use Rattle.sweep.specs.declared.Shift.{Shift}
-use Rattle.sweep.specs.declared.Shift.TheVariants.{Unmoved, By}
 use Rattle.sweep.specs.declared.Filled.{Filled}
-use Rattle.sweep.specs.declared.Swept.TheVariants.{Into}
 use Rattle.sweep.specs.Sweep.{first_candidates, candidates_in, layers_of, moved, side, keep, appended, Outcome, swept}
 use Rattle.sweep.specs.Laws.{AllFit, HasLayers, LayersKept}
 use Rattle.sweep.proofs.Steps.{moved_position, kept_moved, into, no_room_in, no_room_out, room_both}
 use Rattle.sweep.proofs.Laws.{never, swept_fits, keep_fits, appended_back}
 
-moved_layer : (s : Shift) (c : OofCandidate) → (moved s c).layer ≡ c.layer
+moved_layer : (s : Option (Point Float)) (c : OofCandidate) → (moved s c).layer ≡ c.layer
 unfolding moved translated
-moved_layer Unmoved c = refl
-moved_layer (By location) c = refl
+moved_layer None c = refl
+moved_layer (Some location) c = refl
 
-module _ (by : ContainingBlockClaims) (list : Bool) (s : Shift) where
+module _ (by : ContainingBlockClaims) (list : Bool) (s : Option (Point Float)) where
   kept_layers : (cs : List OofCandidate) → layers_of (keep by list (map (moved s) cs)) ≡ layers_of (keep by list cs)
   unfolding keep
   kept_layers [] = refl
@@ -67,9 +66,9 @@ layers_kept by s slice w u f after e =
     Kept : Filled → Outcome → Type 0
     Kept a o = HasLayers a.working o.working f.working w (keep by true cs) × HasLayers a.unclaimed o.unclaimed f.unclaimed u (keep by false cs)
 
-    there : (o : Outcome) → swept by (map (moved s) cs) w u f ≡ o → (a : Filled) → o.answer ≡ Into a → Kept a o → Kept after (swept by (map (moved s) cs) w u f)
+    there : (o : Outcome) → swept by (map (moved s) cs) w u f ≡ o → (a : Filled) → o.answer ≡ Ok a → Kept a o → Kept after (swept by (map (moved s) cs) w u f)
     there o p a q k =
-        let g : Into a ≡ Into after = sym q ∙ sym (ap (λ (o : Outcome). o.answer) p) ∙ e in
+        let g : Ok a ≡ Ok after = sym q ∙ sym (ap (λ (o : Outcome). o.answer) p) ∙ e in
         let h : a ≡ after = cc in
         rw (p, ← h) k
 

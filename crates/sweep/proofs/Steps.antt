@@ -5,8 +5,9 @@ use native.Mathlib.Nat.{add-zero, sub-zero, mul-add, mul-suc}
 use mathlib.Core.Path.{◌≡◌, refl, sym, ap, ◌∙◌}
 use mathlib.Core.Bool.{Bool, true, false, cond, ◌&&◌}
 use mathlib.Core.List.{List, [], ◌∷◌, ◌++◌, map, append-nil, append_assoc}
-use lib.Dec.{lit≤}
 use lib.ListN.{length, get_or, drop, length-append}
+use Rattle.std.specs.Prelude.{Option, Some, None, Ok, Err, Float}
+use Rattle.geometry.specs.declared.Point.{Point}
 use Rattle.refusal.specs.declared.Refusal.TheVariants.{ListFull}
 use Rattle.style.specs.declared.ContainingBlockClaims.{ContainingBlockClaims}
 use Rattle.style.specs.declared.Position.{Position}
@@ -18,18 +19,15 @@ use Rattle.tree_record.specs.Candidate.{candidate_width, candidate_of, candidate
 use Rattle.tree_record.specs.Codes.{position_of}
 use Rattle.tree_record.proofs.Laws.{candidate_widths}
 use Rattle.tree_record.proofs.Places.{candidate_place}
-use Rattle.sweep.specs.declared.Shift.{Shift}
-use Rattle.sweep.specs.declared.Shift.TheVariants.{Unmoved, By}
 use Rattle.sweep.specs.Sweep.{first_candidates, candidates_in, moved, side, keep, list_words, appended, Outcome, swept}
 use Rattle.sweep.specs.declared.Filled.{Filled}
-use Rattle.sweep.specs.declared.Swept.TheVariants.{Refused, Into}
 
 -- ---- one candidate
 
-pub moved_position : (s : Shift) (c : OofCandidate) → (moved s c).position ≡ c.position
+pub moved_position : (s : Option (Point Float)) (c : OofCandidate) → (moved s c).position ≡ c.position
 unfolding moved translated
-moved_position Unmoved c = refl
-moved_position (By location) c = refl
+moved_position None c = refl
+moved_position (Some location) c = refl
 
 module _ (by : ContainingBlockClaims) (list : Bool) where
   pub keep_in : (c : OofCandidate) → side by list c.position ≡ true → keep by list (c ∷ []) ≡ c ∷ []
@@ -49,7 +47,7 @@ module _ (by : ContainingBlockClaims) (list : Bool) where
       go false = refl
 
   -- a move changes no position
-  pub kept_moved : (s : Shift) (cs : List OofCandidate) → length (keep by list (map (moved s) cs)) ≡ length (keep by list cs)
+  pub kept_moved : (s : Option (Point Float)) (cs : List OofCandidate) → length (keep by list (map (moved s) cs)) ≡ length (keep by list cs)
   unfolding keep
   kept_moved s [] = refl
   kept_moved s (c ∷ cs) =
@@ -120,17 +118,17 @@ module _ (by : ContainingBlockClaims) (list : Bool) (c : OofCandidate) where
   one_out e = ap length (keep_out by list c e)
 
   -- what appending it answers and leaves
-  abbrev pub Appended : Shift → List ℕ → ℕ → ℕ → List ℕ → Type 0
+  abbrev pub Appended : Option (Point Float) → List ℕ → ℕ → ℕ → List ℕ → Type 0
   Appended s ws k r after = (r ≡ k + length (keep by list (c ∷ []))) × (after ≡ appended ws k (keep by list (moved s c ∷ [])))
 
-  pub append_in : (s : Shift) (ws : List ℕ) (k : ℕ) → side by list c.position ≡ true
+  pub append_in : (s : Option (Point Float)) (ws : List ℕ) (k : ℕ) → side by list c.position ≡ true
       → Appended s ws k (k + 1) (written ws (candidate_width * k) (candidate_words (moved s c)))
   append_in s ws k e = (
     ap (λ (m : ℕ). k + m) (sym (one_in e)),
     sym (ap (appended ws k) (keep_in by list (moved s c) (ap (side by list) (moved_position s c) ∙ e)) ∙ appended_one ws k (moved s c)),
   )
 
-  pub append_out : (s : Shift) (ws : List ℕ) (k : ℕ) → side by list c.position ≡ false → Appended s ws k k ws
+  pub append_out : (s : Option (Point Float)) (ws : List ℕ) (k : ℕ) → side by list c.position ≡ false → Appended s ws k k ws
   append_out s ws k e = (
     sym (ap (λ (m : ℕ). k + m) (one_out e) ∙ add-zero k),
     sym (ap (appended ws k) (keep_out by list (moved s c) (ap (side by list) (moved_position s c) ∙ e)) ∙ appended_none ws k),
@@ -147,14 +145,6 @@ unfolding candidates_in first_candidates
 from_start ws = rw sub-zero refl
 
 module _ (by : ContainingBlockClaims) (list : Bool) where
-  pub at_most_one : (c : OofCandidate) → length (keep by list (c ∷ [])) ≤ 1
-  unfolding keep
-  at_most_one c = go (side by list c.position)
-    where
-      go : (b : Bool) → length (cond b (c ∷ []) []) ≤ 1
-      go true = lit≤ tt
-      go false = lit≤ tt
-
   pub count_step : (ws : List ℕ) (n i : ℕ) → i < n
       → length (keep by list (from ws n i)) ≡ length (keep by list (candidate_of (record_at candidate_width ws i) ∷ [])) + length (keep by list (from ws n (i + 1)))
   count_step ws n i h =
@@ -163,7 +153,7 @@ module _ (by : ContainingBlockClaims) (list : Bool) where
       ∙ length-append (keep by list (candidate_of (record_at candidate_width ws i) ∷ [])) (keep by list (from ws n (i + 1)))
 
   -- a list that holds m records after one candidate
-  pub append_step : (s : Shift) (ws l after : List ℕ) (k m n i : ℕ) → i < n
+  pub append_step : (s : Option (Point Float)) (ws l after : List ℕ) (k m n i : ℕ) → i < n
       → m ≡ k + length (keep by list (candidate_of (record_at candidate_width ws i) ∷ []))
       → after ≡ appended l k (keep by list (moved s (candidate_of (record_at candidate_width ws i)) ∷ []))
       → appended l k (keep by list (map (moved s) (from ws n i))) ≡ appended after m (keep by list (map (moved s) (from ws n (i + 1))))
@@ -181,7 +171,7 @@ appended_length ws k cs = written_length ws (candidate_width * k) (list_words cs
 
 -- ---- a sweep, by its tests
 
-module _ (by : ContainingBlockClaims) (s : Shift) (cs : List OofCandidate) (w u : List ℕ) (f : Filled) where
+module _ (by : ContainingBlockClaims) (s : Option (Point Float)) (cs : List OofCandidate) (w u : List ℕ) (f : Filled) where
   room_in : Bool
   room_in = room candidate_width (length w) f.working (length (keep by true cs))
 
@@ -189,12 +179,12 @@ module _ (by : ContainingBlockClaims) (s : Shift) (cs : List OofCandidate) (w u 
   room_out = room candidate_width (length u) f.unclaimed (length (keep by false cs))
 
   abbrev pub full : Outcome
-  full = record { answer = Refused ListFull; working = w; unclaimed = u }
+  full = record { answer = Err ListFull; working = w; unclaimed = u }
 
   abbrev pub into : Outcome
   into =
       record {
-        answer = Into (record { working = f.working + length (keep by true cs); unclaimed = f.unclaimed + length (keep by false cs) });
+        answer = Ok (record { working = f.working + length (keep by true cs); unclaimed = f.unclaimed + length (keep by false cs) });
         working = appended w f.working (keep by true (map (moved s) cs));
         unclaimed = appended u f.unclaimed (keep by false (map (moved s) cs));
       }

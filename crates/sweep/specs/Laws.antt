@@ -1,14 +1,13 @@
 -- What the definitions of this crate mean, as statements. `proofs/Laws.antt` proves each, under its name in small letters. Assumes nothing.
-use Rattle.std.specs.Prelude.{ℕ, ◌+◌, ◌*◌, ◌/◌, ◌<◌, ◌≤◌, List, [], ◌∷◌, ◌++◌, map, ◌⊎◌, ◌≡◌, length}
+use Rattle.std.specs.Prelude.{ℕ, ◌+◌, ◌*◌, ◌/◌, ◌<◌, ◌≤◌, List, [], ◌∷◌, ◌++◌, map, ◌⊎◌, ◌≡◌, length, Option, Ok, Err, Float}
+use Rattle.geometry.specs.declared.Point.{Point}
 use Rattle.refusal.specs.declared.Refusal.{Refusal}
 use Rattle.refusal.specs.declared.Refusal.TheVariants.{ListFull}
 use Rattle.style.specs.declared.ContainingBlockClaims.{ContainingBlockClaims}
 use Rattle.tree.specs.declared.layout.OofCandidate.{OofCandidate}
 use Rattle.tree_record.specs.Candidate.{candidate_width}
 use Rattle.tree_record.specs.Laws.{FitsCandidate}
-use Rattle.sweep.specs.declared.Shift.{Shift}
 use Rattle.sweep.specs.declared.Filled.{Filled}
-use Rattle.sweep.specs.declared.Swept.TheVariants.{Refused, Into}
 use Rattle.sweep.specs.Sweep.{first_candidates, candidates_in, layers_of, moved, claimed, others, appended, swept}
 
 -- ---- claimed, or not
@@ -29,14 +28,14 @@ Exceeds by cs w u f =
 abbrev pub FullIsExceeded : Type 0
 FullIsExceeded =
     (by : ContainingBlockClaims) (cs : List OofCandidate) (w u : List ℕ) (f : Filled)
-    → ((swept by cs w u f).answer ≡ Refused ListFull → Exceeds by cs w u f)
-    × (Exceeds by cs w u f → (swept by cs w u f).answer ≡ Refused ListFull)
+    → ((swept by cs w u f).answer ≡ Err ListFull → Exceeds by cs w u f)
+    × (Exceeds by cs w u f → (swept by cs w u f).answer ≡ Err ListFull)
 
 -- and nothing is written
 abbrev pub RefusedKeeps : Type 0
 RefusedKeeps =
     (by : ContainingBlockClaims) (cs : List OofCandidate) (w u : List ℕ) (f : Filled) (r : Refusal)
-    → (swept by cs w u f).answer ≡ Refused r
+    → (swept by cs w u f).answer ≡ Err r
     → ((swept by cs w u f).working ≡ w) × ((swept by cs w u f).unclaimed ≡ u)
 
 -- ---- the lists, read back
@@ -47,7 +46,7 @@ AllFit (c ∷ cs) = FitsCandidate c × AllFit cs
 
 -- what is swept fits, whatever the words and the shift
 abbrev pub SweptFits : Type 0
-SweptFits = (s : Shift) (ws : List ℕ) → AllFit (map (moved s) (candidates_in ws))
+SweptFits = (s : Option (Point Float)) (ws : List ℕ) → AllFit (map (moved s) (candidates_in ws))
 
 abbrev pub KeptFits : Type 0
 KeptFits = (by : ContainingBlockClaims) (cs : List OofCandidate) → AllFit cs → AllFit (claimed by cs) × AllFit (others by cs)
@@ -67,8 +66,8 @@ HasLayers n after held before came = layers_of (first_candidates n after) ≡ la
 -- whether they were moved or not
 abbrev pub LayersKept : Type 0
 LayersKept =
-    (by : ContainingBlockClaims) (s : Shift) (slice w u : List ℕ) (f after : Filled)
+    (by : ContainingBlockClaims) (s : Option (Point Float)) (slice w u : List ℕ) (f after : Filled)
     → let cs = candidates_in slice in
     let o = swept by (map (moved s) cs) w u f in
-    o.answer ≡ Into after
+    o.answer ≡ Ok after
     → HasLayers after.working o.working f.working w (claimed by cs) × HasLayers after.unclaimed o.unclaimed f.unclaimed u (others by cs)

@@ -1,6 +1,8 @@
 -- Candidates swept into two lists (document 01: "Claimed candidates enter the working list in order, others the unclaimed list";
 -- refusal 5). Assumes nothing.
-use Rattle.std.specs.Prelude.{ℕ, ◌+◌, ◌*◌, ◌/◌, Bool, true, false, cond, not, ◌&&◌, List, [], ◌∷◌, ◌++◌, map, ◌≡◌, length}
+use Rattle.std.specs.Prelude.{ℕ, ◌+◌, ◌*◌, ◌/◌, Bool, true, false, cond, not, ◌&&◌, List, [], ◌∷◌, ◌++◌, map, ◌≡◌, length, Option, Some, None, Result, Ok, Err, Float}
+use Rattle.geometry.specs.declared.Point.{Point}
+use Rattle.refusal.specs.declared.Refusal.{Refusal}
 use Rattle.refusal.specs.declared.Refusal.TheVariants.{ListFull}
 use Rattle.style.specs.declared.Position.{Position}
 use Rattle.style.specs.declared.ContainingBlockClaims.{ContainingBlockClaims}
@@ -9,11 +11,7 @@ use Rattle.tree.specs.declared.layout.OofCandidate.{OofCandidate}
 use Rattle.tree.specs.Static.{translated}
 use Rattle.records.specs.Records.{records, room, written}
 use Rattle.tree_record.specs.Candidate.{candidate_width, candidate_of, candidate_words}
-use Rattle.sweep.specs.declared.Shift.{Shift}
-use Rattle.sweep.specs.declared.Shift.TheVariants.{Unmoved, By}
 use Rattle.sweep.specs.declared.Filled.{Filled}
-use Rattle.sweep.specs.declared.Swept.{Swept}
-use Rattle.sweep.specs.declared.Swept.TheVariants.{Refused, Into}
 
 -- ---- candidates of a slice
 
@@ -26,9 +24,9 @@ unfoldable pub candidates_in : List ℕ → List OofCandidate
 candidates_in ws = first_candidates (length ws / candidate_width) ws
 
 -- surfaced candidates move by their box's location; those of the opening don't
-unfoldable pub moved : Shift → OofCandidate → OofCandidate
-moved Unmoved c = c
-moved (By location) c = translated c location
+unfoldable pub moved : Option (Point Float) → OofCandidate → OofCandidate
+moved None c = c
+moved (Some location) c = translated c location
 
 -- the layers of candidates, in turn
 abbrev pub layers_of : List OofCandidate → List ℕ
@@ -82,7 +80,7 @@ swept_into by cs working unclaimed filled =
 
 -- what a sweep answers, and both lists after it
 pub record Outcome : Type 0 where
-  pub answer : Swept
+  pub answer : Result Filled Refusal
   pub working : List ℕ
   pub unclaimed : List ℕ
 
@@ -93,11 +91,11 @@ swept by cs working unclaimed filled =
     cond
     (room candidate_width (length working) filled.working (length (claimed by cs))
     && room candidate_width (length unclaimed) filled.unclaimed (length (others by cs)))
-    (record { answer = Into after.filled; working = after.working; unclaimed = after.unclaimed })
-    (record { answer = Refused ListFull; working = working; unclaimed = unclaimed })
+    (record { answer = Ok after.filled; working = after.working; unclaimed = after.unclaimed })
+    (record { answer = Err ListFull; working = working; unclaimed = unclaimed })
 
 -- an answer and two lists are those of an outcome
-pub record Leaves (r : Swept) (w u : List ℕ) (o : Outcome) : Type 0 where
+pub record Leaves (r : Result Filled Refusal) (w u : List ℕ) (o : Outcome) : Type 0 where
   pub answer : r ≡ o.answer
   pub working : w ≡ o.working
   pub unclaimed : u ≡ o.unclaimed

@@ -1,10 +1,8 @@
 -- One axis of a box that the Rust laid out, in words, and whether the definition agrees. Assumes nothing.
-use Rattle.std.specs.Prelude.{ℕ, zero, suc, Bool, true, cond, ◌&&◌, ◌||◌, List, [], ◌∷◌, eqb, Float}
+use Rattle.std.specs.Prelude.{ℕ, zero, suc, Bool, true, cond, ◌&&◌, ◌||◌, List, [], ◌∷◌, eqb, Float, None, Option, Some}
 use Rattle.std.specs.Float.Ieee.{eq, is_nan, of_bits}
 use Rattle.std.specs.Float.{binary32}
 use Rattle.util.specs.Number.{◌⊕◌, ◌⊖◌}
-use Rattle.util.specs.declared.math.MaybeF32.{MaybeF32}
-use Rattle.util.specs.declared.math.MaybeF32.TheVariants.{None, Some}
 use Rattle.geometry.specs.Geometry.{◌to◌}
 use Rattle.style.specs.declared.alignment.AlignItemsKeyword.{AlignItemsKeyword}
 use Rattle.style.specs.declared.alignment.AlignItemsKeyword.TheVariants as keyword
@@ -29,7 +27,7 @@ unfoldable pub float : List ℕ → ℕ → Float
 float ws n = of_bits binary32 (word ws n)
 
 -- an inset or a margin: 2 ^ 32 is auto
-unfoldable pub maybe : ℕ → MaybeF32
+unfoldable pub maybe : ℕ → Option Float
 maybe w = cond (eqb w 4294967296) None (Some (of_bits binary32 w))
 
 unfoldable pub flag : ℕ → Bool
@@ -112,7 +110,7 @@ pub record Offset : Type 0 where
   pub given : List ℕ
   pub found : List ℕ
 
-unfoldable pub offset_of : List ℕ → Point
+unfoldable pub offset_of : List ℕ → Point Float
 offset_of ws =
     static_offset
     (record { x = static_of ws 0 (of_bits binary32 0); y = static_of ws 5 (of_bits binary32 0) })

@@ -20,39 +20,15 @@ fn words_of(bytes: &[u8; BOX_BYTES]) -> [u32; BOX_WORDS]
     ensures { box_words ≡ length result }
 {
     let mut words = [0; BOX_WORDS];
-    for i in 0..BOX_WORDS {
-        words[i] = word(
+    for (i, word) in words.iter_mut().enumerate() {
+        *word = u32::from_le_bytes([
             bytes[4 * i],
             bytes[4 * i + 1],
             bytes[4 * i + 2],
             bytes[4 * i + 3],
-        );
+        ]);
     }
     words
-}
-
-fn wide(b: u8) -> u32 {
-    b as u32
-}
-
-fn word(a: u8, b: u8, c: u8, d: u8) -> u32 {
-    wide(a) | wide(b) << 8 | wide(c) << 16 | wide(d) << 24
-}
-
-// One more, if so. Counts stay far below 2 ^ 32.
-fn counted(n: u64, so: bool) -> u64 {
-    if so {
-        return n % 4294967296 + 1;
-    }
-    n
-}
-
-fn is_replayed(full: bool, bytes: &[u8; BOX_BYTES]) -> bool {
-    if full {
-        let words = words_of(bytes);
-        return replay::agrees(&words);
-    }
-    false
 }
 
 // How many of n boxes there are, and how many of them agree.
@@ -61,9 +37,12 @@ fn replay_all(rt: &impl Print, input: &mut impl Read, n: u64) -> io::Result<()> 
     let mut there: u64 = 0;
     let mut agree: u64 = 0;
     for _ in 0..n {
-        let full = input.read_exact(&mut bytes).is_ok();
-        there = counted(there, full);
-        agree = counted(agree, is_replayed(full, &bytes));
+        if input.read_exact(&mut bytes).is_ok() {
+            there = there.saturating_add(1);
+            if replay::agrees(&words_of(&bytes)) {
+                agree = agree.saturating_add(1);
+            }
+        }
     }
     println!(rt; "{there} boxes, {agree} agree")
 }

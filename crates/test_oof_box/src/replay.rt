@@ -2,21 +2,20 @@
 ghost use Rattle.std.specs.Prelude.{◌≡◌, ◌+◌, ◌≤◌, length};
 ghost use Rattle.test_oof_box.specs.Box.{box_words};
 
-use geometry::{MaybeSize, Point, Rect, Size};
+use geometry::{Point, Rect, Size};
 use oof_box::dialogue;
 use oof_box::question::{Asked, Question, Replies, Reply, Stage, Taken};
 use oof_place::OofBoxLayout;
 use oof_resolve::ContainingBlock;
-use style::available_space::{AvailableSize, AvailableSpace};
-use style::{Direction, Overflow, OverflowPoint};
+use style::available_space::AvailableSpace;
+use style::{Direction, Overflow};
 use style_record::decode;
 use style_record::words::STYLE_WORDS;
-use tree::layout::{Layout, OofCandidate, OofPositioningArea};
+use tree::layout::{OofCandidate, OofPositioningArea};
 use tree_record::candidate::CANDIDATE_WORDS;
 use tree_record::layout::LAYOUT_WORDS;
 use tree_record::{candidate, layout};
 use util::bits;
-use util::math::MaybeF32;
 
 // Where the parts of a box's record stand, behind its style.
 const AREA: usize = STYLE_WORDS;
@@ -42,25 +41,19 @@ const QUESTIONS: usize = LAYOUT + LAYOUT_WORDS;
 pub const BOX_WORDS: usize = QUESTIONS + 12;
 
 fn container_of(w: &[u32; BOX_WORDS]) -> ContainingBlock {
-    let size = Size {
-        width: bits::from_word(w[AREA]),
-        height: bits::from_word(w[AREA + 1]),
-    };
-    let offset = Point {
-        x: bits::from_word(w[AREA + 2]),
-        y: bits::from_word(w[AREA + 3]),
-    };
-    let overflow = OverflowPoint {
-        x: Overflow::from_code(w[AREA + 6]),
-        y: Overflow::from_code(w[AREA + 7]),
-    };
     ContainingBlock {
         area: OofPositioningArea {
-            size: size,
-            offset: offset,
+            size: size_at(w, AREA),
+            offset: Point {
+                x: bits::from_word(w[AREA + 2]),
+                y: bits::from_word(w[AREA + 3]),
+            },
         },
-        direction: Direction::from_code(w[AREA + 4]),
-        overflow: overflow,
+        direction: Direction::from(w[AREA + 4]),
+        overflow: Point {
+            x: Overflow::from(w[AREA + 6]),
+            y: Overflow::from(w[AREA + 7]),
+        },
     }
 }
 
@@ -72,10 +65,10 @@ fn candidate_of(w: &[u32]) -> OofCandidate
 
 // ---- questions in words, as the recorded ones
 
-fn known_word(size: MaybeF32) -> u32 {
+fn known_word(size: Option<f32>) -> u32 {
     match size {
-        MaybeF32::None => 0xFFFF_FFFF,
-        MaybeF32::Some(x) => bits::to_word(x),
+        None => 0xFFFF_FFFF,
+        Some(x) => bits::to_word(x),
     }
 }
 
@@ -87,42 +80,27 @@ fn space_word(space: AvailableSpace) -> u32 {
     }
 }
 
-fn question_words(kind: u32, known: MaybeSize, space: AvailableSize) -> [u32; 5] {
-    let width = known.width;
-    let height = known.height;
-    let space_width = space.width;
-    let space_height = space.height;
-    [
-        kind,
-        known_word(width),
-        known_word(height),
-        space_word(space_width),
-        space_word(space_height),
-    ]
+// A question's kind, and its four words.
+fn question_words(
+    kind: u32,
+    known: Size<Option<f32>>,
+    space: Size<AvailableSpace>,
+) -> (u32, [u32; 4]) {
+    let words = [
+        known_word(known.width),
+        known_word(known.height),
+        space_word(space.width),
+        space_word(space.height),
+    ];
+    (kind, words)
 }
 
-fn words_of(question: Question) -> [u32; 5] {
+fn words_of(question: Question) -> (u32, [u32; 4]) {
     match question {
-        Question::MeasureBoth(input) => {
-            let known = input.known;
-            let space = input.space;
-            question_words(0, known, space)
-        }
-        Question::MeasureWidth(input) => {
-            let known = input.known;
-            let space = input.space;
-            question_words(1, known, space)
-        }
-        Question::MeasureHeight(input) => {
-            let known = input.known;
-            let space = input.space;
-            question_words(2, known, space)
-        }
-        Question::LayOut(input) => {
-            let size = input.size;
-            let space = input.space;
-            question_words(3, size.some(), space)
-        }
+        Question::MeasureBoth(input) => question_words(0, input.known, input.space),
+        Question::MeasureWidth(input) => question_words(1, input.known, input.space),
+        Question::MeasureHeight(input) => question_words(2, input.known, input.space),
+        Question::LayOut(input) => question_words(3, input.size.some(), input.space),
     }
 }
 
@@ -148,45 +126,23 @@ fn kind_of(stage: Stage) -> u32 {
 }
 
 // Zeros are equal.
-fn same(a: u32, b: u32) -> bool {
-    plain(a) == plain(b)
-}
-
 fn plain(w: u32) -> u32 {
-    if w == 0x8000_0000 {
-        return 0;
-    }
-    w
+    if w == 0x8000_0000 { 0 } else { w }
 }
 
-// Whether the question is the one recorded at word `at`, with stage and kind.
-fn is_recorded(asked: Asked, stage: u32, w: &[u32; BOX_WORDS], at: usize) -> bool
-    requires { at + 4 ≤ box_words }
-{
-    let now = asked.stage;
-    let question = asked.question;
-    let q = words_of(question);
-    if stage_code(now) != stage {
-        return false;
-    }
-    if q[0] != kind_of(now) {
-        return false;
-    }
-    if !same(q[1], w[at]) {
-        return false;
-    }
-    if !same(q[2], w[at + 1]) {
-        return false;
-    }
-    if !same(q[3], w[at + 2]) {
-        return false;
-    }
-    same(q[4], w[at + 3])
+fn same(a: &[u32], b: &[u32]) -> bool {
+    a.iter().zip(b).all(|(x, y)| plain(*x) == plain(*y))
+}
+
+// Whether the question is the recorded one, with stage and kind.
+fn is_recorded(asked: Asked, stage: u32, recorded: &[u32]) -> bool {
+    let (kind, words) = words_of(asked.question);
+    stage_code(asked.stage) == stage && kind == kind_of(asked.stage) && same(&words, recorded)
 }
 
 // ---- replies
 
-fn size_at(w: &[u32; BOX_WORDS], at: usize) -> Size
+fn size_at(w: &[u32; BOX_WORDS], at: usize) -> Size<f32>
     requires { at + 2 ≤ box_words }
 {
     Size {
@@ -195,7 +151,7 @@ fn size_at(w: &[u32; BOX_WORDS], at: usize) -> Size
     }
 }
 
-fn overflow_of(w: &[u32; BOX_WORDS]) -> Rect {
+fn overflow_of(w: &[u32; BOX_WORDS]) -> Rect<f32> {
     Rect {
         left: bits::from_word(w[OVERFLOW]),
         right: bits::from_word(w[OVERFLOW + 1]),
@@ -216,34 +172,20 @@ fn reply_to(stage: Stage, w: &[u32; BOX_WORDS]) -> Reply {
 
 // ---- what is found
 
-fn is_finish(finish: Rect, w: &[u32; BOX_WORDS]) -> bool {
-    if !same(bits::to_word(finish.left), w[FINISH]) {
-        return false;
-    }
-    if !same(bits::to_word(finish.right), w[FINISH + 1]) {
-        return false;
-    }
-    if !same(bits::to_word(finish.top), w[FINISH + 2]) {
-        return false;
-    }
-    same(bits::to_word(finish.bottom), w[FINISH + 3])
-}
-
-fn is_layout(laid: Layout, w: &[u32; BOX_WORDS]) -> bool {
-    let words = layout::layout_words(laid);
-    for i in 0..LAYOUT_WORDS {
-        if !same(words[i], w[LAYOUT + i]) {
-            return false;
-        }
-    }
-    true
+fn is_finish(finish: Rect<f32>, w: &[u32; BOX_WORDS]) -> bool {
+    let words = [
+        bits::to_word(finish.left),
+        bits::to_word(finish.right),
+        bits::to_word(finish.top),
+        bits::to_word(finish.bottom),
+    ];
+    same(&words, &w[FINISH..STAGES])
 }
 
 // The layout's words, and the finish rectangle of a run of one box.
 fn is_found(found: OofBoxLayout, w: &[u32; BOX_WORDS]) -> bool {
-    let laid = found.layout;
-    let added = found.contribution;
-    is_layout(laid, w) && is_finish(Rect::ZERO.union(added), w)
+    let words = layout::layout_words(found.layout);
+    same(&words, &w[LAYOUT..QUESTIONS]) && is_finish(Rect::ZERO.union(found.contribution), w)
 }
 
 // Whether a box asks, lays out and contributes what was recorded.
@@ -253,27 +195,26 @@ pub(crate) fn agrees(w: &[u32; BOX_WORDS]) -> bool {
     let container = container_of(w);
     let mut replies = Replies::NONE;
     let mut path = w[STAGES];
-    for i in 0..3 {
+    for recorded in w[QUESTIONS..].chunks_exact(4) {
         let asked = dialogue::next_question(container, style, candidate, replies);
-        let stage = asked.stage;
-        if !is_recorded(asked, path % 8, w, QUESTIONS + 4 * i) {
+        if !is_recorded(asked, path % 8, recorded) {
             return false;
         }
-        match replies.take(stage, reply_to(stage, w)) {
-            Taken::Wrong => {
+        match replies.take(asked.stage, reply_to(asked.stage, w)) {
+            None => {
                 return false;
             }
-            Taken::Kept(kept) => {
+            Some(Taken::Kept(kept)) => {
                 replies = kept;
             }
-            Taken::Laid(overflow) => {
+            Some(Taken::Laid(overflow)) => {
                 let found = dialogue::layout_oof_box(
                     container, style, candidate, replies, overflow,
                 );
                 return path < 8 && is_found(found, w);
             }
         }
-        path = path / 8;
+        path /= 8;
     }
     false
 }

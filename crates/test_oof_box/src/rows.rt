@@ -3,7 +3,7 @@
 use geometry::{Line, Point, Rect, Size};
 use oof_common::scrollable_overflow;
 use std::io;
-use style::{Contain, Overflow, OverflowPoint};
+use style::{Contain, Overflow};
 use util::eighths;
 use util::eighths::Count;
 
@@ -16,46 +16,42 @@ fn sign_of(negative: bool) -> &'static str {
 // A number of pixels, by its eighths: 29.500.
 fn print_px(rt: &impl Print, x: f32) -> io::Result<()> {
     match eighths::to_eighths(x) {
-        Count::NotWhole => print!(rt; " *"),
-        Count::Whole(negative, n) => {
+        None => print!(rt; " *"),
+        Some(Count { negative, size: n }) => {
             let sign = sign_of(negative);
             print!(rt; " {sign}{}.{:03}", n / 8, n % 8 * 125)
         }
     }
 }
 
-fn print_line(rt: &impl Print, line: Line) -> io::Result<()> {
+fn print_line(rt: &impl Print, line: Line<f32>) -> io::Result<()> {
     print_px(rt, line.start)?;
     print_px(rt, line.end)?;
     println!(rt)
 }
 
-fn print_rect(rt: &impl Print, row: u8, rect: Rect) -> io::Result<()> {
+fn print_rect(rt: &impl Print, row: u8, rect: Rect<f32>) -> io::Result<()> {
     print!(rt; "{row}")?;
     print_line(rt, rect.horizontal_components())
 }
 
 // ---- rows 12 and 13: the contribution
 
-fn visible() -> OverflowPoint {
-    OverflowPoint {
-        x: Overflow::Visible,
-        y: Overflow::Visible,
-    }
-}
+const VISIBLE: Point<Overflow> = Point {
+    x: Overflow::Visible,
+    y: Overflow::Visible,
+};
 
-fn uncontained() -> Contain {
-    Contain {
-        layout: false,
-        paint: false,
-    }
-}
+const UNCONTAINED: Contain = Contain {
+    layout: false,
+    paint: false,
+};
 
-fn contribution(x: f32, size: Size, right: f32, scrolls: bool) -> Rect {
-    let location = Point { x: x, y: 0.0 };
+fn contribution(x: f32, size: Size<f32>, right: f32, scrolls: bool) -> Rect<f32> {
+    let location = Point { x, y: 0.0 };
     let own = Rect {
         left: 0.0,
-        right: right,
+        right,
         top: 0.0,
         bottom: 0.0,
     };
@@ -63,8 +59,8 @@ fn contribution(x: f32, size: Size, right: f32, scrolls: bool) -> Rect {
         location,
         size,
         own,
-        visible(),
-        uncontained(),
+        VISIBLE,
+        UNCONTAINED,
         scrolls,
     )
 }

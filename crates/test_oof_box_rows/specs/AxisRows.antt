@@ -1,13 +1,11 @@
 -- Rows 1 to 9 of document 01: what is given, and what is found. Block size 100, margins 0, left-to-right inline unless said.
 -- Assumes nothing.
-use Rattle.std.specs.Prelude.{ℕ, Bool, true, false, ◌&&◌, List, [], ◌∷◌, pos, Float}
+use Rattle.std.specs.Prelude.{ℕ, Bool, true, false, ◌&&◌, List, [], ◌∷◌, pos, Float, None, Option, Some}
 use Rattle.std.specs.Float.{binary32}
 use Rattle.std.specs.Float.Ieee.{of_int, eq, neg}
 use Rattle.util.specs.Number.{◌⊘◌, 2f}
-use Rattle.util.specs.declared.math.MaybeF32.TheVariants.{None, Some}
 use Rattle.geometry.specs.Geometry.{◌to◌}
 use Rattle.geometry.specs.declared.Line.{Line}
-use Rattle.geometry.specs.declared.MaybeLine.{MaybeLine}
 use Rattle.style.specs.declared.alignment.AlignmentSafety.{AlignmentSafety}
 use Rattle.style.specs.declared.alignment.AlignmentSafety.TheVariants.{Default, Unsafe, Safe}
 use Rattle.tree.specs.declared.layout.AxisStaticEdge.{AxisStaticEdge}
@@ -23,10 +21,10 @@ use Rattle.oof_axis.specs.Axis.{block, placement}
 unfoldable pub px : ℕ → Float
 px n = of_int binary32 (pos n)
 
-unfoldable pub insets : ℕ → ℕ → MaybeLine
+unfoldable pub insets : ℕ → ℕ → Line (Option Float)
 insets start end = record { start = Some (px start); end = Some (px end) }
 
-unfoldable pub none : MaybeLine
+unfoldable pub none : Line (Option Float)
 none = record { start = None; end = None }
 
 -- an area from a point to that point
@@ -51,7 +49,7 @@ block_axis = record { inline = false; reversed = false; scrolls = false }
 abbrev pub scroll_axis : Flow
 scroll_axis = record { inline = true; reversed = false; scrolls = true }
 
-unfoldable pub axis : Flow → MaybeLine → MaybeLine → AxisStaticPosition → OofAlignment → AlignmentSafety → OofAxis
+unfoldable pub axis : Flow → Line (Option Float) → Line (Option Float) → AxisStaticPosition → OofAlignment → AlignmentSafety → OofAxis
 axis flow inset margin place alignment safety =
     record {
       size = px 100;
@@ -79,7 +77,7 @@ static_center at = axis left_to_right none (insets 0 0) (static at edge.Center) 
 
 -- ---- what is found
 
-unfoldable pub line_is : Line → Float → Float → Bool
+unfoldable pub line_is : Line Float → Float → Float → Bool
 line_is l start end = eq l.start start && eq l.end end
 
 -- the location of a size

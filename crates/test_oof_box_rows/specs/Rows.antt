@@ -2,12 +2,10 @@
 -- rows for request #105's sums.
 -- Block size 100, margins 0, left-to-right unless said. Each box has a height, so that it asks nothing but to be laid out, unless its width
 -- is auto or it is said. Assumes nothing.
-use Rattle.std.specs.Prelude.{ℕ, Bool, true, false, not, ◌&&◌, List, [], ◌∷◌, ◌++◌, Float}
+use Rattle.std.specs.Prelude.{ℕ, Bool, true, false, not, ◌&&◌, List, [], ◌∷◌, ◌++◌, Float, None, Option, Some}
 use Rattle.std.specs.Float.{nan, binary32}
 use Rattle.std.specs.Float.Ieee.{eq, neg, of_bits}
 use Rattle.util.specs.Number.{0f}
-use Rattle.util.specs.declared.math.MaybeF32.{MaybeF32}
-use Rattle.util.specs.declared.math.MaybeF32.TheVariants.{None, Some}
 use Rattle.geometry.specs.Geometry.{◌to◌, zero_point, zero_size}
 use Rattle.style.specs.declared.BoxSizing.TheVariants.{BorderBox}
 use Rattle.style.specs.declared.Direction.{Direction}
@@ -19,8 +17,8 @@ use Rattle.style.specs.declared.Style.{Style}
 use Rattle.style.specs.declared.alignment.AlignItemsKeyword.TheVariants.{Normal}
 use Rattle.style.specs.declared.alignment.AlignmentSafety.TheVariants.{Default}
 use Rattle.style.specs.declared.compact_length.CompactLength.{CompactLength}
-use Rattle.style.specs.declared.compact_length.LengthRect.{LengthRect}
-use Rattle.style.specs.declared.compact_length.LengthSize.{LengthSize}
+use Rattle.geometry.specs.declared.Rect.{Rect}
+use Rattle.geometry.specs.declared.Size.{Size}
 use Rattle.tree.specs.declared.layout.AxisStaticEdge.TheVariants.{Start}
 use Rattle.tree.specs.declared.layout.AxisStaticPosition.{AxisStaticPosition}
 use Rattle.tree.specs.declared.layout.OofCandidate.{OofCandidate}
@@ -40,15 +38,15 @@ length x = record { tag = 1; value = x; second = 0f }
 abbrev pub auto : CompactLength
 auto = record { tag = 3; value = 0f; second = 0f }
 
-abbrev pub sides : CompactLength → CompactLength → CompactLength → LengthRect
+abbrev pub sides : CompactLength → CompactLength → CompactLength → Rect CompactLength
 sides left right others = record { left = left; right = right; top = others; bottom = others }
 
 -- 10 high
-abbrev pub ten_high : CompactLength → LengthSize
+abbrev pub ten_high : CompactLength → Size CompactLength
 ten_high width = record { width = width; height = length (px 10) }
 
 -- a box by its insets, its size, min and max width and its left padding; all else auto or 0
-unfoldable pub box_in : LengthRect → LengthSize → CompactLength → CompactLength → CompactLength → Style
+unfoldable pub box_in : Rect CompactLength → Size CompactLength → CompactLength → CompactLength → CompactLength → Style
 box_in inset size min max padding =
     record {
       inset = inset;
@@ -71,7 +69,7 @@ box_in inset size min max padding =
     }
 
 -- top and bottom inset auto
-abbrev pub box_of : CompactLength → CompactLength → LengthSize → CompactLength → CompactLength → CompactLength → Style
+abbrev pub box_of : CompactLength → CompactLength → Size CompactLength → CompactLength → CompactLength → CompactLength → Style
 box_of left right size min max padding = box_in (sides left right auto) size min max padding
 
 -- an area so wide, and 100 high
@@ -109,7 +107,7 @@ outcome right bottom (ask q next) = outcome right bottom (next (replied right bo
 unfoldable pub has_width : Style → ℕ → Bool
 has_width style w = eq (outcome 0 0 (placed (container_of Ltr Visible) style candidate)).outcome.layout.size.width (px w)
 
-unfoldable pub is : MaybeF32 → ℕ → Bool
+unfoldable pub is : Option Float → ℕ → Bool
 is None w = false
 is (Some x) w = eq x (px w)
 

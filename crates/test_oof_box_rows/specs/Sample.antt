@@ -1,14 +1,12 @@
 -- A box that the Rust laid out, in words, and whether the definition asks, lays out and contributes the same. Assumes nothing.
-use Rattle.std.specs.Prelude.{ℕ, Bool, true, false, cond, ◌&&◌, List, [], ◌∷◌, eqb, get_or}
+use Rattle.std.specs.Prelude.{ℕ, Bool, true, false, cond, ◌&&◌, List, [], ◌∷◌, eqb, get_or, Float, None, Option, Some}
 use Rattle.std.specs.Float.Ieee.{to_bits}
 use Rattle.std.specs.Float.{binary32}
-use Rattle.util.specs.declared.math.MaybeF32.{MaybeF32}
-use Rattle.util.specs.declared.math.MaybeF32.TheVariants.{None, Some}
 use Rattle.geometry.specs.Geometry.{zero_rect, union_of}
 use Rattle.style.specs.Codes.{direction_of, overflow_of}
 use Rattle.style.specs.declared.available_space.AvailableSpace.{AvailableSpace}
 use Rattle.style.specs.declared.available_space.AvailableSpace.TheVariants.{Definite, MinContent, MaxContent}
-use Rattle.style.specs.declared.available_space.AvailableSize.{AvailableSize}
+use Rattle.geometry.specs.declared.Size.{Size}
 use Rattle.style_record.specs.Decode.{style_at}
 use Rattle.tree_record.specs.Candidate.{candidate_of}
 use Rattle.records.specs.Records.{float_at}
@@ -51,7 +49,7 @@ same (a ∷ xs) (b ∷ ys) = eqb (plain a) (plain b) && same xs ys
 
 -- ---- questions in words: none is FFFFFFFF, min-content FFFFFFFE, max-content FFFFFFFD
 
-unfoldable pub known_word : MaybeF32 → ℕ
+unfoldable pub known_word : Option Float → ℕ
 known_word None = 4294967295
 known_word (Some x) = to_bits binary32 x
 
@@ -60,7 +58,7 @@ space_word (Definite x) = to_bits binary32 x
 space_word MinContent = 4294967294
 space_word MaxContent = 4294967293
 
-unfoldable pub asked : ℕ → ℕ → ℕ → AvailableSize → List ℕ
+unfoldable pub asked : ℕ → ℕ → ℕ → Size AvailableSpace → List ℕ
 asked kind w h space = kind ∷ w ∷ h ∷ space_word space.width ∷ space_word space.height ∷ []
 
 unfoldable pub question_words : Question → List ℕ

@@ -1,9 +1,7 @@
 -- A run in words, and whether the definition of a call gives it. Assumes nothing.
-use Rattle.std.specs.Prelude.{ℕ, Bool, true, false, cond, ◌&&◌, List, [], ◌∷◌, ◌++◌, eqb, Float, get_or, length, replicate}
+use Rattle.std.specs.Prelude.{ℕ, Bool, true, false, cond, ◌&&◌, List, [], ◌∷◌, ◌++◌, eqb, Float, get_or, length, replicate, None, Option, Some}
 use Rattle.std.specs.Float.Ieee.{of_bits, to_bits}
 use Rattle.std.specs.Float.{binary32}
-use Rattle.util.specs.declared.math.MaybeF32.{MaybeF32}
-use Rattle.util.specs.declared.math.MaybeF32.TheVariants.{None, Some}
 use Rattle.refusal.specs.Refusal.{number_of}
 use Rattle.style.specs.declared.available_space.AvailableSpace.{AvailableSpace}
 use Rattle.style.specs.declared.available_space.AvailableSpace.TheVariants.{Definite, MinContent, MaxContent}
@@ -62,7 +60,7 @@ least = 4294967296
 abbrev pub most : ℕ
 most = 4294967297
 
-unfoldable pub known_word : MaybeF32 → ℕ
+unfoldable pub known_word : Option Float → ℕ
 known_word None = none
 known_word (Some x) = to_bits binary32 x
 

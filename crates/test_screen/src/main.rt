@@ -2,68 +2,43 @@
 // `tools/samples/screen_samples.py` wrote the screens and what is expected.
 #![tactic(auto)]
 
-ghost use Rattle.std.specs.Prelude.{◌+◌, ◌≤◌, ◌≡◌, length, IfOk};
-ghost use Rattle.screen_fields.specs.Format.{MAX_BYTES};
+ghost use Rattle.screen.specs.Screen.{FewLines};
 
 use boxlist_lines::list;
 use boxlist_lines::list::Row;
 use geometry::{Point, Rect, Size};
-use screen::Screen;
+use screen::{LineCounts, ScreenLists};
 use screen_fields::format;
+use screen_program::{read_input, room};
 use std::fs::File;
-use std::io::Read;
 use std::rt::Files;
 use std::{env, io};
 use style_record::words::STYLE_WORDS;
 use tree_record::candidate::CANDIDATE_WORDS;
 use util::bits;
 
-// One byte more than the longest screen.
-const ROOM: usize = format::MAX_BYTES + 1;
-
-fn room() -> [u8; ROOM]
-    ensures { MAX_BYTES + 1 ≡ length result }
-{
-    [0; ROOM]
-}
-
-fn wide(w: u32) -> u64
-    ensures { result ≤ 4294967295 }
-{
-    w as u64
-}
-
-// The words from a place up to another, in decimal.
-fn print_words(rt: &impl Print, words: &[u32], from: usize, to: usize) -> io::Result<()> {
-    for k in from..words.len() {
-        if k == to {
-            return Ok(());
-        }
-        print!(rt; " {}", words[k])?;
+// Words in decimal.
+fn print_words(rt: &impl Print, words: &[u32]) -> io::Result<()> {
+    for word in words {
+        print!(rt; " {word}")?;
     }
     Ok(())
 }
 
-fn mixed(sum: u64, word: u32) -> u64
-    ensures { result ≤ 4294967290 }
-{
-    (sum % 4294967291 * 31 + wide(word)) % 4294967291
+// A sum that tells words and their order.
+fn checksum(words: &[u32]) -> u64 {
+    words.iter().fold(
+        0,
+        |sum: u64, word| (sum % 4294967291 * 31 + u64::from(*word)) % 4294967291,
+    )
 }
 
-// A sum that tells the first n words and their order.
-fn checksum(words: &[u32], n: usize) -> u64 {
-    let mut sum: u64 = 0;
-    for word in words.iter().take(n) {
-        sum = mixed(sum, *word);
-    }
-    sum
+fn print_sum(rt: &impl Print, name: &str, words: &[u32]) -> io::Result<()> {
+    println!(rt; "{name} {} words, sum {}", words.len(), checksum(words))
 }
 
-fn print_sum(rt: &impl Print, name: &str, words: &[u32], n: usize) -> io::Result<()> {
-    println!(rt; "{name} {n} words, sum {}", checksum(words, n))
-}
-
-fn rect(left: u32, right: u32, top: u32, bottom: u32) -> Rect {
+// Floats by their words.
+fn rect(left: u32, right: u32, top: u32, bottom: u32) -> Rect<f32> {
     Rect {
         left: bits::from_word(left),
         right: bits::from_word(right),
@@ -72,33 +47,29 @@ fn rect(left: u32, right: u32, top: u32, bottom: u32) -> Rect {
     }
 }
 
-// The overflow line of the printed list, by its floats' words.
-fn print_overflow(rt: &impl Print, left: u32, right: u32, top: u32, bottom: u32) -> io::Result<()> {
+// The overflow line of the printed list.
+fn print_overflow(rt: &impl Print, overflow: Rect<f32>) -> io::Result<()> {
     let mut last = [0u8; list::OVERFLOW];
-    list::put_overflow(&mut last, 0, rect(left, right, top, bottom));
+    list::put_overflow(&mut last, 0, overflow);
     rt.write_all(&last)
 }
 
-// A row of the printed list, by its floats' words.
+// A row of the printed list, by the words of its place, its size and its margins.
 fn print_row(
     rt: &impl Print,
     node: u32,
-    x: u32,
-    y: u32,
-    width: u32,
-    height: u32,
-    left: u32,
-    right: u32,
-    top: u32,
-    bottom: u32,
+    location: [u32; 2],
+    size: [u32; 2],
+    margin: Rect<f32>,
 ) -> io::Result<()> {
+    let [x, y] = location;
+    let [width, height] = size;
     let mut row = [0u8; list::ROW];
-    let margin = rect(left, right, top, bottom);
     list::put_row(
         &mut row,
         0,
         Row {
-            node: node,
+            node,
             location: Point {
                 x: bits::from_word(x),
                 y: bits::from_word(y),
@@ -107,7 +78,7 @@ fn print_row(
                 width: bits::from_word(width),
                 height: bits::from_word(height),
             },
-            margin: margin,
+            margin,
         },
     );
     rt.write_all(&row)
@@ -120,67 +91,45 @@ fn print_refusal(rt: &impl Print, number: u32) -> io::Result<()> {
 }
 
 // The header's words, the first replies and the first candidate, sums of all, and the area as a row.
-fn show_words(
-    rt: &impl Print,
-    n: usize,
-    m: usize,
-    header: &[u32; format::HEADER_WORDS],
-    styles: &[u32; format::MAX_ITEMS * STYLE_WORDS],
-    replies: &[u32; format::MAX_ITEMS * format::REPLY_WORDS],
-    candidates: &[u32; format::MAX_CANDIDATES * CANDIDATE_WORDS],
-) -> io::Result<()>
-    requires n_bound { n ≤ 128 }
-    requires m_bound { m ≤ 256 }
+fn show_words(rt: &impl Print, counts: LineCounts, lists: &ScreenLists) -> io::Result<()>
+    requires { FewLines counts }
 {
     print!(rt; "header")?;
-    print_words(rt, header, 0, format::HEADER_WORDS)?;
+    print_words(rt, &lists.header)?;
     print!(rt; "\nfirst replies")?;
-    print_words(rt, replies, 0, format::REPLY_WORDS)?;
+    print_words(rt, &lists.replies[..format::REPLY_WORDS])?;
     print!(rt; "\nfirst candidate")?;
-    print_words(rt, candidates, 0, CANDIDATE_WORDS)?;
+    print_words(rt, &lists.candidates[..CANDIDATE_WORDS])?;
     println!(rt)?;
-    print_sum(rt, "styles", styles, n * STYLE_WORDS)?;
-    print_sum(rt, "replies", replies, n * format::REPLY_WORDS)?;
-    print_sum(rt, "candidates", candidates, m * CANDIDATE_WORDS)?;
-    print_row(
-        rt, header[8], header[2], header[3], header[0], header[1], replies[2], replies[3],
-        replies[4], replies[5],
+    print_sum(rt, "styles", &lists.styles[..counts.items * STYLE_WORDS])?;
+    print_sum(
+        rt,
+        "replies",
+        &lists.replies[..counts.items * format::REPLY_WORDS],
     )?;
-    print_overflow(rt, replies[2], replies[3], replies[4], replies[5])
+    print_sum(
+        rt,
+        "candidates",
+        &lists.candidates[..counts.candidates * CANDIDATE_WORDS],
+    )?;
+    let [width, height, x, y, _, _, _, _, items, _] = lists.header;
+    let sides = rect(
+        lists.replies[2],
+        lists.replies[3],
+        lists.replies[4],
+        lists.replies[5],
+    );
+    print_row(rt, items, [x, y], [width, height], sides)?;
+    print_overflow(rt, sides)
 }
 
 // What is read of a text.
 fn show(rt: &impl Print, text: &[u8]) -> io::Result<()> {
-    let mut header = [7u32; format::HEADER_WORDS];
-    let mut styles = [7u32; format::MAX_ITEMS * STYLE_WORDS];
-    let mut replies = [7u32; format::MAX_ITEMS * format::REPLY_WORDS];
-    let mut candidates = [7u32; format::MAX_CANDIDATES * CANDIDATE_WORDS];
-    let answer = screen::read_screen(
-        text,
-        &mut header,
-        &mut styles,
-        &mut replies,
-        &mut candidates,
-    );
-    match answer {
-        Screen::BadLine => print_refusal(rt, 8),
-        Screen::Read(n, m) => show_words(rt, n, m, &header, &styles, &replies, &candidates),
+    let mut lists = ScreenLists::filled(7);
+    match screen::read_screen(text, &mut lists) {
+        Ok(counts) => show_words(rt, counts, &lists),
+        Err(refusal) => print_refusal(rt, u32::from(refusal)),
     }
-}
-
-// Reads up to the end, or as much as there is room for, and answers how many bytes there are.
-fn read_front(input: &mut impl Read, text: &mut [u8]) -> io::Result<usize>
-    ensures { IfOk result (λ n. n ≤ length text.new) }
-{
-    let mut n: usize = 0;
-    while n < text.len() {
-        let more = input.read(&mut text[n..])?;
-        if more == 0 {
-            return Ok(n);
-        }
-        n += more;
-    }
-    Ok(n)
 }
 
 // The stored screen of a name. One that can't be opened is told on standard error.
@@ -189,7 +138,7 @@ fn show_file(rt: &(impl Files + Print + Eprint), name: &str) -> io::Result<()> {
         Ok(mut file) => {
             println!(rt; "-- {name}")?;
             let mut text = room();
-            let n = read_front(&mut file, &mut text)?;
+            let n = read_input(&mut file, &mut text)?;
             show(rt, &text[..n])
         }
         Err(error) => eprintln!(rt; "{name}: {error}"),
@@ -206,41 +155,26 @@ fn show_rows(rt: &impl Print) -> io::Result<()> {
     print_row(
         rt,
         0,
-        0x4396_0000,
-        0x41A0_0000,
-        0x4348_0000,
-        0x42C8_0000,
-        0x4348_0000,
-        0x4348_0000,
-        0,
-        0,
+        [0x4396_0000, 0x41A0_0000],
+        [0x4348_0000, 0x42C8_0000],
+        rect(0x4348_0000, 0x4348_0000, 0, 0),
     )?;
-    print_overflow(rt, 0, 0x43FA_0000, 0, 0x42F0_0000)?;
+    print_overflow(rt, rect(0, 0x43FA_0000, 0, 0x42F0_0000))?;
     // 9,999,999 and 10,000,000 eighths, both signs; both zeros; a sixteenth; the smallest float
     print_row(
         rt,
         9999999,
-        0x4998_967F,
-        0xC998_967F,
-        0x4998_9680,
-        0xC998_9680,
-        0,
-        0x8000_0000,
-        0x3D80_0000,
-        1,
+        [0x4998_967F, 0xC998_967F],
+        [0x4998_9680, 0xC998_9680],
+        rect(0, 0x8000_0000, 0x3D80_0000, 1),
     )?;
     // an eighth, both signs; infinities; NaNs; 1 and -1
     print_row(
         rt,
         10000000,
-        0x3E00_0000,
-        0xBE00_0000,
-        0x7F80_0000,
-        0xFF80_0000,
-        0x7FC0_0000,
-        0xFFFF_FFFF,
-        0x3F80_0000,
-        0xBF80_0000,
+        [0x3E00_0000, 0xBE00_0000],
+        [0x7F80_0000, 0xFF80_0000],
+        rect(0x7FC0_0000, 0xFFFF_FFFF, 0x3F80_0000, 0xBF80_0000),
     )?;
     print_refusal(rt, 1)
 }

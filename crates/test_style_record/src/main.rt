@@ -3,11 +3,10 @@
 // stdout, which a script wrote from a model of its own (tools/samples).
 #![tactic(auto)]
 
-ghost use Rattle.std.specs.Prelude.{◌≡◌, ◌*◌, length};
-ghost use Rattle.style_record.specs.Record.{style_words};
+ghost use Rattle.std.specs.Prelude.{◌<◌, length};
 
 use std::io;
-use style_record::check::TableCheck;
+use style_record::check::BadWord;
 use style_record::words::STYLE_WORDS;
 use style_record::{check, words};
 
@@ -38,75 +37,54 @@ const TAG_COUNT: usize = 11;
 // Three tags that every field takes, then auto, then those of sizes only.
 const TAGS: [u32; TAG_COUNT] = [1, 5, 129, 3, 11, 15, 27, 35, 43, 59, 75];
 
-// How many codes each word after the lengths has, and how many words a float.
-const COUNTS: [u64; words::CODE_WORDS] = [
-    2, 4294967296, 2, 4, 2, 11, 3, 11, 3, 4, 4, 4294967296, 256,
-];
-
-fn zeros() -> [u32; TABLE]
-    ensures { 1024 * style_words ≡ length result }
-{
-    [0; TABLE]
-}
+// How many codes each word after the lengths has; a float has as many words as a draw tells apart.
+const COUNTS: [u32; words::CODE_WORDS] = [2, 65536, 2, 4, 2, 11, 3, 11, 3, 4, 4, 65536, 256];
 
 // The next of a fixed sequence.
-fn draw(state: u64) -> u64 {
-    (state % 4294967296 * 1664525 + 1013904223) % 4294967296
+fn draw(state: u32) -> u32 {
+    state.wrapping_mul(1664525).wrapping_add(1013904223)
 }
 
-fn low(d: u64) -> u32 {
-    (d % 4294967296) as u32
-}
-
-// One of the first n tags.
-fn tag(d: u64, n: u64) -> u32 {
-    if n == 0 {
-        return 0;
-    }
-    let i = (d / 65536 % n) as usize;
-    if i < TAG_COUNT {
-        return TAGS[i];
-    }
-    0
+// One of some tags, by a draw.
+fn tag(d: u32, tags: &[u32]) -> u32
+    requires { 0 < length tags.now }
+{
+    tags[(d / 65536) as usize % tags.len()]
 }
 
 // A word that breaks no rule as word k of a record, by a draw.
-fn sample(k: usize, d: u64) -> u32 {
+fn sample(k: usize, d: u32) -> u32 {
     if k < words::RATIO_PRESENT {
         if k % words::LENGTH_WORDS != 0 {
-            return low(d);
+            return d;
         }
         if k < words::PADDING {
-            return tag(d, 4);
+            return tag(d, &TAGS[..4]);
         }
         if k < words::SIZE {
-            return tag(d, 3);
+            return tag(d, &TAGS[..3]);
         }
-        return tag(d, 11);
+        return tag(d, &TAGS);
     }
-    if k < STYLE_WORDS {
-        let n = COUNTS[k - words::RATIO_PRESENT];
-        if n == 0 {
-            return 0;
-        }
-        return low(d / 65536 % n);
-    }
-    0
+    COUNTS
+        .get(k - words::RATIO_PRESENT)
+        .and_then(|n| (d / 65536).checked_rem(*n))
+        .unwrap_or(0)
 }
 
 fn fill(table: &mut [u32]) {
-    let mut state: u64 = 7;
-    for i in 0..table.len() {
+    let mut state = 7;
+    for (i, word) in table.iter_mut().enumerate() {
         state = draw(state);
-        table[i] = sample(i % STYLE_WORDS, state);
+        *word = sample(i % STYLE_WORDS, state);
     }
 }
 
 // Prints what the check finds: a dash, or item and word.
 fn report(rt: &impl Print, table: &[u32]) -> io::Result<()> {
     match check::check_styles(table) {
-        TableCheck::Good => print!(rt; " -"),
-        TableCheck::Bad { item, word } => print!(rt; " {item}:{word}"),
+        Ok(()) => print!(rt; " -"),
+        Err(BadWord { item, word }) => print!(rt; " {item}:{word}"),
     }
 }
 
@@ -150,13 +128,9 @@ fn one(
     other: usize,
     code: u32,
 ) -> io::Result<()> {
-    if k < STYLE_WORDS {
-        if other < STYLE_WORDS {
-            if j < CODE_COUNT {
-                let at = STYLE_WORDS * ((CODE_COUNT * k + j) * 37 % ITEMS);
-                both_replaced(rt, table, at + k, CODES[j], at + other, code)?;
-            }
-        }
+    if k < STYLE_WORDS && other < STYLE_WORDS && j < CODE_COUNT {
+        let at = STYLE_WORDS * ((CODE_COUNT * k + j) * 37 % ITEMS);
+        both_replaced(rt, table, at + k, CODES[j], at + other, code)?;
     }
     Ok(())
 }
@@ -204,7 +178,7 @@ fn pairs(rt: &impl Print, table: &mut [u32]) -> io::Result<()> {
 }
 
 fn main(rt: HostRuntime) -> io::Result<()> {
-    let mut table = zeros();
+    let mut table = [0; TABLE];
     fill(&mut table);
     report(&rt, &table)?;
     println!(rt)?;

@@ -5,11 +5,12 @@
 ghost use Rattle.std.specs.Prelude.{◌≡◌, length};
 
 use geometry::{Line, Point};
+use refusal::Refusal;
 use std::io;
 use style::ContainingBlockClaims;
 use style::alignment::{AlignItems, AlignItemsKeyword, AlignmentSafety};
-use sweep::{Filled, Shift, Swept};
-use tree::layout::{Aligned, AxisStaticPosition};
+use sweep::Filled;
+use tree::layout::AxisStaticPosition;
 use tree_record::{candidate, codes, layout};
 use util::bits;
 
@@ -30,10 +31,10 @@ fn print_after(rt: &impl Print, i: usize) -> io::Result<()> {
     print!(rt; " ")
 }
 
-fn print_aligned(rt: &impl Print, aligned: Aligned) -> io::Result<()> {
+fn print_aligned(rt: &impl Print, aligned: Result<AxisStaticPosition, Refusal>) -> io::Result<()> {
     match aligned {
-        Aligned::Refused(refusal) => println!(rt; "refused {}", refusal.number()),
-        Aligned::At(position) => {
+        Err(refusal) => println!(rt; "refused {}", u32::from(refusal)),
+        Ok(position) => {
             let align = position.align;
             let edge = align.keyword;
             let safety = align.safety;
@@ -66,10 +67,10 @@ fn align(rt: &impl Print, keyword: AlignItemsKeyword, safety: AlignmentSafety) -
     )
 }
 
-fn print_swept(rt: &impl Print, swept: Swept) -> io::Result<()> {
+fn print_swept(rt: &impl Print, swept: Result<Filled, Refusal>) -> io::Result<()> {
     match swept {
-        Swept::Refused(refusal) => println!(rt; "refused {}", refusal.number()),
-        Swept::Into(filled) => println!(rt; "{} {}", filled.working, filled.unclaimed),
+        Err(refusal) => println!(rt; "refused {}", u32::from(refusal)),
+        Ok(filled) => println!(rt; "{} {}", filled.working, filled.unclaimed),
     }
 }
 
@@ -147,7 +148,7 @@ fn candidates() -> [u32; 43]
 fn print_sweep(
     rt: &impl Print,
     fixed_only: bool,
-    shift: Shift,
+    shift: Option<Point<f32>>,
     list: &[u32],
     working: &mut [u32],
     unclaimed: &mut [u32],
@@ -180,19 +181,11 @@ fn print_accepted(
     unclaimed: &mut [u32],
 ) -> io::Result<()> {
     let location = Point { x: 0.0, y: -2.5 };
-    print_sweep(
-        rt,
-        false,
-        Shift::Unmoved,
-        list,
-        working,
-        unclaimed,
-        filled(0, 0),
-    )?;
+    print_sweep(rt, false, None, list, working, unclaimed, filled(0, 0))?;
     print_sweep(
         rt,
         true,
-        Shift::By(location),
+        Some(location),
         list,
         working,
         unclaimed,
@@ -207,24 +200,8 @@ fn print_refused(
     working: &mut [u32],
     unclaimed: &mut [u32],
 ) -> io::Result<()> {
-    print_sweep(
-        rt,
-        false,
-        Shift::Unmoved,
-        list,
-        working,
-        unclaimed,
-        filled(4, 3),
-    )?;
-    print_sweep(
-        rt,
-        true,
-        Shift::Unmoved,
-        list,
-        working,
-        unclaimed,
-        filled(4, 3),
-    )
+    print_sweep(rt, false, None, list, working, unclaimed, filled(4, 3))?;
+    print_sweep(rt, true, None, list, working, unclaimed, filled(4, 3))
 }
 
 fn print_checks(rt: &impl Print, list: &[u32]) -> io::Result<()> {

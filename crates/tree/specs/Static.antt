@@ -1,8 +1,9 @@
 -- Static positions: where a box would stand in normal flow, as an area and an alignment in it (tree/layout.rs). Assumes nothing.
-use Rattle.std.specs.Prelude.{Bool, cond, Float}
+use Rattle.std.specs.Prelude.{Bool, cond, Float, Result, Ok, Err}
 use Rattle.geometry.specs.Geometry.{moved_by}
 use Rattle.geometry.specs.declared.Line.{Line}
 use Rattle.geometry.specs.declared.Point.{Point}
+use Rattle.refusal.specs.declared.Refusal.{Refusal}
 use Rattle.refusal.specs.declared.Refusal.TheVariants.{UnresolvedSide}
 use Rattle.style.specs.Values.{is_self_relative}
 use Rattle.style.specs.declared.alignment.AlignItemsKeyword.{AlignItemsKeyword}
@@ -14,8 +15,6 @@ use Rattle.tree.specs.declared.layout.AxisStaticEdge.{AxisStaticEdge}
 use Rattle.tree.specs.declared.layout.AxisStaticEdge.TheVariants.{Start, Center, End}
 use Rattle.tree.specs.declared.layout.AxisStaticPosition.{AxisStaticPosition}
 use Rattle.tree.specs.declared.layout.OofCandidate.{OofCandidate}
-use Rattle.tree.specs.declared.layout.Aligned.{Aligned}
-use Rattle.tree.specs.declared.layout.Aligned.TheVariants.{At, Refused}
 
 -- ---- from an alignment
 
@@ -47,11 +46,11 @@ fallback_of k Unsafe = k
 fallback_of k Safe = keyword.Start
 
 -- the static position of a box aligned within an area, or refusal 7 exactly for self-start and self-end
-unfoldable pub from_alignment : AlignItems → Line → Bool → Aligned
+unfoldable pub from_alignment : AlignItems → Line Float → Bool → Result AxisStaticPosition Refusal
 from_alignment a area rtl =
     cond (is_self_relative a.keyword)
-    (Refused UnresolvedSide)
-    (At
+    (Err UnresolvedSide)
+    (Ok
     (record {
       area = area;
       align =
@@ -65,7 +64,7 @@ unfoldable pub shifted_axis : AxisStaticPosition → Float → AxisStaticPositio
 shifted_axis p by = record { area = moved_by p.area by; align = p.align }
 
 -- a candidate of a box, as one of its parent: the four areas' ends move by the box's location; all else stays, its layer too
-unfoldable pub translated : OofCandidate → Point → OofCandidate
+unfoldable pub translated : OofCandidate → Point Float → OofCandidate
 translated c location =
     record {
       node = c.node;

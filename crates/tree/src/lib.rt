@@ -1,4 +1,4 @@
 // tree/: candidates and layouts.
-#![tactic(auto)]
+#![tactic(auto, unfolding(crate::specs::Static::from_alignment, crate::specs::Static::shifted_axis, crate::specs::Static::translated))]
 
 pub mod layout;

@@ -1,4 +1,5 @@
 -- The laws of `specs/Laws.antt`. Assumes nothing.
+use Rattle.std.specs.Prelude.{Float}
 use Prim.Native.Nat.{ℕ, zero, suc, ◌<◌}
 use native.Mathlib.Omega.{arith}
 use mathlib.Core.Bool.{true, false, not}
@@ -133,14 +134,14 @@ layout_widths = (refl, λ l. refl)
 abbrev again : Float → Float
 again x = of_bits binary32 (to_bits binary32 x)
 
-rect_back : (r : Rect) → FitsRect r → ◌≡◌ {A = Rect} (record { left = again r.left; right = again r.right; top = again r.top; bottom = again r.bottom }) r
+rect_back : (r : Rect Float) → FitsRect r → ◌≡◌ {A = Rect Float} (record { left = again r.left; right = again r.right; top = again r.top; bottom = again r.bottom }) r
 rect_back r f =
     rw (float_back r.left f.0, float_back r.right f.1, float_back r.top f.2, float_back r.bottom f.3) refl
 
-size_back : (s : Size) → FitsSize s → ◌≡◌ {A = Size} (record { width = again s.width; height = again s.height }) s
+size_back : (s : Size Float) → FitsSize s → ◌≡◌ {A = Size Float} (record { width = again s.width; height = again s.height }) s
 size_back s f = rw (float_back s.width f.0, float_back s.height f.1) refl
 
-point_back : (p : Point) → FitsPoint p → ◌≡◌ {A = Point} (record { x = again p.x; y = again p.y }) p
+point_back : (p : Point Float) → FitsPoint p → ◌≡◌ {A = Point Float} (record { x = again p.x; y = again p.y }) p
 point_back p f = rw (float_back p.x f.0, float_back p.y f.1) refl
 
 pub layout_back : LayoutBack

@@ -6,13 +6,11 @@ use mathlib.Core.Path.{◌≡◌, refl, sym, ap, ◌∙◌}
 use mathlib.Core.List.{List}
 use lib.Dec.{lit<, lit≤}
 use lib.ListN.{get_or}
-use Rattle.records.specs.Records.{record_at, float_at}
+use Rattle.records.specs.Records.{record_at}
 use Rattle.records.proofs.Laws.{word_of_record}
 use Rattle.tree.specs.declared.layout.OofCandidate.{OofCandidate}
-use Rattle.tree.specs.declared.layout.Layout.{Layout}
 use Rattle.tree_record.specs.Codes.{position_of}
 use Rattle.tree_record.specs.Candidate.{candidate_width, layer_word, axis_of, candidate_of}
-use Rattle.tree_record.specs.Layout.{layout_width, rect_of, layout_of}
 
 module _ (w : ℕ) (ws : List ℕ) (i : ℕ) where
   -- words past word k
@@ -29,11 +27,6 @@ module _ (w : ℕ) (ws : List ℕ) (i : ℕ) where
       (word_of_record w ws i k (omega arith), past k 1 (omega arith), past k 2 (omega arith), past k 3 (omega arith), past k 4 (omega arith))
       refl
 
-  pub rect_place : (k : ℕ) → k + 4 ≤ w → rect_of (record_at w ws i) k ≡ rect_of ws (w * i + k)
-  unfolding rect_of
-  rect_place k h =
-      rw (word_of_record w ws i k (omega arith), past k 1 (omega arith), past k 2 (omega arith), past k 3 (omega arith)) refl
-
 abbrev pub candidate_from : List ℕ → ℕ → OofCandidate
 candidate_from ws at =
     record {
@@ -49,35 +42,4 @@ unfolding candidate_of
 candidate_place ws i =
     rw
     (first candidate_width ws i (lit< tt), word_of_record candidate_width ws i 1 (lit< tt), word_of_record candidate_width ws i 2 (lit< tt), axis_place candidate_width ws i 3 (lit≤ tt), axis_place candidate_width ws i 8 (lit≤ tt), word_of_record candidate_width ws i layer_word (lit< tt))
-    refl
-
-abbrev pub layout_from : List ℕ → ℕ → Layout
-layout_from ws at =
-    record {
-      order = get_or ws at 0;
-      size = record { width = float_at ws (at + 1); height = float_at ws (at + 2) };
-      overflow = rect_of ws (at + 3);
-      scrollbar = record { width = float_at ws (at + 7); height = float_at ws (at + 8) };
-      location = record { x = float_at ws (at + 9); y = float_at ws (at + 10) };
-      padding = rect_of ws (at + 11);
-      border = rect_of ws (at + 15);
-      margin = rect_of ws (at + 19);
-    }
-
-pub layout_place : (ws : List ℕ) (i : ℕ) → layout_of (record_at layout_width ws i) ≡ layout_from ws (layout_width * i)
-unfolding layout_of
-layout_place ws i =
-    rw (
-      first layout_width ws i (lit< tt),
-      word_of_record layout_width ws i 1 (lit< tt),
-      word_of_record layout_width ws i 2 (lit< tt),
-      rect_place layout_width ws i 3 (lit≤ tt),
-      word_of_record layout_width ws i 7 (lit< tt),
-      word_of_record layout_width ws i 8 (lit< tt),
-      word_of_record layout_width ws i 9 (lit< tt),
-      word_of_record layout_width ws i 10 (lit< tt),
-      rect_place layout_width ws i 11 (lit≤ tt),
-      rect_place layout_width ws i 15 (lit≤ tt),
-      rect_place layout_width ws i 19 (lit≤ tt),
-    )
     refl

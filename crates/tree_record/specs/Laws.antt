@@ -1,6 +1,6 @@
 -- What the definitions of this crate mean, as statements. `proofs/Laws.antt` proves each, under its name in small letters.
 -- `fits binary32 x` says that x is a value of an f32, written in its one way: true of every f32 of a program. Assumes nothing.
-use Rattle.std.specs.Prelude.{ℕ, true, List, ◌≡◌, T, length}
+use Rattle.std.specs.Prelude.{ℕ, true, List, ◌≡◌, T, length, Float}
 use Rattle.std.specs.Float.Ieee.{fits}
 use Rattle.std.specs.Float.{binary32}
 use Rattle.geometry.specs.declared.Line.{Line}
@@ -19,7 +19,7 @@ use Rattle.tree_record.specs.Layout.{layout_width, layout_kinds, layout_of, layo
 abbrev pub CandidateWidths : Type 0
 CandidateWidths = ((n : ℕ) → length (candidate_kinds n) ≡ candidate_width) × ((c : OofCandidate) → length (candidate_words c) ≡ candidate_width)
 
-abbrev pub FitsLine : Line → Type 0
+abbrev pub FitsLine : Line Float → Type 0
 FitsLine l = T (fits binary32 l.start) × T (fits binary32 l.end)
 
 abbrev pub FitsCandidate : OofCandidate → Type 0
@@ -43,13 +43,13 @@ RecordRewritten =
 abbrev pub LayoutWidths : Type 0
 LayoutWidths = (length layout_kinds ≡ layout_width) × ((l : Layout) → length (layout_words l) ≡ layout_width)
 
-abbrev pub FitsSize : Size → Type 0
+abbrev pub FitsSize : Size Float → Type 0
 FitsSize s = T (fits binary32 s.width) × T (fits binary32 s.height)
 
-abbrev pub FitsPoint : Point → Type 0
+abbrev pub FitsPoint : Point Float → Type 0
 FitsPoint p = T (fits binary32 p.x) × T (fits binary32 p.y)
 
-abbrev pub FitsRect : Rect → Type 0
+abbrev pub FitsRect : Rect Float → Type 0
 FitsRect r =
     T (fits binary32 r.left) × T (fits binary32 r.right) × T (fits binary32 r.top) × T (fits binary32 r.bottom)
 

@@ -1,5 +1,5 @@
 -- A layout as a record of 23 words (document 01, "Layout, 23 words"). Assumes nothing.
-use Rattle.std.specs.Prelude.{ℕ, ◌+◌, List, [], ◌∷◌, ◌++◌, get_or, replicate}
+use Rattle.std.specs.Prelude.{ℕ, ◌+◌, List, [], ◌∷◌, ◌++◌, get_or, replicate, Float}
 use Rattle.std.specs.Float.Ieee.{to_bits}
 use Rattle.std.specs.Float.{binary32}
 use Rattle.geometry.specs.declared.Rect.{Rect}
@@ -17,7 +17,7 @@ layout_kinds = whole ∷ replicate 22 float
 -- ---- reading
 
 -- left, right, top, bottom, from word k on
-unfoldable pub rect_of : List ℕ → ℕ → Rect
+unfoldable pub rect_of : List ℕ → ℕ → Rect Float
 rect_of r k =
     record { left = float_at r k; right = float_at r (k + 1); top = float_at r (k + 2); bottom = float_at r (k + 3) }
 
@@ -44,7 +44,7 @@ layout_of r =
 
 -- ---- writing: every NaN is 7FC00000
 
-abbrev pub rect_words : Rect → List ℕ
+abbrev pub rect_words : Rect Float → List ℕ
 rect_words r =
     to_bits binary32 r.left ∷ to_bits binary32 r.right ∷ to_bits binary32 r.top ∷ to_bits binary32 r.bottom ∷ []
 

@@ -4,9 +4,10 @@ ghost use Rattle.records.specs.Records.{record_at, written, good, good_records};
 ghost use Rattle.tree_record.specs.Candidate.{candidate_width, axis_kinds, candidate_kinds, axis_of, candidate_of, candidate_words};
 
 use crate::codes;
-use geometry::Line;
+use geometry::{Line, Point};
+use records::record_at;
 use style::alignment::AlignmentSafety;
-use tree::layout::{AxisStaticAlign, AxisStaticPosition, OofCandidate, StaticPosition};
+use tree::layout::{AxisStaticAlign, AxisStaticPosition, OofCandidate};
 use util::bits;
 
 // Where the layer stands: behind the words of y.
@@ -17,48 +18,25 @@ pub const CANDIDATE_WORDS: usize = 14;
 // Layers are 0 to 255.
 pub const LAYERS: u32 = 256;
 
-// A word as an index.
-fn index(word: u32) -> usize
-    ensures { result ≡ word }
-{
-    word as usize
-}
-
 // Whether the codes of one axis, whose words begin at `at`, are in their lists: edge, safety, fallback edge.
-fn is_axis_good(words: &[u32], at: usize) -> bool
-    requires { at + 5 ≤ length words.now }
+#[tactic(auto, using(std::proofs::lemmas::Bool::Decides::nat_tests), unfolding(records::specs::Records::good, records::specs::Records::every, records::specs::Records::breaks, records::specs::Records::wrong))]
+fn is_axis_good(words: &[u32; CANDIDATE_WORDS], at: usize) -> bool
+    requires { at + 5 ≤ candidate_width }
     ensures { result ≡ good axis_kinds words.now at }
 {
-    if 3 <= words[at + 2] {
-        return false;
-    }
-    if 3 <= words[at + 3] {
-        return false;
-    }
-    if 3 <= words[at + 4] {
-        return false;
-    }
-    true
+    words[at + 2] < 3 && words[at + 3] < 3 && words[at + 4] < 3
 }
 
-// Whether the record that begins at `at` keeps to its rules: its layer and its node are below their limits, and each code is in its list.
-fn is_good(words: &[u32], at: usize, n: usize) -> bool
-    requires { at + candidate_width ≤ length words.now }
-    ensures { result ≡ good (candidate_kinds n) words.now at }
+// Whether a record keeps to its rules: its node and its layer are below their limits, and each code is in its list.
+#[tactic(auto, using(std::proofs::lemmas::Bool::Decides::nat_tests), unfolding(records::specs::Records::good, records::specs::Records::every, records::specs::Records::breaks, records::specs::Records::wrong))]
+fn is_good(words: &[u32; CANDIDATE_WORDS], n: usize) -> bool
+    ensures { result ≡ good (candidate_kinds n) words.now 0 }
 {
-    if LAYERS <= words[at + LAYER] {
-        return false;
-    }
-    if n <= index(words[at]) {
-        return false;
-    }
-    if 5 <= words[at + 2] {
-        return false;
-    }
-    if is_axis_good(words, at + 3) {
-        return is_axis_good(words, at + 8);
-    }
-    false
+    (words[0] as usize) < n
+        && words[2] < 5
+        && is_axis_good(words, 3)
+        && is_axis_good(words, 8)
+        && words[LAYER] < LAYERS
 }
 
 // Whether the first `count` records are there and keep to their rules.
@@ -68,11 +46,8 @@ pub fn are_good(words: &[u32], count: usize, n: usize) -> bool
     if words.len() / CANDIDATE_WORDS < count {
         return false;
     }
-    let mut i: usize = 0;
-    while i < count {
-        if is_good(words, CANDIDATE_WORDS * i, n) {
-            i += 1;
-        } else {
+    for i in 0..count {
+        if !is_good(record_at::<CANDIDATE_WORDS>(words, i), n) {
             return false;
         }
     }
@@ -80,71 +55,64 @@ pub fn are_good(words: &[u32], count: usize, n: usize) -> bool
 }
 
 // The static position in one axis, from five words on.
-fn axis_at(words: &[u32], at: usize) -> AxisStaticPosition
-    requires { at + 5 ≤ length words.now }
+#[tactic(auto, unfolding(crate::specs::Candidate::axis_of))]
+fn axis_at(words: &[u32; CANDIDATE_WORDS], at: usize) -> AxisStaticPosition
+    requires { at + 5 ≤ candidate_width }
     ensures { result ≡ axis_of words.now at }
 {
-    let area = Line {
-        start: bits::from_word(words[at]),
-        end: bits::from_word(words[at + 1]),
-    };
-    let align = AxisStaticAlign {
-        keyword: codes::edge_of(words[at + 2]),
-        safety: AlignmentSafety::from_code(words[at + 3]),
-        fallback: codes::edge_of(words[at + 4]),
-    };
     AxisStaticPosition {
-        area: area,
-        align: align,
+        area: Line {
+            start: bits::from_word(words[at]),
+            end: bits::from_word(words[at + 1]),
+        },
+        align: AxisStaticAlign {
+            keyword: codes::edge_of(words[at + 2]),
+            safety: AlignmentSafety::from(words[at + 3]),
+            fallback: codes::edge_of(words[at + 4]),
+        },
     }
 }
 
 // The candidate of record i.
+#[tactic(auto, unfolding(crate::specs::Candidate::candidate_of))]
 pub fn candidate_at(words: &[u32], i: usize) -> OofCandidate
     requires { candidate_width * i + candidate_width ≤ length words.now }
     ensures { result ≡ candidate_of (record_at candidate_width words.now i) }
 {
-    let at = CANDIDATE_WORDS * i;
-    let place = StaticPosition {
-        x: axis_at(words, at + 3),
-        y: axis_at(words, at + 8),
-    };
+    let record = record_at::<CANDIDATE_WORDS>(words, i);
     OofCandidate {
-        node: words[at],
-        order: words[at + 1],
-        position: codes::position_of(words[at + 2]),
-        place: place,
-        layer: words[at + LAYER],
+        node: record[0],
+        order: record[1],
+        position: codes::position_of(record[2]),
+        place: Point {
+            x: axis_at(record, 3),
+            y: axis_at(record, 8),
+        },
+        layer: record[LAYER],
     }
 }
 
 // A candidate's words.
+#[tactic(auto, unfolding(crate::specs::Candidate::candidate_words))]
 pub fn candidate_words(c: OofCandidate) -> [u32; CANDIDATE_WORDS]
     ensures { result ≡ candidate_words c }
 {
-    let position = c.position;
-    let x = c.place.x.align;
-    let y = c.place.y.align;
-    let x_keyword = x.keyword;
-    let x_safety = x.safety;
-    let x_fallback = x.fallback;
-    let y_keyword = y.keyword;
-    let y_safety = y.safety;
-    let y_fallback = y.fallback;
+    let x = c.place.x;
+    let y = c.place.y;
     [
         c.node,
         c.order,
-        codes::position_code(position),
-        bits::to_word(c.place.x.area.start),
-        bits::to_word(c.place.x.area.end),
-        codes::edge_code(x_keyword),
-        codes::safety_code(x_safety),
-        codes::edge_code(x_fallback),
-        bits::to_word(c.place.y.area.start),
-        bits::to_word(c.place.y.area.end),
-        codes::edge_code(y_keyword),
-        codes::safety_code(y_safety),
-        codes::edge_code(y_fallback),
+        codes::position_code(c.position),
+        bits::to_word(x.area.start),
+        bits::to_word(x.area.end),
+        codes::edge_code(x.align.keyword),
+        codes::safety_code(x.align.safety),
+        codes::edge_code(x.align.fallback),
+        bits::to_word(y.area.start),
+        bits::to_word(y.area.end),
+        codes::edge_code(y.align.keyword),
+        codes::safety_code(y.align.safety),
+        codes::edge_code(y.align.fallback),
         c.layer,
     ]
 }
@@ -154,6 +122,5 @@ pub fn write_candidate(words: &mut [u32], i: usize, c: OofCandidate)
     requires { candidate_width * i + candidate_width ≤ length words.old }
     ensures { words.new ≡ written words.old (candidate_width * i) (candidate_words c) }
 {
-    let record = candidate_words(c);
-    records::write(words, CANDIDATE_WORDS * i, &record);
+    records::write(words, CANDIDATE_WORDS * i, &candidate_words(c));
 }

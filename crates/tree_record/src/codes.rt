@@ -1,4 +1,7 @@
-// The codes of a candidate's record. A code outside its list is read as the last one: it is refused before.
+// The codes of a candidate's record. They belong to the record and not to the types, so they are functions here and no `From` of the types' crates:
+// and a code outside its list is read as the last one (it is refused before), which a `From<u32>` would not say.
+#![tactic(auto, unfolding(style::specs::Codes::safety_code, crate::specs::Codes::position_of, crate::specs::Codes::position_code, crate::specs::Codes::edge_of, crate::specs::Codes::edge_code))]
+
 ghost use Rattle.std.specs.Prelude.{◌≡◌};
 ghost use Rattle.style.specs.Codes.{safety_code};
 ghost use Rattle.tree_record.specs.Codes.{position_of, position_code, edge_of, edge_code};
@@ -22,13 +25,7 @@ pub fn position_of(code: u32) -> Position
 pub fn position_code(position: Position) -> u32
     ensures { result ≡ position_code position }
 {
-    match position {
-        Position::Static => 0,
-        Position::Relative => 1,
-        Position::Absolute => 2,
-        Position::Fixed => 3,
-        Position::Sticky => 4,
-    }
+    position as u32
 }
 
 pub fn edge_of(code: u32) -> AxisStaticEdge
@@ -44,19 +41,11 @@ pub fn edge_of(code: u32) -> AxisStaticEdge
 pub fn edge_code(edge: AxisStaticEdge) -> u32
     ensures { result ≡ edge_code edge }
 {
-    match edge {
-        AxisStaticEdge::Start => 0,
-        AxisStaticEdge::Center => 1,
-        AxisStaticEdge::End => 2,
-    }
+    edge as u32
 }
 
 pub fn safety_code(safety: AlignmentSafety) -> u32
     ensures { result ≡ safety_code safety }
 {
-    match safety {
-        AlignmentSafety::Default => 0,
-        AlignmentSafety::Unsafe => 1,
-        AlignmentSafety::Safe => 2,
-    }
+    safety as u32
 }

@@ -5,6 +5,7 @@ ghost use Rattle.records.specs.Records.{record_at, written};
 ghost use Rattle.tree_record.specs.Layout.{layout_width, rect_of, layout_of, layout_words};
 
 use geometry::{Point, Rect, Size};
+use records::record_at;
 use tree::layout::Layout;
 use util::bits;
 
@@ -38,8 +39,9 @@ pub const MARGIN_BOTTOM: usize = 22;
 pub const LAYOUT_WORDS: usize = 23;
 
 // Left, right, top, bottom, from four words on.
-fn rect_at(words: &[u32], at: usize) -> Rect
-    requires { at + 4 ≤ length words.now }
+#[tactic(auto, unfolding(crate::specs::Layout::rect_of))]
+fn rect_at(words: &[u32; LAYOUT_WORDS], at: usize) -> Rect<f32>
+    requires { at + 4 ≤ layout_width }
     ensures { result ≡ rect_of words.now at }
 {
     Rect {
@@ -51,33 +53,35 @@ fn rect_at(words: &[u32], at: usize) -> Rect
 }
 
 // The layout at a node's place.
+#[tactic(auto, unfolding(crate::specs::Layout::layout_of))]
 pub fn layout_at(layouts: &[u32], node: usize) -> Layout
     requires { layout_width * node + layout_width ≤ length layouts.now }
     ensures { result ≡ layout_of (record_at layout_width layouts.now node) }
 {
-    let at = LAYOUT_WORDS * node;
+    let record = record_at::<LAYOUT_WORDS>(layouts, node);
     Layout {
-        order: layouts[at],
+        order: record[0],
         size: Size {
-            width: bits::from_word(layouts[at + WIDTH]),
-            height: bits::from_word(layouts[at + HEIGHT]),
+            width: bits::from_word(record[WIDTH]),
+            height: bits::from_word(record[HEIGHT]),
         },
-        overflow: rect_at(layouts, at + OVERFLOW),
+        overflow: rect_at(record, OVERFLOW),
         scrollbar: Size {
-            width: bits::from_word(layouts[at + SCROLLBAR_WIDTH]),
-            height: bits::from_word(layouts[at + SCROLLBAR_HEIGHT]),
+            width: bits::from_word(record[SCROLLBAR_WIDTH]),
+            height: bits::from_word(record[SCROLLBAR_HEIGHT]),
         },
         location: Point {
-            x: bits::from_word(layouts[at + X]),
-            y: bits::from_word(layouts[at + Y]),
+            x: bits::from_word(record[X]),
+            y: bits::from_word(record[Y]),
         },
-        padding: rect_at(layouts, at + PADDING),
-        border: rect_at(layouts, at + BORDER),
-        margin: rect_at(layouts, at + MARGIN_LEFT),
+        padding: rect_at(record, PADDING),
+        border: rect_at(record, BORDER),
+        margin: rect_at(record, MARGIN_LEFT),
     }
 }
 
 // A layout's words.
+#[tactic(auto, unfolding(crate::specs::Layout::layout_words))]
 pub fn layout_words(l: Layout) -> [u32; LAYOUT_WORDS]
     ensures { result ≡ layout_words l }
 {
@@ -113,6 +117,5 @@ pub fn write_layout(layouts: &mut [u32], node: usize, l: Layout)
     requires { layout_width * node + layout_width ≤ length layouts.old }
     ensures { layouts.new ≡ written layouts.old (layout_width * node) (layout_words l) }
 {
-    let record = layout_words(l);
-    records::write(layouts, LAYOUT_WORDS * node, &record);
+    records::write(layouts, LAYOUT_WORDS * node, &layout_words(l));
 }

@@ -1,24 +1,19 @@
 -- Division of a whole number by 8, and the value of a count of eighths. Assumes nothing.
-use Rattle.std.proofs.Common.{◌≡◌, ℕ, zero, suc, ◌+◌, ◌*◌, ◌/◌, ◌%◌, ◌^◌, ◌<◌, ◌≤◌, Bool, true, false, cond, not, ◌&&◌, ◌||◌, T, eqb, ltb, leb, ℤ, pos, sym, refl, ap, ◌∙◌, le_trans, lt_of_lt_of_le, lt_of_le_of_lt, mul-le-mul_right, zero-lt-suc, mul_assoc, mul_comm, mul-pos, div-add-mod', zero-mul, mul-one, mul_right_comm, mul-div_cancel, arith, lit<, lit≤, le→leb, shl_lt, ltb-false, ltb-true, le-ltb, lt-ltb, eq-eqb, eqb-true, le-leb, leb-true}
+use Rattle.std.proofs.Common.{◌≡◌, ℕ, zero, suc, ◌+◌, ◌*◌, ◌/◌, ◌%◌, ◌^◌, ◌<◌, ◌≤◌, Bool, true, false, cond, not, ◌&&◌, ◌||◌, eqb, ltb, leb, ℤ, pos, sym, refl, ap, ◌∙◌, le_trans, lt_of_lt_of_le, lt_of_le_of_lt, zero-lt-suc, mul_assoc, mul_comm, mul-pos, div-add-mod', zero-mul, mul-one, mul_right_comm, mul-div_cancel, arith, lit<, lit≤, shl_lt, ltb-false, ltb-true, le-ltb, lt-ltb, eq-eqb, eqb-true, le-leb, leb-true, None}
 use native.Mathlib.Nat.{eq_of_mul-eq-mul_right, mul-mod_left}
 use mathlib.Core.Bool.{beq, or-true}
-use lib.Ieee.{Float, nan, inf, fin, up, down, round, div, mul, neg, lt, eq, of_int, to_unsigned, of_bits, in_float, binary32}
+use lib.Ieee.{Float, nan, inf, fin, up, down, round, div, mul, neg, lt, eq, of_int, to_unsigned, of_bits, binary32}
 use lib.Ieee.Exact.{HasValue, round_exact}
 use lib.Ieee.Fits.{down_pos}
 use lib.Ieee.Back.{round_whole}
 use lib.Ieee.Scale.{round_same}
 use Rattle.util.specs.Order.{magnitude}
-use Rattle.util.specs.declared.eighths.Count.TheVariants.{NotWhole, Whole}
-use Rattle.util.specs.Eighths.{eighths, counted, count_of}
+use Rattle.util.specs.Eighths.{whole, eighths, counted, count_of}
 
 apart : false ≡ true → ⊥
 apart z = let n : ◌≡◌ {A = ℕ} 0 1 = cc in omega arith
 
 -- ---- from a count to the float
-
-pub small_int : (n : ℕ) → n ≤ 9999999 → T (in_float binary32 (pos n))
-unfolding in_float
-small_int n h = le→leb n (2 ^ 24) (le_trans h (lit≤ tt))
 
 scaled : (a n d : ℕ) → a ≡ n * d → a * 8 ≡ n * (8 * d)
 scaled a n d e = ap (λ (x : ℕ). x * 8) e ∙ mul_assoc n d 8 ∙ ap (λ (x : ℕ). n * x) (mul_comm d 8)
@@ -71,14 +66,14 @@ Mag (inf s) n = ⊥
 Mag (fin s m e) n = m * up e * 8 ≡ n * down e
 
 -- where x is no count
-pub uncounted : (x : Float) → ((q : ℕ) → Mag x q → q ≤ 9999999 → ⊥) → NotWhole ≡ count_of x
+pub uncounted : (x : Float) → ((q : ℕ) → Mag x q → q ≤ 9999999 → ⊥) → None ≡ count_of x
 unfolding count_of counted
 uncounted nan f = refl
 uncounted (inf s) f = refl
 uncounted (fin s m e) f = go (eqb (m * up e * 8 % down e) 0) refl (leb (m * up e * 8 / down e) 9999999) refl
   where
     go : (b : Bool) → eqb (m * up e * 8 % down e) 0 ≡ b → (b' : Bool) → leb (m * up e * 8 / down e) 9999999 ≡ b'
-        → NotWhole ≡ cond (b && b') (Whole (s && ltb 0 (m * up e * 8 / down e)) (m * up e * 8 / down e)) NotWhole
+        → None ≡ cond (b && b') (whole (s && ltb 0 (m * up e * 8 / down e)) (m * up e * 8 / down e)) None
     go true p true q =
         let z : m * up e * 8 % down e ≡ 0 = eqb-true (m * up e * 8 % down e) 0 p in
         let w : m * up e * 8 / down e * down e + m * up e * 8 % down e ≡ m * up e * 8 = div-add-mod' (m * up e * 8) (down e) in
@@ -106,7 +101,7 @@ below_zero true m e n v = go (ltb 0 n) refl
         none n h = omega arith
 
 -- what is n eighths in size counts as n
-pub count_is : (x : Float) (n : ℕ) → n ≤ 9999999 → Mag x n → count_of x ≡ Whole (lt x (of_bits binary32 0)) n
+pub count_is : (x : Float) (n : ℕ) → n ≤ 9999999 → Mag x n → count_of x ≡ whole (lt x (of_bits binary32 0)) n
 unfolding count_of counted
 count_is nan n h v = absurd v
 count_is (inf s) n h v = absurd v
@@ -140,7 +135,7 @@ same_size (fin r k f) (fin s m e) t n v p =
     cross (k * up f) (m * up e) (down e) (down f) n (down_pos f)
     (eqb-true (k * up f * down e) (m * up e * down f) (and_left (eqb (k * up f * down e) (m * up e * down f)) (beq r s || eqb (k * up f * down e) 0) p)) v.1
 
-pub sound : (x : Float) (g : Bool) (n : ℕ) → n ≤ 9999999 → lt x (of_bits binary32 0) ≡ g → eq (eighths g n) x ≡ true → Whole g n ≡ count_of x
+pub sound : (x : Float) (g : Bool) (n : ℕ) → n ≤ 9999999 → lt x (of_bits binary32 0) ≡ g → eq (eighths g n) x ≡ true → whole g n ≡ count_of x
 sound x g n h p e = sym (count_is x n h (same_size (eighths g n) x (g && ltb 0 n) n (eighths_value g n h) e) ∙ rw p refl)
 
 -- ---- the guess finds every count
@@ -187,31 +182,6 @@ guess_is x q h v = rw eight_is (record { sign = false; plain = refl; value = tim
 zero_of : (q : ℕ) → ltb 0 q ≡ false → q ≡ 0
 zero_of q e = let h = ltb-false 0 q e in omega arith
 
--- over -1
-pub above : (y : Float) (q : ℕ) → Guess y q → lt (fin true 1 (pos 0)) y ≡ true
-unfolding lt
-above nan q g = absurd g.value
-above (inf s) q g = absurd g.value
-above (fin false k f) q g = let p = down_pos f in lt-ltb 0 (1 * down f + k * up f * 1) (omega arith)
-above (fin true k f) q g =
-    let p = down_pos f in
-    let z : q ≡ 0 = zero_of q (rw (← g.value.0) at g.plain) in
-    let w : q * down f ≡ 0 = ap (λ (x : ℕ). x * down f) z ∙ zero-mul (down f) in
-    let v : k * up f * 1 ≡ q * down f = g.value.1 in
-    lt-ltb (k * up f * 1) (1 * down f) (omega arith)
-
--- below 2 ^ 64
-pub under : (y : Float) (q : ℕ) → q ≤ 9999999 → Guess y q → lt y (fin false 1 (pos 64)) ≡ true
-unfolding lt
-under nan q h g = absurd g.value
-under (inf s) q h g = absurd g.value
-under (fin false k f) q h g =
-    let p = down_pos f in
-    let v : k * up f * 1 ≡ q * down f = g.value.1 in
-    let w : q * down f ≤ 9999999 * down f = mul-le-mul_right (down f) h in
-    lt-ltb (k * up f * 1) (18446744073709551616 * down f) (omega arith)
-under (fin true k f) q h g = let p = down_pos f in lt-ltb 0 (k * up f * 1 + 18446744073709551616 * down f) (omega arith)
-
 -- cut to q
 pub cut : (y : Float) (q : ℕ) → q ≤ 9999999 → Guess y q → to_unsigned 64 y ≡ q
 unfolding to_unsigned
@@ -249,22 +219,11 @@ level_of (fin r k f) (fin s m e) t q v w z =
 pub tried : (x : Float) (q : ℕ) → q ≤ 9999999 → Mag x q → eq (eighths (lt x (of_bits binary32 0)) q) x ≡ true
 tried x q h v = level_of (eighths (lt x (of_bits binary32 0)) q) x (lt x (of_bits binary32 0) && ltb 0 q) q (eighths_value (lt x (of_bits binary32 0)) q h) v refl
 
-pub cuttable : (y : Float) → (lt (fin true 1 (pos 0)) y && lt y (fin false 1 (pos 64))) ≡ true → T (lt (fin true 1 (pos 0)) y) × T (lt y (fin false 1 (pos 64)))
-cuttable y e = go (lt (fin true 1 (pos 0)) y) (lt y (fin false 1 (pos 64))) e
-  where
-    go : (a b : Bool) → (a && b) ≡ true → T a × T b
-    go true true e = (tt, tt)
-    go true false e = absurd (apart e)
-    go false b e = absurd (apart e)
-
 -- ---- each way to no count
 
 module _ (x : Float) where
-  pub uncounted_uncut : (lt (fin true 1 (pos 0)) (guess x) && lt (guess x) (fin false 1 (pos 64))) ≡ false → NotWhole ≡ count_of x
-  uncounted_uncut e = uncounted x (λ q v h. let g = guess_is x q h v in apart (sym (rw (above (guess x) q g, under (guess x) q h g) at e)))
-
-  pub uncounted_large : 9999999 < to_unsigned 64 (guess x) → NotWhole ≡ count_of x
+  pub uncounted_large : 9999999 < to_unsigned 64 (guess x) → None ≡ count_of x
   uncounted_large e = uncounted x (λ q v h. let k = cut (guess x) q h (guess_is x q h v) in omega arith)
 
-  pub uncounted_part : eq (eighths (lt x (of_bits binary32 0)) (to_unsigned 64 (guess x))) x ≡ false → NotWhole ≡ count_of x
+  pub uncounted_part : eq (eighths (lt x (of_bits binary32 0)) (to_unsigned 64 (guess x))) x ≡ false → None ≡ count_of x
   uncounted_part e = uncounted x (λ q v h. apart (sym (rw (cut (guess x) q h (guess_is x q h v)) at e) ∙ tried x q h v))

@@ -1,22 +1,19 @@
 -- The laws of `specs/Laws.antt`. Assumes nothing.
-use Rattle.std.proofs.Common.{◌≡◌, ℕ, zero, suc, ◌*◌, ◌<◌, Bool, true, false, cond, not, ◌&&◌, T, ltb, ◌⊎◌, sym, refl, ap, ◌∙◌, subst, inl, inr, mul-pos, zero-mul, arith, ltb-true}
+use Rattle.std.proofs.Common.{◌≡◌, ℕ, zero, suc, ◌*◌, ◌<◌, Bool, true, false, cond, not, ◌&&◌, T, ltb, ◌⊎◌, sym, refl, ap, ◌∙◌, subst, inl, inr, mul-pos, zero-mul, arith, le-ltb, ltb-true, None, Some}
 use borrow.Author.Tests.{not-true}
 use lib.Ieee.{Float, nan, inf, fin, up, down, lt, eq, le, neg, is_nan, fits, of_bits, to_bits, binary32}
-use lib.Ieee.Bits.{of_bits-to_bits, to_bits-of_bits, nan_bits_is}
+use lib.Ieee.Bits.{of_bits-to_bits, to_bits-of_bits, nan_bits_is, nan_bits_above}
 use lib.Ieee.Exact.{HasValue}
-use lib.Ieee.Fits.{down_pos}
+use lib.Ieee.Fits.{down_pos, neg-fits}
 use Rattle.util.proofs.Floats.{no, is_nan_lem}
-use Rattle.util.proofs.Floats as floats
-use Rattle.util.proofs.Order.{le_self, le_trans, is_at_most, before_by, one_before, not_before_le, not_above_lem, not_lt_le, le_numbers, lt_le, one_float, zero_place, level_sign}
-use Rattle.util.proofs.Negation.{neg_nan, neg_neg, neg_before, neg_fits, neg_le}
+use Rattle.util.proofs.Order.{le_self, le_trans, before_by, one_before, not_before_le, not_above_lem, not_lt_le, le_numbers, lt_le, one_float, zero_place, level_sign}
+use Rattle.util.proofs.Negation.{neg_nan, neg_neg, neg_before, neg_le}
 use Rattle.util.proofs.Count.{Mag, count_is, eighths_value, tried, below_zero, same_size}
-use Rattle.util.proofs.Unique.{counts, count_float}
+use Rattle.util.proofs.Unique.{same_count, counts, count_float}
 use Rattle.util.specs.Order.{larger, smaller, before, zero_of, magnitude}
 use Rattle.util.specs.Maybe.{clamped, at_least, at_most}
-use Rattle.util.specs.Eighths.{eighths}
-use Rattle.util.specs.declared.math.MaybeF32.TheVariants.{None, Some}
-use Rattle.util.specs.declared.eighths.Count.TheVariants.{Whole}
-use Rattle.util.specs.Laws.{AtMostIsTransitive, LargerBounds, LargerIsOne, LargerCommutes, SmallerBounds, SmallerIsOne, SmallerCommutes, NanLoses, OnlyTwoNans, MinusZeroIsBelow, SmallerIsDual, MagnitudeIsEither, MagnitudeIsAtLeastZero, MagnitudeOfZeros, MagnitudeOfNan, MinWins, MaxBinds, MinAboveMax, WithinStays, NoBound, WordIsNan, NanWord, WordBack, FloatBack, EighthsAreExact, CountBack, EighthsBack, CountIsFound, CountIsSmall}
+use Rattle.util.specs.Eighths.{whole, eighths}
+use Rattle.util.specs.Laws.{plus0, AtMostIsTransitive, LargerBounds, LargerIsOne, LargerCommutes, SmallerBounds, SmallerIsOne, SmallerCommutes, NanLoses, OnlyTwoNans, MinusZeroIsBelow, SmallerIsDual, MagnitudeIsEither, MagnitudeIsAtLeastZero, MagnitudeOfZeros, MagnitudeOfNan, MinWins, MaxBinds, MinAboveMax, WithinStays, NoBound, WordIsNan, NanWord, WordBack, FloatBack, EighthsAreExact, CountBack, EighthsBack, CountIsFound, CountIsSmall}
 
 -- ---- the larger and the smaller
 
@@ -94,7 +91,7 @@ smaller_is_one a b = go (larger_is_one (neg a) (neg b))
 
 pub smaller_commutes : SmallerCommutes
 smaller_commutes a b f g =
-    smaller_is_dual a b ∙ ap neg (larger_commutes (neg a) (neg b) (rw (neg_fits a) f) (rw (neg_fits b) g)) ∙ sym (smaller_is_dual b a)
+    smaller_is_dual a b ∙ ap neg (larger_commutes (neg a) (neg b) (neg-fits binary32 a f) (neg-fits binary32 b g)) ∙ sym (smaller_is_dual b a)
 
 pub nan_loses : NanLoses
 unfolding larger smaller is_nan
@@ -132,12 +129,12 @@ magnitude_is_either (fin true (suc m) e) f = inr refl
 magnitude_is_either (fin false (suc m) e) f = inl refl
 
 pub magnitude_is_at_least_zero : MagnitudeIsAtLeastZero
-unfolding magnitude is_nan le lt eq
+unfolding magnitude is_nan lt le
 magnitude_is_at_least_zero nan p = no refl p
 magnitude_is_at_least_zero (inf s) p = refl
 magnitude_is_at_least_zero (fin s zero e) p = refl
 magnitude_is_at_least_zero (fin s (suc m) e) p =
-    is_at_most false (0 * 1 * down e) false (suc m * up e * 1) (omega (arith, zero-mul (down e)))
+    not_lt_le plus0 (fin false (suc m) e) refl refl (le-ltb (suc m * up e * 1) (0 * 1 * down e) (omega (arith, zero-mul (down e))))
 
 pub magnitude_of_zeros : MagnitudeOfZeros
 unfolding magnitude
@@ -195,7 +192,7 @@ no_bound x min max = (refl, (nan_loses (at_most x max)).1, rw (nan_loses x).3 re
 -- ---- words
 
 pub word_is_nan : WordIsNan
-word_is_nan w = sym (nan_bits_is binary32 w) ∙ floats.nan_word w
+word_is_nan w = sym (nan_bits_is binary32 w) ∙ nan_bits_above binary32 w
 
 pub nan_word : NanWord
 unfolding to_bits
@@ -227,13 +224,13 @@ twice false b = refl
 pub count_back : CountBack
 count_back s n h =
     let v = eighths_value s n h in
-    count_is (eighths s n) n h (size_of (eighths s n) (s && ltb 0 n) n v) ∙ ap (λ (t : Bool). Whole t n) (sign_of (eighths s n) (s && ltb 0 n) n v ∙ twice s (ltb 0 n))
+    count_is (eighths s n) n h (size_of (eighths s n) (s && ltb 0 n) n v) ∙ ap (λ (t : Bool). whole t n) (sign_of (eighths s n) (s && ltb 0 n) n v ∙ twice s (ltb 0 n))
 
 pub eighths_back : EighthsBack
 eighths_back x s n f e =
     let c = counts x s n e in
-    let p : Whole (lt x (of_bits binary32 0)) n ≡ Whole s n = sym (count_is x n c.small c.size) ∙ e in
-    let q : lt x (of_bits binary32 0) ≡ s = cc in
+    let p : whole (lt x (of_bits binary32 0)) n ≡ whole s n = sym (count_is x n c.small c.size) ∙ e in
+    let q = (same_count (lt x (of_bits binary32 0)) s n n p).0 in
     (ap (λ (t : Bool). eq (eighths t n) x) (sym q) ∙ tried x n c.small c.size, count_float x s n f e)
 
 pub eighths_are_exact : EighthsAreExact
@@ -271,4 +268,4 @@ pub count_is_found : CountIsFound
 count_is_found x s n h e =
     let v = eighths_value s n h in
     count_is x n h (same_size (eighths s n) x (s && ltb 0 n) n v e)
-    ∙ ap (λ (t : Bool). Whole t n) (same_sign (eighths s n) x (s && ltb 0 n) n v e ∙ twice s (ltb 0 n))
+    ∙ ap (λ (t : Bool). whole t n) (same_sign (eighths s n) x (s && ltb 0 n) n v e ∙ twice s (ltb 0 n))

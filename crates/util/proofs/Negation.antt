@@ -1,8 +1,10 @@
 -- The negative of a float: order is turned round. Assumes nothing.
-use Rattle.std.proofs.Common.{◌≡◌, ℕ, zero, suc, ◌+◌, ◌*◌, Bool, true, false, not, ◌&&◌, ltb, refl, ap, arith}
-use lib.Ieee.{Float, nan, inf, fin, up, down, lt, eq, le, neg, is_nan, below, fits, binary32}
-use Rattle.util.proofs.Floats.{no}
-use Rattle.util.proofs.Order.{AtMost, at_most, is_at_most}
+use Rattle.std.proofs.Common.{◌≡◌, ℕ, zero, suc, ◌+◌, ◌*◌, Bool, true, false, not, ltb, refl, ap, ◌∙◌, arith}
+use Rattle.std.proofs.Math.Bool.{and_comm}
+use lib.Ieee.{Float, nan, inf, fin, up, down, lt, le, neg, is_nan, below}
+use lib.Dec.{not_T}
+use lib.Ieee.Bits.{is_true, is_false}
+use Rattle.util.proofs.Order.{le_numbers, not_lt_le, not_above_lem}
 use Rattle.util.specs.Order.{before, zero_of}
 
 neg_below : (s : Bool) (a : ℕ) (t : Bool) (b : ℕ) → below (not s) a (not t) b ≡ below t b s a
@@ -54,42 +56,11 @@ neg_neg (inf false) = refl
 neg_neg (fin true m e) = refl
 neg_neg (fin false m e) = refl
 
-and_swap : (a b : Bool) → (a && b) ≡ (b && a)
-and_swap true true = refl
-and_swap true false = refl
-and_swap false true = refl
-and_swap false false = refl
-
 pub neg_before : (a b : Float) → before (neg a) (neg b) ≡ before b a
 unfolding before
-neg_before a b = rw (neg_lt a b, neg_zero true a, neg_zero false b, and_swap (zero_of false a) (zero_of true b)) refl
-
-pub neg_fits : (x : Float) → fits binary32 (neg x) ≡ fits binary32 x
-unfolding fits neg
-neg_fits nan = refl
-neg_fits (inf s) = refl
-neg_fits (fin s zero e) = refl
-neg_fits (fin s (suc m) e) = refl
-
-neg_at_most : (s : Bool) (a : ℕ) (t : Bool) (b : ℕ) → AtMost s a t b → AtMost (not t) b (not s) a
-neg_at_most false a false b h = h
-neg_at_most false a true b h = (h.1, h.0)
-neg_at_most true a false b h = tt
-neg_at_most true a true b h = h
+neg_before a b = rw (neg_lt a b, neg_zero true a, neg_zero false b, and_comm (zero_of false a) (zero_of true b)) refl
 
 pub neg_le : (x y : Float) → le x y ≡ true → le (neg y) (neg x) ≡ true
-unfolding le lt eq neg
-neg_le nan y h = no h refl
-neg_le (inf s) nan h = no h refl
-neg_le (fin s m e) nan h = no h refl
-neg_le (inf true) (inf true) h = refl
-neg_le (inf true) (inf false) h = refl
-neg_le (inf false) (inf true) h = no h refl
-neg_le (inf false) (inf false) h = refl
-neg_le (inf true) (fin t n d) h = refl
-neg_le (inf false) (fin t n d) h = no h refl
-neg_le (fin s m e) (inf true) h = no h refl
-neg_le (fin s m e) (inf false) h = refl
-neg_le (fin s m e) (fin t n d) h =
-    is_at_most (not t) (n * up d * down e) (not s) (m * up e * down d)
-    (neg_at_most s (m * up e * down d) t (n * up d * down e) (at_most s (m * up e * down d) t (n * up d * down e) h))
+neg_le x y h =
+    let n = le_numbers x y h in
+    not_lt_le (neg y) (neg x) (neg_nan y ∙ n.1) (neg_nan x ∙ n.0) (neg_lt x y ∙ is_false _ (not_T (lt y x) (λ l. not_above_lem y x (is_true _ l) h)))

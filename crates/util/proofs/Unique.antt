@@ -1,11 +1,11 @@
 -- A float that is a count of eighths, not 0, is the float of that count. Assumes nothing.
-use Rattle.std.proofs.Common.{◌≡◌, ℕ, zero, suc, ◌+◌, ◌*◌, ◌/◌, ◌%◌, ◌^◌, ◌<◌, ◌≤◌, Bool, true, false, cond, ◌&&◌, T, eqb, ltb, leb, ℤ, pos, negsuc, sym, refl, ap, ◌∙◌, zero-lt-suc, mul_assoc, mul-pos, pow-suc, div-add-mod', zero-mul, mul-one, mul_right_comm, mul_left_comm, arith, lit<, eqb→eq, pow-add, lt-ltb, eqb-true, leb-true}
+use Rattle.std.proofs.Common.{◌≡◌, ℕ, zero, suc, ◌+◌, ◌*◌, ◌/◌, ◌%◌, ◌^◌, ◌<◌, ◌≤◌, Bool, true, false, cond, ◌&&◌, T, eqb, ltb, leb, ℤ, pos, negsuc, sym, refl, ap, ◌∙◌, zero-lt-suc, mul_assoc, mul-pos, pow-suc, div-add-mod', zero-mul, mul-one, mul_right_comm, mul_left_comm, arith, lit<, eqb→eq, pow-add, lt-ltb, eqb-true, leb-true, Option, None, unwrap_or}
 use native.Mathlib.Nat.{pow-succ', eq_of_mul-eq-mul_right}
 use lib.Ieee.{Float, nan, inf, fin, up, down, fits, binary32}
 use lib.Ieee.Exact.{HasValue}
 use lib.Ieee.Fits.{down_pos, and_l, round-fits}
-use Rattle.util.specs.declared.eighths.Count.TheVariants.{NotWhole, Whole}
-use Rattle.util.specs.Eighths.{eighths, counted, count_of}
+use Rattle.util.specs.declared.eighths.Count.{Count}
+use Rattle.util.specs.Eighths.{whole, eighths, counted, count_of}
 use Rattle.util.proofs.Count.{Mag, eighths_value}
 
 -- ---- an odd number times a power of two, in one way
@@ -71,8 +71,15 @@ unique (fin t (suc m) e) (fin u (suc n) g) s a h p q v w =
 
 -- ---- what a count says
 
-no_count_is_whole : (s : Bool) (n : ℕ) → NotWhole ≡ Whole s n → ⊥
+no_count_is_whole : (s : Bool) (n : ℕ) → None ≡ whole s n → ⊥
 no_count_is_whole s n e = let z : ◌≡◌ {A = ℕ} 0 1 = cc in omega arith
+
+-- what two counts that are one have in common
+pub same_count : (s t : Bool) (n m : ℕ) → whole s n ≡ whole t m → (s ≡ t) × (n ≡ m)
+same_count s t n m e = (
+  ap (λ (o : Option Count). (unwrap_or o (record { negative = s; size = n })).negative) e,
+  ap (λ (o : Option Count). (unwrap_or o (record { negative = s; size = n })).size) e,
+)
 
 pub record Counted (x : Float) (s : Bool) (n : ℕ) : Type 0 where
   pub small : n ≤ 9999999
@@ -80,7 +87,7 @@ pub record Counted (x : Float) (s : Bool) (n : ℕ) : Type 0 where
   pub value : 0 < n → HasValue x s n 8
   pub plain : n ≡ 0 → s ≡ false
 
-pub counts : (x : Float) (s : Bool) (n : ℕ) → count_of x ≡ Whole s n → Counted x s n
+pub counts : (x : Float) (s : Bool) (n : ℕ) → count_of x ≡ whole s n → Counted x s n
 unfolding count_of counted
 counts nan s n e = absurd (no_count_is_whole s n e)
 counts (inf t) s n e = absurd (no_count_is_whole s n e)
@@ -104,11 +111,12 @@ counts (fin t m e) s n p = go (eqb (m * up e * 8 % down e) 0) refl (leb (m * up 
         }
 
     go : (b : Bool) → eqb (m * up e * 8 % down e) 0 ≡ b → (b' : Bool) → leb (m * up e * 8 / down e) 9999999 ≡ b'
-        → cond (b && b') (Whole (t && ltb 0 (m * up e * 8 / down e)) (m * up e * 8 / down e)) NotWhole ≡ Whole s n → Counted (fin t m e) s n
+        → cond (b && b') (whole (t && ltb 0 (m * up e * 8 / down e)) (m * up e * 8 / down e)) None ≡ whole s n → Counted (fin t m e) s n
     go true i true j k =
         let z : m * up e * 8 % down e ≡ 0 = eqb-true (m * up e * 8 % down e) 0 i in
         let w : m * up e * 8 / down e * down e + m * up e * 8 % down e ≡ m * up e * 8 = div-add-mod' (m * up e * 8) (down e) in
-        found (m * up e * 8 / down e) (cc) (cc) (leb-true (m * up e * 8 / down e) 9999999 j) (omega arith)
+        let same = same_count (t && ltb 0 (m * up e * 8 / down e)) s (m * up e * 8 / down e) n k in
+        found (m * up e * 8 / down e) same.1 same.0 (leb-true (m * up e * 8 / down e) 9999999 j) (omega arith)
     go true i false j k = absurd (no_count_is_whole s n k)
     go false i b' j k = absurd (no_count_is_whole s n k)
 
@@ -116,7 +124,7 @@ eighths_fits : (s : Bool) (n : ℕ) → T (fits binary32 (eighths s n))
 unfolding eighths
 eighths_fits s n = round-fits binary32 (s && ltb 0 n) n 8
 
-pub count_float : (x : Float) (s : Bool) (n : ℕ) → T (fits binary32 x) → count_of x ≡ Whole s n → 0 < n → eighths s n ≡ x
+pub count_float : (x : Float) (s : Bool) (n : ℕ) → T (fits binary32 x) → count_of x ≡ whole s n → 0 < n → eighths s n ≡ x
 count_float x s n f e h =
     let c = counts x s n e in
     unique (eighths s n) x s n h (eighths_fits s n) f (rw (sign s n h) at (eighths_value s n c.small)) (c.value h)

@@ -1,16 +1,13 @@
 -- What the definitions of this crate mean, as statements. `proofs/Laws.antt` proves each, under its name in small letters.
 -- `fits binary32 x` says that x is a value of an f32, written in its one way: true of every f32 of a program. `lt`, `le` and `eq` are
 -- <, <= and == of the f32: false where a NaN stands, and the two zeros are equal. Assumes nothing.
-use Rattle.std.specs.Prelude.{◌≡◌, ℕ, ◌%◌, ◌<◌, ◌≤◌, Bool, true, false, not, ◌&&◌, T, ◌⊎◌, pos, from_bits, is_nan, nat_lt, to_bits, Float}
+use Rattle.std.specs.Prelude.{◌≡◌, ℕ, ◌%◌, ◌<◌, ◌≤◌, Bool, true, false, not, ◌&&◌, T, ◌⊎◌, pos, from_bits, is_nan, nat_lt, to_bits, Float, Option, None, Some}
 use Rattle.std.specs.Float.{nan, fin, binary32}
 use Rattle.std.specs.Float.Ieee.{lt, le, eq, neg, fits}
 use Rattle.std.specs.Float.Ieee.Exact.{HasValue}
 use Rattle.util.specs.Order.{before, larger, smaller, magnitude}
 use Rattle.util.specs.Maybe.{clamped}
-use Rattle.util.specs.declared.math.MaybeF32.{MaybeF32}
-use Rattle.util.specs.declared.math.MaybeF32.TheVariants.{None, Some}
-use Rattle.util.specs.Eighths.{eighths, count_of}
-use Rattle.util.specs.declared.eighths.Count.TheVariants.{Whole}
+use Rattle.util.specs.Eighths.{whole, eighths, count_of}
 
 abbrev pub minus0 : Float
 minus0 = fin true 0 (pos 0)
@@ -83,16 +80,16 @@ MagnitudeOfNan = magnitude nan ≡ nan
 
 -- min wins: where it is a number, the result is a number and at least min, whatever the size and max
 abbrev pub MinWins : Type 0
-MinWins = (x low : Float) (max : MaybeF32) → AtOrAbove low (clamped x (Some low) max)
+MinWins = (x low : Float) (max : Option Float) → AtOrAbove low (clamped x (Some low) max)
 
 -- a min that leaves max its say: absent, a NaN, or at most max
-abbrev pub not_above : MaybeF32 → Float → Bool
+abbrev pub not_above : Option Float → Float → Bool
 not_above None high = true
 not_above (Some low) high = not (lt high low)
 
 -- then max binds: where it is a number, the result is a number and at most max, whatever the size
 abbrev pub MaxBinds : Type 0
-MaxBinds = (x high : Float) (min : MaybeF32) → not_above min high ≡ true → AtOrBelow high (clamped x min (Some high))
+MaxBinds = (x high : Float) (min : Option Float) → not_above min high ≡ true → AtOrBelow high (clamped x min (Some high))
 
 -- a min above max is the result, whatever the size
 abbrev pub MinAboveMax : Type 0
@@ -104,7 +101,7 @@ WithinStays = (x low high : Float) → is_nan x ≡ false → before x low ≡ f
 
 -- a bound that is absent or a NaN doesn't bind
 abbrev pub NoBound : Type 0
-NoBound = (x : Float) (min max : MaybeF32) → (clamped x None None ≡ x) × (clamped x (Some nan) max ≡ clamped x None max) × (clamped x min (Some nan) ≡ clamped x min None)
+NoBound = (x : Float) (min max : Option Float) → (clamped x None None ≡ x) × (clamped x (Some nan) max ≡ clamped x None max) × (clamped x min (Some nan) ≡ clamped x min None)
 
 -- ---- words
 
@@ -132,16 +129,16 @@ EighthsAreExact = (s : Bool) (n : ℕ) → n ≤ 9999999 → HasValue (eighths s
 
 -- a count, written and read back, is that count; a zero comes back without a sign
 abbrev pub CountBack : Type 0
-CountBack = (s : Bool) (n : ℕ) → n ≤ 9999999 → count_of (eighths s n) ≡ Whole (s && nat_lt 0 n) n
+CountBack = (s : Bool) (n : ℕ) → n ≤ 9999999 → count_of (eighths s n) ≡ whole (s && nat_lt 0 n) n
 
 -- a float that is a count, read and written back, is that float; of the two zeros, +0
 abbrev pub EighthsBack : Type 0
-EighthsBack = (x : Float) (s : Bool) (n : ℕ) → T (fits binary32 x) → count_of x ≡ Whole s n → (eq (eighths s n) x ≡ true) × (0 < n → eighths s n ≡ x)
+EighthsBack = (x : Float) (s : Bool) (n : ℕ) → T (fits binary32 x) → count_of x ≡ whole s n → (eq (eighths s n) x ≡ true) × (0 < n → eighths s n ≡ x)
 
 -- no count is missed: a float equal to one is counted
 abbrev pub CountIsFound : Type 0
-CountIsFound = (x : Float) (s : Bool) (n : ℕ) → n ≤ 9999999 → eq (eighths s n) x ≡ true → count_of x ≡ Whole (s && nat_lt 0 n) n
+CountIsFound = (x : Float) (s : Bool) (n : ℕ) → n ≤ 9999999 → eq (eighths s n) x ≡ true → count_of x ≡ whole (s && nat_lt 0 n) n
 
 -- a count's size is 9,999,999 at most, and zero has no sign
 abbrev pub CountIsSmall : Type 0
-CountIsSmall = (x : Float) (s : Bool) (n : ℕ) → count_of x ≡ Whole s n → (n ≤ 9999999) × (n ≡ 0 → s ≡ false)
+CountIsSmall = (x : Float) (s : Bool) (n : ℕ) → count_of x ≡ whole s n → (n ≤ 9999999) × (n ≡ 0 → s ≡ false)

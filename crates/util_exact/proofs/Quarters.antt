@@ -1,4 +1,5 @@
 -- Whole quarter pixels are exact. Assumes nothing.
+use Rattle.std.specs.Prelude.{Float, None, Option, Some}
 use mathlib.Core.Path.{sym, subst}
 use mathlib.Core.Bool.{Bool, true, false}
 use Prim.Native.Nat.{ℕ, ◌*◌, ◌≤◌}
@@ -6,8 +7,6 @@ use native.Mathlib.Nat.{le_trans}
 use native.Mathlib.Omega.{arith}
 use lib.Ieee.{Float, nan, inf, fin}
 use lib.Ieee.Exact.{HasValue}
-use Rattle.util.specs.declared.math.MaybeF32.{MaybeF32}
-use Rattle.util.specs.declared.math.MaybeF32.TheVariants.{None, Some}
 use Rattle.util_exact.specs.Integer.{N, zero_n}
 use Rattle.util_exact.specs.Value.{Signed, Quarters, MaybeQuarters}
 use Rattle.util_exact.proofs.Integers.{Multiple}
@@ -39,14 +38,14 @@ quarters_within l h = record { sign = h.sign; k = h.k; value = h.value; small = 
 
 -- ---- a number that may be absent: of an absent one any integer will do
 
-abbrev pub MaybeExact : ℕ → ℕ → MaybeF32 → N → Type 0
+abbrev pub MaybeExact : ℕ → ℕ → Option Float → N → Type 0
 MaybeExact g b None a = Unit {0}
 MaybeExact g b (Some x) a = Exact g b x a
 
-abbrev pub maybe_units : (n : ℕ) (m : MaybeF32) → MaybeQuarters n m → N
+abbrev pub maybe_units : (n : ℕ) (m : Option Float) → MaybeQuarters n m → N
 maybe_units n None h = zero_n
 maybe_units n (Some x) h = units h
 
-pub maybe_exact : (n : ℕ) (m : MaybeF32) (h : MaybeQuarters n m) → MaybeExact 4 (4 * n) m (maybe_units n m h)
+pub maybe_exact : (n : ℕ) (m : Option Float) (h : MaybeQuarters n m) → MaybeExact 4 (4 * n) m (maybe_units n m h)
 maybe_exact n None h = tt
 maybe_exact n (Some x) h = quarters_exact h

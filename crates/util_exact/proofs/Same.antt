@@ -1,12 +1,12 @@
 -- Two floats that are the same number, as the two runs of the mirror theorem share it: +0 and -0 are. One lemma for each operation. Assumes nothing.
+use Rattle.std.specs.Prelude.{Float, None, Option, Some, is_some, option_map, unwrap_or}
+use Rattle.std.specs.Option.{option_or}
 use mathlib.Core.Path.{◌≡◌, refl, sym, ◌∙◌}
 use Prim.Native.Nat.{ℕ, ◌+◌, ◌*◌, ◌≤◌, ◌<◌}
 use lib.Ieee.{Float, neg, lt, le, eq}
 use Rattle.util.specs.Number.{◌⊕◌, ◌⊖◌, ◌⊗◌, ◌⊘◌, 0f, 2f}
 use Rattle.util.specs.Order.{larger, smaller, magnitude}
-use Rattle.util.specs.Maybe.{present, unwrap_or, or_else, map_add, map_larger, at_most, at_least, clamped, map_clamped, map}
-use Rattle.util.specs.declared.math.MaybeF32.{MaybeF32}
-use Rattle.util.specs.declared.math.MaybeF32.TheVariants.{None, Some}
+use Rattle.util.specs.Maybe.{map_add, map_larger, at_most, at_least, clamped, map_clamped}
 use Rattle.util_exact.specs.Integer.{N, add_n, EqN}
 use Rattle.util_exact.specs.Value.{◌≐◌, Quarters, MaybeQuarters}
 use Rattle.util_exact.proofs.Integers.{neg_n, sub_n, dbl_n, half_n, max_n, min_n, mag_n}
@@ -93,47 +93,44 @@ eq_same h k = eq_exact h.l k.l ∙ sym (eq_exact h.r k.r)
 
 -- ---- numbers that may be absent
 
-pub data MaybeSame (g b : ℕ) : MaybeF32 → MaybeF32 → Type 0 where
+pub data MaybeSame (g b : ℕ) : Option Float → Option Float → Type 0 where
   given : {x x' : Float} → Same g b x x' → MaybeSame g b (Some x) (Some x')
   absent : MaybeSame g b None None
 
-pub maybe_quarters_same : (n : ℕ) (m : MaybeF32) → MaybeQuarters n m → MaybeSame 4 (4 * n) m m
+pub maybe_quarters_same : (n : ℕ) (m : Option Float) → MaybeQuarters n m → MaybeSame 4 (4 * n) m m
 maybe_quarters_same n None h = absent
 maybe_quarters_same n (Some x) h = given (quarters_same h)
 
-pub present_same : {g b : ℕ} {m m' : MaybeF32} → MaybeSame g b m m' → present m ≡ present m'
-unfolding present
+pub present_same : {g b : ℕ} {m m' : Option Float} → MaybeSame g b m m' → is_some m ≡ is_some m'
 present_same (given h) = refl
 present_same absent = refl
 
-pub unwrap_same : {g b : ℕ} {m m' : MaybeF32} {d d' : Float} → MaybeSame g b m m' → Same g b d d' → Same g b (unwrap_or m d) (unwrap_or m' d')
-unfolding unwrap_or
+pub unwrap_same : {g b : ℕ} {m m' : Option Float} {d d' : Float} → MaybeSame g b m m' → Same g b d d' → Same g b (unwrap_or m d) (unwrap_or m' d')
 unwrap_same (given h) k = h
 unwrap_same absent k = k
 
-pub else_same : {g b : ℕ} {m m' n n' : MaybeF32} → MaybeSame g b m m' → MaybeSame g b n n' → MaybeSame g b (or_else m n) (or_else m' n')
-unfolding or_else
+pub else_same : {g b : ℕ} {m m' n n' : Option Float} → MaybeSame g b m m' → MaybeSame g b n n' → MaybeSame g b (option_or m n) (option_or m' n')
 else_same (given h) k = given h
 else_same absent k = k
 
-pub map_add_same : {g b c : ℕ} {m m' : MaybeF32} {y y' : Float} → MaybeSame g b m m' → Same g c y y' → b + c < 16777216 → MaybeSame g (b + c) (map_add m y) (map_add m' y')
-unfolding map_add map
+pub map_add_same : {g b c : ℕ} {m m' : Option Float} {y y' : Float} → MaybeSame g b m m' → Same g c y y' → b + c < 16777216 → MaybeSame g (b + c) (map_add m y) (map_add m' y')
+unfolding map_add
 map_add_same (given h) k i = given (add_same h k i)
 map_add_same absent k i = absent
 
-pub map_larger_same : {g b : ℕ} {m m' : MaybeF32} {y y' : Float} → MaybeSame g b m m' → Same g b y y' → MaybeSame g b (map_larger m y) (map_larger m' y')
-unfolding map_larger map
+pub map_larger_same : {g b : ℕ} {m m' : Option Float} {y y' : Float} → MaybeSame g b m m' → Same g b y y' → MaybeSame g b (map_larger m y) (map_larger m' y')
+unfolding map_larger
 map_larger_same (given h) k = given (larger_same h k)
 map_larger_same absent k = absent
 
-pub clamped_same : {g b : ℕ} {x x' : Float} {low low' high high' : MaybeF32} → Same g b x x' → MaybeSame g b low low' → MaybeSame g b high high' → Same g b (clamped x low high) (clamped x' low' high')
+pub clamped_same : {g b : ℕ} {x x' : Float} {low low' high high' : Option Float} → Same g b x x' → MaybeSame g b low low' → MaybeSame g b high high' → Same g b (clamped x low high) (clamped x' low' high')
 unfolding clamped at_most at_least
 clamped_same h (given k) (given j) = larger_same (smaller_same h j) k
 clamped_same h (given k) absent = larger_same h k
 clamped_same h absent (given j) = smaller_same h j
 clamped_same h absent absent = h
 
-pub map_clamped_same : {g b : ℕ} {m m' low low' high high' : MaybeF32} → MaybeSame g b m m' → MaybeSame g b low low' → MaybeSame g b high high' → MaybeSame g b (map_clamped m low high) (map_clamped m' low' high')
-unfolding map_clamped map
+pub map_clamped_same : {g b : ℕ} {m m' low low' high high' : Option Float} → MaybeSame g b m m' → MaybeSame g b low low' → MaybeSame g b high high' → MaybeSame g b (map_clamped m low high) (map_clamped m' low' high')
+unfolding map_clamped
 map_clamped_same (given h) k j = given (clamped_same h k j)
 map_clamped_same absent k j = absent

@@ -1,10 +1,8 @@
 -- Which number a float is, exactly. `HasValue x s z c` says that x is finite, has the sign s and is z / c in size. Assumes nothing.
-use Rattle.std.specs.Prelude.{◌≡◌, List, [], ◌∷◌, Bool, true, false, ℕ, ◌+◌, ◌≤◌, Float}
+use Rattle.std.specs.Prelude.{◌≡◌, List, [], ◌∷◌, Bool, true, false, ℕ, ◌+◌, ◌≤◌, Float, None, Option, Some}
 use Rattle.std.specs.Float.Ieee.{eq, of_bits}
 use Rattle.std.specs.Float.{binary32}
 use Rattle.std.specs.Float.Ieee.Exact.{HasValue}
-use Rattle.util.specs.declared.math.MaybeF32.{MaybeF32}
-use Rattle.util.specs.declared.math.MaybeF32.TheVariants.{None, Some}
 use Rattle.util_exact.specs.Integer.{N, zero_n, add_n, EqN}
 
 -- equal as numbers: +0 and -0 are
@@ -45,6 +43,6 @@ abbrev pub Quarter : Float → Type 0
 Quarter x = Quarters 16384 x
 
 -- the same of a length that may be absent
-abbrev pub MaybeQuarters : ℕ → MaybeF32 → Type 0
+abbrev pub MaybeQuarters : ℕ → Option Float → Type 0
 MaybeQuarters n None = Unit {0}
 MaybeQuarters n (Some x) = Quarters n x

@@ -15,4 +15,4 @@ pub returns-in-Finish : goal.returns-in-Finish
 returns-in-Finish c = list_finished _ _ _ _ _ _ _ c.play_out-step.ensures _ c.in-Finish.is c.put_finished.ensures
 
 pub returns-in-Refused : goal.returns-in-Refused
-returns-in-Refused c = list_refused _ _ _ _ _ _ _ c.play_out-step.ensures _ c.in-Refused.is c.number.ensures c.put_refused.ensures
+returns-in-Refused c = list_refused _ _ _ _ _ _ _ c.play_out-step.ensures _ c.in-Refused.is c.from.ensures c.put_refused.ensures

@@ -1,21 +1,17 @@
-use mathlib.Core.Path.{sym, ◌∙◌}
 use Rattle.screen.proofs.Whole.{read_told, bad_told}
 use Rattle.boxlist_print.proofs.Whole.{printed_bad, printed_read}
 use Rattle.boxlist_print.proofs.list_screen.Goals as goal
 
-pub list_words-requires : goal.list_words-requires
-list_words-requires c =
-    let t = read_told c.args.text.now _ _ (sym c.in-Read.is ∙ c.read_screen-answer.ensures.answer) in
-    (t.few_items, t.few_candidates)
-
-pub returns-in-BadLine : goal.returns-in-BadLine
-returns-in-BadLine c =
+pub returns-in-Ok : goal.returns-in-Ok
+returns-in-Ok c =
     let text = c.args.text.now in
-    printed_bad c.args.listing text (bad_told text (sym c.in-BadLine.is ∙ c.read_screen-answer.ensures.answer)) (rw c.number.ensures at c.put_refused.ensures)
+    let read = c.in-Ok.ensures.read in
+    let t = read_told text _ read.answer in
+    let blank = c.filled-lists.ensures in
+    printed_read c.args.listing text _ t _ _ _ _ (rw blank.header at read.header) (rw blank.styles at read.styles) (rw blank.replies at read.replies) (rw blank.candidates at read.candidates) c.list_words.ensures
 
-pub returns-in-Read : goal.returns-in-Read
-returns-in-Read c =
+pub returns-in-Err : goal.returns-in-Err
+returns-in-Err c =
     let text = c.args.text.now in
-    let read = c.read_screen-answer.ensures in
-    let t = read_told text _ _ (sym c.in-Read.is ∙ read.answer) in
-    printed_read c.args.listing text _ _ t _ _ _ _ read.header read.styles read.replies read.candidates c.list_words.ensures
+    let t = bad_told text _ c.in-Err.ensures.read.answer in
+    printed_bad c.args.listing text t.1 (rw (c.from.ensures, t.0) at c.put_refused.ensures)

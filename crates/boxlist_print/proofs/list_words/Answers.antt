@@ -7,5 +7,5 @@ use Rattle.boxlist_print.proofs.list_words.Goals as goal
 
 pub returns : goal.returns
 returns c =
-    let a = c.args in
-    rw (zeros (a.n * layout_width) (MAX_ITEMS * layout_width) (mul-le-mul_right layout_width c.requires.0)) at c.list_parts.ensures
+    let n = c.args.counts.items in
+    rw (zeros (n * layout_width) (MAX_ITEMS * layout_width) (mul-le-mul_right layout_width c.requires.0), c.opening_of.ensures) at c.list_run.ensures

@@ -3,4 +3,4 @@ use Rattle.oof_c.proofs.oof_drawing_order.Goals as goal
 
 pub returns : goal.returns
 unfolding drawing_in_words
-returns c = simp (← c.state_of-s.ensures, ← c.drawing_order-verdict.ensures, ← c.number.ensures)
+returns c = simp (← c.state_of-s.ensures, ← c.drawing_order.ensures, ← c.number.ensures)

@@ -7,4 +7,4 @@ returns c =
     let a = c.args in
     opened_in_words_lem (words a.layouts.now a.working.now a.unclaimed.now a.state.now a.answer.now) c.tell.result
     (opening_of a.width a.height a.x a.y a.direction a.claims a.overflow_x a.overflow_y) a.candidates.now a.styles.now
-    c.open-step.ensures c.state_words-opened.ensures c.tell.ensures
+    c.open-step.ensures c.state_words.ensures c.tell.ensures

@@ -3,7 +3,7 @@ use Rattle.oof_c_words.proofs.tell.Goals as goal
 
 pub returns-in-Refused : goal.returns-in-Refused
 unfolding result_of answer_left
-returns-in-Refused c = simp (c.in-Refused.is, ← c.number.ensures)
+returns-in-Refused c = simp (c.in-Refused.is, ← c.from.ensures)
 
 pub returns-in-Ask : goal.returns-in-Ask
 unfolding result_of answer_left

@@ -8,17 +8,17 @@ proceed-requires c =
     λ more.
     let a = c.args in
     first_at_hand a.o a.candidates.now (lent a.styles.now a.layouts.now a.working.now a.unclaimed.now) _ _ _
-    c.requires (rw (c.claims_of-claims.ensures, c.in-Into.is) at c.sweep.ensures) more
+    c.requires (rw (c.claims_in-claims.ensures, c.in-Ok.is) at c.sweep.ensures) more
 
-pub returns-in-Refused : goal.returns-in-Refused
-returns-in-Refused c =
+pub returns-in-Err : goal.returns-in-Err
+returns-in-Err c =
     let a = c.args in
     no_room a.o a.candidates.now (lent a.styles.now a.layouts.now a.working.now a.unclaimed.now) _ _ _ _
-    (rw (c.claims_of-claims.ensures, c.in-Refused.is) at c.sweep.ensures) (rw c.closed-none.ensures at c.refuse.ensures)
+    (rw (c.claims_in-claims.ensures, c.in-Err.is) at c.sweep.ensures) (rw c.closed-none.ensures at c.refuse.ensures)
 
-pub returns-in-Into : goal.returns-in-Into
+pub returns-in-Ok : goal.returns-in-Ok
 unfolding closed
-returns-in-Into c =
+returns-in-Ok c =
     let a = c.args in
     swept_in a.o a.candidates.now (lent a.styles.now a.layouts.now a.working.now a.unclaimed.now) _ _ _ _
-    (rw (c.claims_of-claims.ensures, c.in-Into.is) at c.sweep.ensures) (rw (c.container_of.ensures, c.claims_of-claims.ensures, c.closed-none.ensures) at c.proceed.ensures)
+    (rw (c.claims_in-claims.ensures, c.in-Ok.is) at c.sweep.ensures) (rw (c.container_of.ensures, c.claims_in-claims.ensures, c.closed-none.ensures) at c.proceed.ensures)

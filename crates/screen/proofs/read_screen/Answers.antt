@@ -1,45 +1,29 @@
-use native.Mathlib.Nat.{add-zero}
-use native.Mathlib.Omega.{arith}
-use mathlib.Core.Path.{refl, sym, ◌∙◌}
+use Rattle.std.proofs.Common.{◌≡◌, arith, refl, sym, ◌∙◌}
+use Rattle.std.proofs.Common.{length}
+use Rattle.std.proofs.lemmas.List.{take_rest}
+use Rattle.std.proofs.lemmas.Result.{err_from_is_err_and}
+use Rattle.screen_fields.specs.Format.{header_width}
 use Rattle.screen.specs.Screen.{written}
-use Rattle.screen_fields.proofs.Table.{first_width, item_width, candidate_width_lem, item_bytes, candidate_bytes}
-use Rattle.screen.proofs.Whole.{read_told, bad_told, header_read, styles_read, replies_read, candidates_read}
+use Rattle.screen.proofs.Whole.{read_told, bad_told, header_whole, header_read, styles_read, replies_read, candidates_read}
 use Rattle.screen.proofs.read_screen.Goals as goal
 
-pub read_fields-requires : goal.read_fields-requires
-read_fields-requires c = let t = read_told c.args.text.now _ _ (sym c.in-Read.is ∙ c.check_screen-answer.ensures) in let e = t.bytes in omega (arith, first_width)
-
-pub read_rows-requires : goal.read_rows-requires
-read_rows-requires c = let t = read_told c.args.text.now _ _ (sym c.in-Read.is ∙ c.check_screen-answer.ensures) in let e = t.bytes in let f = t.few_items in rw item_bytes (omega (arith, item_width))
-
-pub read_rows-requires-in-Read : goal.read_rows-requires-in-Read
-read_rows-requires-in-Read c = let t = read_told c.args.text.now _ _ (sym c.in-Read.is ∙ c.check_screen-answer.ensures) in let e = t.bytes in let f = t.few_items in rw item_bytes (omega (arith, item_width))
-
-pub overflow_mul-last : goal.overflow_mul-last
-overflow_mul-last c = let t = read_told c.args.text.now _ _ (sym c.in-Read.is ∙ c.check_screen-answer.ensures) in let f = t.few_items in omega arith
-
-pub overflow_add-last : goal.overflow_add-last
-overflow_add-last c = let t = read_told c.args.text.now _ _ (sym c.in-Read.is ∙ c.check_screen-answer.ensures) in let f = t.few_items in omega arith
-
-pub read_rows-requires-in-Read-2 : goal.read_rows-requires-in-Read-2
-read_rows-requires-in-Read-2 c = let t = read_told c.args.text.now _ _ (sym c.in-Read.is ∙ c.check_screen-answer.ensures) in let e = t.bytes in let f = t.few_candidates in rw candidate_bytes (omega (arith, candidate_width_lem))
-
-pub returns-in-BadLine : goal.returns-in-BadLine
+pub returns-in_err-counts-clause-read : goal.returns-in_err-counts-clause-read
 unfolding written
-returns-in-BadLine c =
-    let e = sym c.in-BadLine.is ∙ c.check_screen-answer.ensures in
-    let f = bad_told c.args.text.now e in
-    record { answer = e; header = rw f refl; styles = rw f refl; replies = rw f refl; candidates = rw f refl }
+returns-in_err-counts-clause-read c =
+    let t = bad_told c.args.text.now _ c.in_err-counts.ensures.answer in
+    let p = err_from_is_err_and c.from_residual.result c.from_residual.ensures.1 in
+    record { answer = rw (p.1, p.2) c.in_err-counts.ensures.answer; header = rw t.1 refl; styles = rw t.1 refl; replies = rw t.1 refl; candidates = rw t.1 refl }
 
-pub returns-in-Read : goal.returns-in-Read
-returns-in-Read c =
-    let e = sym c.in-Read.is ∙ c.check_screen-answer.ensures in
+pub returns-clause-read : goal.returns-clause-read
+returns-clause-read c =
     let text = c.args.text.now in
-    let t = read_told text _ _ e in
+    let e = c.in_ok-counts.ensures.answer in
+    let t = read_told text _ e in
+    let f : length c.args.lists.now.header ≡ header_width = omega arith in
     record {
       answer = e;
-      header = header_read text _ _ _ _ t c.read_fields.ensures;
-      styles = styles_read text _ _ _ _ t c.read_rows.ensures;
-      replies = replies_read text _ _ _ _ t c.read_rows-in-Read.ensures;
-      candidates = candidates_read text _ _ _ _ t (rw add-zero at c.read_rows-in-Read-2.ensures);
+      header = header_read text _ _ _ t (rw f at c.read_fields.ensures ∙ sym (header_whole text _ f));
+      styles = styles_read text _ _ _ t (rw take_rest at c.read_rows.ensures);
+      replies = replies_read text _ _ _ t (rw take_rest at c.read_rows-2.ensures);
+      candidates = candidates_read text _ _ _ t (rw take_rest at c.read_rows-3.ensures);
     }

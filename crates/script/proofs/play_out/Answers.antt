@@ -1,21 +1,14 @@
-use native.Mathlib.Omega.{arith}
-use mathlib.Core.Path.{refl, ◌∙◌}
-use borrow.Author.Rules.{rules}
+use Rattle.std.proofs.Common.{◌*◌, ◌/◌, length, refl, ◌∙◌}
+use Rattle.tree_record.specs.Candidate.{candidate_width}
 use Rattle.script.proofs.Steps.{turned, ended}
 use Rattle.script.proofs.play_out.Goals as goal
 
-pub overflow_mul-left : goal.overflow_mul-left
-overflow_mul-left c = omega (arith, c.well_formed.1.1.1.0.0)
-
-pub loop-left-init : goal.loop-left-init
-loop-left-init c = (refl, refl, refl, refl)
-
-pub loop-left-preserved : goal.loop-left-preserved
-loop-left-preserved c =
-    let l = c.loop-left in
-    let p = c.play_on-step.ensures in
-    (search rules, search rules, search rules, l.invariant.3 ∙ turned _ _ _ _ _ _ l.left (omega (arith, c.loop-left-test.true)) p)
+pub loop-preserved : goal.loop-preserved
+loop-preserved c =
+    let l = c.loop in
+    l.invariant ∙ turned _ _ _ _ _ _ l.counter (3 * (length c.args.candidates.now / candidate_width)) c.loop-test.true c.play_on-step.ensures
 
 pub returns : goal.returns
 returns c =
-    ended _ _ _ _ _ _ _ _ _ _ _ c.loop-left.left (omega (arith, c.loop-left-test.false)) c.open-step.ensures c.loop-left.invariant.3
+    let l = c.loop in
+    ended _ _ _ _ _ _ _ _ _ _ _ l.counter (3 * (length c.args.candidates.now / candidate_width)) refl c.loop-test.false c.open-step.ensures l.invariant

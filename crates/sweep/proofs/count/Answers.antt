@@ -1,32 +1,24 @@
-use borrow.Author.Rules.{rules}
-use Rattle.sweep.proofs.Steps.{from_start, from_end, at_most_one, count_step}
-use Rattle.sweep.specs.Sweep.{keep}
-use Rattle.tree_record.specs.Candidate.{candidate_width, candidate_of}
+use Rattle.std.proofs.Common.{sym, ◌∙◌, add-zero, arith}
 use Rattle.records.specs.Records.{record_at}
-use mathlib.Core.Path.{sym, ◌∙◌}
-use native.Mathlib.Nat.{zero-add, add-zero}
-use native.Mathlib.Omega.{arith}
+use Rattle.tree_record.specs.Candidate.{candidate_width, candidate_of}
+use Rattle.sweep.specs.Sweep.{keep}
+use Rattle.sweep.proofs.Steps.{from_start, from_end, count_step, one_in, one_out, position_at}
 use Rattle.sweep.proofs.count.Goals as goal
-
-pub loop-i-init : goal.loop-i-init
-loop-i-init c = (search rules, search rules, simp zero-add)
-
-pub overflow_add-count : goal.overflow_add-count
-overflow_add-count c =
-    let l = c.loop-i in
-    let a = c.args in
-    omega (arith, at_most_one a.claims a.claimed (candidate_of (record_at candidate_width a.candidates.now l.i)))
+use Rattle.sweep.proofs.count.Goals.{then-goes, else-goes}
 
 pub loop-i-preserved : goal.loop-i-preserved
 loop-i-preserved c =
-    let l = c.loop-i in
     let a = c.args in
-    let x = candidate_of (record_at candidate_width a.candidates.now l.i) in
-    (search rules, omega (arith, at_most_one a.claims a.claimed x), omega (arith, count_step a.claims a.claimed a.candidates.now _ l.i c.loop-i-test.true))
+    let x = candidate_of (record_at candidate_width a.candidates.now c.loop-i.i) in
+    let s = count_step a.claims a.claimed a.candidates.now _ c.loop-i.i c.loop-i-test.true in
+    let p = position_at a.candidates.now c.loop-i.i in
+    elim c.if-goes.branch [
+      | then-goes w ↦ omega (arith, one_in a.claims a.claimed x (rw (p, ← c.position_of.ensures, ← c.goes.ensures) w.if-goes.true))
+      | else-goes w ↦ omega (arith, one_out a.claims a.claimed x (rw (p, ← c.position_of.ensures, ← c.goes.ensures) w.if-goes.false))
+    ]
 
 pub returns : goal.returns
 unfolding keep
 returns c =
-    let a = c.args in
-    let e = from_end a.candidates.now _ _ c.loop-i-test.false in
-    sym (rw (from_start a.candidates.now) (c.loop-i.invariant.2 ∙ rw e (add-zero _)))
+    let e = from_end c.args.candidates.now _ _ c.loop-i-test.false in
+    sym (rw (from_start c.args.candidates.now) (c.loop-i.invariant.1 ∙ rw e (add-zero _)))

@@ -1,7 +1,5 @@
-use Prim.Native.Nat.{◌≤◌, ◌-◌, ◌+◌, ◌*◌}
-use mathlib.Core.Path.{◌≡◌}
-use lib.ListN.{length}
-use lib.Seq.{sets}
+use Rattle.std.proofs.Common.{◌≡◌, ◌+◌, ◌-◌, ◌*◌, length}
+use Rattle.std.proofs.lemmas.List.Edits.{sets}
 use Rattle.run.specs.Call.{lent}
 use Rattle.boxreach_lines.specs.Lines.{VERDICT_ROW}
 use Rattle.boxlist_print.specs.Verdicts.{verdicts_from}
@@ -9,10 +7,5 @@ use Rattle.boxlist_print.proofs.verdicts.put_each.Given as goal
 
 abbrev pub invariant-loop-i : goal.invariant-loop-i
 invariant-loop-i l =
-    (l.i ≤ l.n)
-    × (l.p + (l.n - l.i) * VERDICT_ROW ≤ length l.initial.out)
-    × (length l.out ≡ length l.initial.out)
-    × (sets l.initial.out l.at (verdicts_from l.s (lent l.styles l.layouts l.working l.unclaimed) 0 l.n) ≡ sets l.out l.p (verdicts_from l.s (lent l.styles l.layouts l.working l.unclaimed) l.i (l.n - l.i)))
-
-abbrev pub decreases-loop-i : goal.decreases-loop-i
-decreases-loop-i l = l.n - l.i
+    (length l.out ≡ length l.initial.out)
+    × (sets l.initial.out l.at (verdicts_from l.s (lent l.styles l.layouts l.working l.unclaimed) 0 l.n) ≡ sets l.out (l.at + l.i * VERDICT_ROW) (verdicts_from l.s (lent l.styles l.layouts l.working l.unclaimed) l.i (l.n - l.i)))

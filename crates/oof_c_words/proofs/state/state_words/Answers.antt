@@ -1,3 +1,4 @@
+use Rattle.std.specs.Prelude.{Float}
 use mathlib.Core.List.{[], ◌∷◌}
 use mathlib.Core.Path.{ap, ◌∙◌}
 use lib.ListN.{get_or}
@@ -14,8 +15,8 @@ returns c =
     ∷ (c.to_word.ensures ∙ ap float_word c.keyword_width.ensures) j
     ∷ (c.to_word-2.ensures ∙ ap float_word c.keyword_height.ensures) j
     ∷ c.fill_kind.ensures j
-    ∷ (c.to_word-3.ensures ∙ ap float_word (ap (λ (size : Size). size.width) c.fill_size-size.ensures)) j
-    ∷ (c.to_word-4.ensures ∙ ap float_word (ap (λ (size : Size). size.height) c.fill_size-size.ensures)) j
+    ∷ (c.to_word-3.ensures ∙ ap float_word (ap (λ (size : Size Float). size.width) c.unwrap_or-size.ensures)) j
+    ∷ (c.to_word-4.ensures ∙ ap float_word (ap (λ (size : Size Float). size.height) c.unwrap_or-size.ensures)) j
     ∷ c.count_word.ensures j
     ∷ c.count_word-2.ensures j
     ∷ c.count_word-3.ensures j

@@ -3,12 +3,12 @@ use borrow.Author.Tests.{lt-ltb, le-ltb}
 use Rattle.placer.proofs.boxes.proceed.Goals as goal
 
 pub ask-requires : goal.ask-requires
-ask-requires c = c.requires c.if-counts-filled.true
+ask-requires c = c.requires c.if-counts.true
 
-pub returns-then-counts-filled : goal.returns-then-counts-filled
+pub returns-then-counts : goal.returns-then-counts
 unfolding proceeding
-returns-then-counts-filled c = rw (lt-ltb _ _ c.if-counts-filled.true) c.ask.ensures
+returns-then-counts c = rw (lt-ltb _ _ c.if-counts.true) c.ask.ensures
 
 pub returns : goal.returns
 unfolding proceeding
-returns c = rw (le-ltb _ _ c.if-counts-filled.false) c.finish.ensures
+returns c = rw (le-ltb _ _ c.if-counts.false) c.finish.ensures

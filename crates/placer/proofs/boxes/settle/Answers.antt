@@ -25,7 +25,7 @@ pub write_layout-requires : goal.write_layout-requires
 write_layout-requires c =
     let a = c.args in
     let l = lent a.styles.now a.layouts.now a.working.now a.unclaimed.now in
-    rw (c.index.ensures, c.box_at_hand-candidate.ensures) (layout_room a.s (LaidOut a.overflow) a.surfaced.now l (reply_passed a.s (LaidOut a.overflow) a.surfaced.now l c.requires))
+    rw (c.box_at_hand-candidate.ensures) (layout_room a.s (LaidOut a.overflow) a.surfaced.now l (reply_passed a.s (LaidOut a.overflow) a.surfaced.now l c.requires))
 
 pub overflow_add-next : goal.overflow_add-next
 overflow_add-next c =
@@ -40,19 +40,19 @@ proceed-requires c =
     let a = c.args in
     let l = lent a.styles.now a.layouts.now a.working.now a.unclaimed.now in
     next_box a.s a.overflow a.surfaced.now l _ _ _ (reply_passed a.s (LaidOut a.overflow) a.surfaced.now l c.requires)
-    (rw (c.layout_oof_box-placed.ensures, c.style_of-style.ensures, c.box_at_hand-candidate.ensures, c.in-Into.is) at c.sweep.ensures) more
+    (rw (c.layout_oof_box-placed.ensures, c.style_of-style.ensures, c.box_at_hand-candidate.ensures, c.in-Ok.is) at c.sweep.ensures) more
 
-pub returns-in-Refused : goal.returns-in-Refused
-returns-in-Refused c =
+pub returns-in-Err : goal.returns-in-Err
+returns-in-Err c =
     let a = c.args in
     no_room a.s a.overflow a.surfaced.now (lent a.styles.now a.layouts.now a.working.now a.unclaimed.now) _ _ _ _
-    (rw (c.layout_oof_box-placed.ensures, c.style_of-style.ensures, c.box_at_hand-candidate.ensures, c.in-Refused.is) at c.sweep.ensures) c.refuse.ensures
+    (rw (c.layout_oof_box-placed.ensures, c.style_of-style.ensures, c.box_at_hand-candidate.ensures, c.in-Err.is) at c.sweep.ensures) c.refuse.ensures
 
-pub returns-in-Into : goal.returns-in-Into
-returns-in-Into c =
+pub returns-in-Ok : goal.returns-in-Ok
+returns-in-Ok c =
     let a = c.args in
     let l = lent a.styles.now a.layouts.now a.working.now a.unclaimed.now in
     placed a.s a.overflow a.surfaced.now l _ _ _ _ _
-    (rw (c.layout_oof_box-placed.ensures, c.style_of-style.ensures, c.box_at_hand-candidate.ensures, c.in-Into.is) at c.sweep.ensures)
-    (rw (c.index.ensures, c.layout_oof_box-placed.ensures, c.style_of-style.ensures, c.box_at_hand-candidate.ensures) at c.write_layout.ensures)
+    (rw (c.layout_oof_box-placed.ensures, c.style_of-style.ensures, c.box_at_hand-candidate.ensures, c.in-Ok.is) at c.sweep.ensures)
+    (rw (c.layout_oof_box-placed.ensures, c.style_of-style.ensures, c.box_at_hand-candidate.ensures) at c.write_layout.ensures)
     (rw (c.union.ensures, c.layout_oof_box-placed.ensures, c.style_of-style.ensures, c.box_at_hand-candidate.ensures) at c.proceed.ensures)

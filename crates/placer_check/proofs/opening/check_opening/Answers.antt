@@ -1,27 +1,32 @@
+use Rattle.std.proofs.Common.{◌∙◌}
+use Rattle.std.proofs.lemmas.Result.{err_from_is_err_and}
 use Rattle.run.specs.Run.{opening_verdict}
-use Rattle.run.specs.Refusals.{◌when◌else◌}
+use Rattle.placer_check.proofs.Steps.{refuses, passes, comes_last}
 use Rattle.placer_check.proofs.opening.check_opening.Goals as goal
 
-pub returns-then-is_area_bad : goal.returns-then-is_area_bad
-unfolding opening_verdict ◌when◌else◌
-returns-then-is_area_bad c = simp (← c.is_area_bad.ensures, c.if-is_area_bad.true)
+pub returns-in_err-refuse_if : goal.returns-in_err-refuse_if
+unfolding opening_verdict
+returns-in_err-refuse_if c =
+    let p = err_from_is_err_and c.from_residual.result c.from_residual.ensures.1 in
+    rw (p.1, p.2, ← c.is_area_bad.ensures)
+    (refuses _ _ _ c.in_err-refuse_if.ensures)
 
-pub returns-then-are_slices_bad : goal.returns-then-are_slices_bad
-unfolding opening_verdict ◌when◌else◌
-returns-then-are_slices_bad c = simp (← c.is_area_bad.ensures, c.if-is_area_bad.false, ← c.are_slices_bad.ensures, c.if-are_slices_bad.true)
+pub returns-in_err-refuse_if-2 : goal.returns-in_err-refuse_if-2
+unfolding opening_verdict
+returns-in_err-refuse_if-2 c =
+    let p = err_from_is_err_and c.from_residual-in_err-refuse_if-2.result c.from_residual-in_err-refuse_if-2.ensures.1 in
+    rw (p.1, p.2, ← c.is_area_bad.ensures, ← c.are_extents_bad.ensures)
+    (passes _ _ _ c.in_ok-refuse_if.ensures ∙ refuses _ _ _ c.in_err-refuse_if-2.ensures)
 
-pub returns-then-is_ragged : goal.returns-then-is_ragged
-unfolding opening_verdict ◌when◌else◌
-returns-then-is_ragged c = simp (← c.is_area_bad.ensures, c.if-is_area_bad.false, ← c.are_slices_bad.ensures, c.if-are_slices_bad.false, ← c.is_ragged.ensures, c.if-is_ragged.true)
-
-pub returns-then-is_style_bad : goal.returns-then-is_style_bad
-unfolding opening_verdict ◌when◌else◌
-returns-then-is_style_bad c = simp (← c.is_area_bad.ensures, c.if-is_area_bad.false, ← c.are_slices_bad.ensures, c.if-are_slices_bad.false, ← c.is_ragged.ensures, c.if-is_ragged.false, ← c.is_style_bad.ensures, c.if-is_style_bad.true)
-
-pub returns-then-is_candidate_bad : goal.returns-then-is_candidate_bad
-unfolding opening_verdict ◌when◌else◌
-returns-then-is_candidate_bad c = simp (← c.is_area_bad.ensures, c.if-is_area_bad.false, ← c.are_slices_bad.ensures, c.if-are_slices_bad.false, ← c.is_ragged.ensures, c.if-is_ragged.false, ← c.is_style_bad.ensures, c.if-is_style_bad.false, ← c.is_candidate_bad.ensures, c.if-is_candidate_bad.true)
+pub returns-in_err-refuse_if-3 : goal.returns-in_err-refuse_if-3
+unfolding opening_verdict
+returns-in_err-refuse_if-3 c =
+    let p = err_from_is_err_and c.from_residual-in_err-refuse_if-3.result c.from_residual-in_err-refuse_if-3.ensures.1 in
+    rw (p.1, p.2, ← c.is_area_bad.ensures, ← c.are_extents_bad.ensures, ← c.is_style_bad.ensures)
+    (passes _ _ _ c.in_ok-refuse_if.ensures ∙ passes _ _ _ c.in_ok-refuse_if-2.ensures ∙ refuses _ _ _ c.in_err-refuse_if-3.ensures)
 
 pub returns : goal.returns
-unfolding opening_verdict ◌when◌else◌
-returns c = simp (← c.is_area_bad.ensures, c.if-is_area_bad.false, ← c.are_slices_bad.ensures, c.if-are_slices_bad.false, ← c.is_ragged.ensures, c.if-is_ragged.false, ← c.is_style_bad.ensures, c.if-is_style_bad.false, ← c.is_candidate_bad.ensures, c.if-is_candidate_bad.false)
+unfolding opening_verdict
+returns c =
+    rw (← c.is_area_bad.ensures, ← c.are_extents_bad.ensures, ← c.is_style_bad.ensures, ← c.is_candidate_bad.ensures)
+    (passes _ _ _ c.in_ok-refuse_if.ensures ∙ passes _ _ _ c.in_ok-refuse_if-2.ensures ∙ passes _ _ _ c.in_ok-refuse_if-3.ensures ∙ comes_last _ _ _ _ c.refuse_if-4.ensures)

@@ -1,32 +1,38 @@
-use Rattle.placer_check.proofs.Steps.{by_lists}
-use Rattle.run.specs.Run.{reply_verdict, is_wrong, taken_by}
-use Rattle.run.specs.Refusals.{◌when◌else◌}
+use Rattle.std.proofs.Common.{◌∙◌, is_none}
+use Rattle.std.proofs.lemmas.Result.{err_from_is_err_and}
+use Rattle.run.specs.Run.{reply_verdict, taken_by}
+use Rattle.placer_check.proofs.Steps.{refuses, passes, comes_last, by_lists}
 use Rattle.placer_check.proofs.reply.check_reply.Goals as goal
 
-pub returns-then-are_extents_bad : goal.returns-then-are_extents_bad
-unfolding reply_verdict ◌when◌else◌
-returns-then-are_extents_bad c = simp (← c.are_extents_bad.ensures, c.if-are_extents_bad.true)
+pub returns-in_err-refuse_if : goal.returns-in_err-refuse_if
+unfolding reply_verdict
+returns-in_err-refuse_if c =
+    let p = err_from_is_err_and c.from_residual.result c.from_residual.ensures.1 in
+    rw (p.1, p.2, ← c.are_extents_bad.ensures)
+    (refuses _ _ _ c.in_err-refuse_if.ensures)
 
-pub returns-then-is_reply_wrong : goal.returns-then-is_reply_wrong
-unfolding reply_verdict ◌when◌else◌
-returns-then-is_reply_wrong c =
+pub returns-in_err-refuse_if-2 : goal.returns-in_err-refuse_if-2
+unfolding reply_verdict
+returns-in_err-refuse_if-2 c =
     let a = c.args in
-    simp (← c.are_extents_bad.ensures, c.if-are_extents_bad.false, ← by_lists a.styles.now a.layouts.now a.working.now a.unclaimed.now a.s.counts (is_wrong (taken_by a.s a.reply)) _ c.is_reply_wrong.ensures, c.if-is_reply_wrong.true)
+    let wrong = by_lists a.styles.now a.layouts.now a.working.now a.unclaimed.now a.s.counts (is_none (taken_by a.s a.reply)) _ c.is_reply_wrong.ensures in
+    let p = err_from_is_err_and c.from_residual-in_err-refuse_if-2.result c.from_residual-in_err-refuse_if-2.ensures.1 in
+    rw (p.1, p.2, ← c.are_extents_bad.ensures, ← wrong)
+    (passes _ _ _ c.in_ok-refuse_if.ensures ∙ refuses _ _ _ c.in_err-refuse_if-2.ensures)
 
-pub returns-then-is_style_bad : goal.returns-then-is_style_bad
-unfolding reply_verdict ◌when◌else◌
-returns-then-is_style_bad c =
+pub returns-in_err-refuse_if-3 : goal.returns-in_err-refuse_if-3
+unfolding reply_verdict
+returns-in_err-refuse_if-3 c =
     let a = c.args in
-    simp (← c.are_extents_bad.ensures, c.if-are_extents_bad.false, ← by_lists a.styles.now a.layouts.now a.working.now a.unclaimed.now a.s.counts (is_wrong (taken_by a.s a.reply)) _ c.is_reply_wrong.ensures, c.if-is_reply_wrong.false, ← c.is_style_bad.ensures, c.if-is_style_bad.true)
-
-pub returns-then-are_candidates_bad : goal.returns-then-are_candidates_bad
-unfolding reply_verdict ◌when◌else◌
-returns-then-are_candidates_bad c =
-    let a = c.args in
-    simp (← c.are_extents_bad.ensures, c.if-are_extents_bad.false, ← by_lists a.styles.now a.layouts.now a.working.now a.unclaimed.now a.s.counts (is_wrong (taken_by a.s a.reply)) _ c.is_reply_wrong.ensures, c.if-is_reply_wrong.false, ← c.is_style_bad.ensures, c.if-is_style_bad.false, ← c.are_candidates_bad.ensures, c.if-are_candidates_bad.true)
+    let wrong = by_lists a.styles.now a.layouts.now a.working.now a.unclaimed.now a.s.counts (is_none (taken_by a.s a.reply)) _ c.is_reply_wrong.ensures in
+    let p = err_from_is_err_and c.from_residual-in_err-refuse_if-3.result c.from_residual-in_err-refuse_if-3.ensures.1 in
+    rw (p.1, p.2, ← c.are_extents_bad.ensures, ← wrong, ← c.is_style_bad.ensures)
+    (passes _ _ _ c.in_ok-refuse_if.ensures ∙ passes _ _ _ c.in_ok-refuse_if-2.ensures ∙ refuses _ _ _ c.in_err-refuse_if-3.ensures)
 
 pub returns : goal.returns
-unfolding reply_verdict ◌when◌else◌
+unfolding reply_verdict
 returns c =
     let a = c.args in
-    simp (← c.are_extents_bad.ensures, c.if-are_extents_bad.false, ← by_lists a.styles.now a.layouts.now a.working.now a.unclaimed.now a.s.counts (is_wrong (taken_by a.s a.reply)) _ c.is_reply_wrong.ensures, c.if-is_reply_wrong.false, ← c.is_style_bad.ensures, c.if-is_style_bad.false, ← c.are_candidates_bad.ensures, c.if-are_candidates_bad.false)
+    let wrong = by_lists a.styles.now a.layouts.now a.working.now a.unclaimed.now a.s.counts (is_none (taken_by a.s a.reply)) _ c.is_reply_wrong.ensures in
+    rw (← c.are_extents_bad.ensures, ← wrong, ← c.is_style_bad.ensures, ← c.are_candidates_bad.ensures)
+    (passes _ _ _ c.in_ok-refuse_if.ensures ∙ passes _ _ _ c.in_ok-refuse_if-2.ensures ∙ passes _ _ _ c.in_ok-refuse_if-3.ensures ∙ comes_last _ _ _ _ c.refuse_if-4.ensures)
