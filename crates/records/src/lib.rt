@@ -34,5 +34,5 @@ pub fn record_at<const WIDTH: usize>(list: &[u32], i: usize) -> &[u32; WIDTH]
     requires { WIDTH * i + WIDTH ≤ length list.now }
     ensures { result.now ≡ record_at WIDTH list.now i }
 {
-    list[WIDTH * i..].first_chunk().unwrap()
+    list[WIDTH * i..][..WIDTH].first_chunk().unwrap()
 }
