@@ -148,8 +148,9 @@ def area(record):
 
 
 def state():
-    replies, block, extents = (body(STATE, name)[0][1] for name in ("replies_in", "container_in", "extents_in"))
+    replies, block, extents = (body(STATE, name)[0][1] for name in ("replies_in", "opening_in", "extents_in"))
     first = lambda record, of: int(re.search(rf"\b{of} \(at w (\d+)\)", record)[1])
+    alone = lambda record, field: int(re.search(rf"\b{field} = at w (\d+)", record)[1])
     def named(record, *fields):
         """The words of these fields, which stand one after another."""
         found = {name: int(n) for name, n in re.findall(r"\b(\w+) = (?:at|float_at) w (\d+)", record)}
@@ -162,9 +163,9 @@ def state():
     out |= {"KEYWORD": first(replies, "keyword_reply_of"), "FILL": first(replies, "fill_reply_of")}
     out |= dict(zip(("WORKING", "UNCLAIMED", "BEGUN", "ANSWERED"), counts))
     out["OVERFLOW"] = int(re.fullmatch(r"rect_of w (\d+)", body(STATE, "overflow_in")[0][1])[1])
-    out |= {"AREA": area(block), "DIRECTION": first(block, "direction_of")}
-    out["CLAIMS"] = first(body(STATE, "opened_in")[0][1], "claims_in")
-    out |= {f"OVERFLOW_{axis.upper()}": int(re.search(rf"\b{axis} = overflow_of \(at w (\d+)\)", block)[1]) for axis in "xy"}
+    out |= {"AREA": area(block), "DIRECTION": alone(block, "direction"), "CLAIMS": alone(block, "claims")}
+    out |= {f"OVERFLOW_{axis.upper()}": alone(block, f"overflow{axis}") for axis in "xy"}
+    assert "container_of (opening_in w); claims = claims_of (opening_in w)" in body(STATE, "opened_in")[0][1]
     out["LENGTHS"] = named(extents, "styles", "layouts", "working", "unclaimed")[0]
     return {"STATE_" + name: at for name, at in out.items()}
 
@@ -237,12 +238,12 @@ def wanted():
     out["MOST_LAYER"] = number(CANDIDATE, "layer_count") - 1
     # those of the entries: 7 and 8 belong to parts that have none
     out |= {k: v for k, v in codes("refusal/specs/Refusal.antt", "number_of", "").items() if v not in (7, 8)} | {"ACCEPTED": 0}
-    style_codes, record_codes = "style/specs/Codes.antt", "tree_record/specs/Codes.antt"
+    style_codes, edge_codes = "style/specs/Codes.antt", "tree/specs/Codes.antt"
     out |= codes(style_codes, "direction_code", "DIRECTION_") | codes(style_codes, "overflow_code", "OVERFLOW_")
     out |= codes(style_codes, "safety_code", "SAFETY_") | codes(style_codes, "keyword_code", "ALIGN_")
     out |= codes(style_codes, "sizing_code", "BOX_SIZING_", {"BorderBox": "BORDER", "ContentBox": "CONTENT"})
     out["ALIGN_ABSENT"] = int(re.search(r"cond \(eqb k (\d+)\)", body(style_codes, "alignment_of")[0][1])[1])
-    out |= codes(record_codes, "position_code", "POSITION_") | codes(record_codes, "edge_code", "EDGE_")
+    out |= codes(style_codes, "position_code", "POSITION_") | codes(edge_codes, "edge_code", "EDGE_")
     low, high = map(int, re.findall(r"cond \w+ (\d) 0", body(style_codes, "bits_code")[0][1]))
     for prefix, first, second in (("CLAIMS_", "ABSOLUTE", "FIXED"), ("FLAG_", "REPLACED", "TABLE"), ("CONTAIN_", "LAYOUT", "PAINT")):
         out |= {prefix + first: low, prefix + second: high}

@@ -6,7 +6,7 @@
 #include <stdlib.h>
 #include "oof.h"
 
-enum { STACK = 1 << 20, PAINT = 0xA5, LIMIT = 5120 };
+enum { STACK = 1 << 20, PAINT = 0xA5, LIMIT = 4096 };
 
 /* ---- a call on a painted stack */
 

@@ -63,8 +63,8 @@ def static_as(new): return [
 
 # ---- on quarters
 
-OF_FLOATS, NUMBERS = 'oof_axis/proofs/Laws.antt', 'oof_axis_laws/proofs/Numbers.antt'
-AROUND_N, AROUND = '(zero_n toN dbl_n c) (sub_n w (dbl_n (sub_n w c)) toN w)', '(zero_n toN dbl_n c) (sub_n ω (dbl_n (sub_n ω c)) toN ω)'
+OF_FLOATS = 'oof_axis/proofs/Laws.antt'
+AROUND_N = '(zero_n toN dbl_n c) (sub_n w (dbl_n (sub_n w c)) toN w)'
 NEARER = 'cond (le (magnitude center) (magnitude (areaSize ⊖ center)))'
 FROM_START = '(record { start = zero_exact; end = widen (omega arith) (dbl_exact hc (omega arith)) })'
 TO_END = '(record { start = widen (omega arith) (sub_exact hw (dbl_exact rest (omega arith)) (omega arith)); end = widen (omega arith) hw })'
@@ -238,7 +238,7 @@ align_line align.End a l = l
 -- one inset: at that inset'''),
         (AXIS, f'({BETWEEN})', f'(self_aligned a.safety a (align_line a.alignment a l) {BOX} (align_edge a.alignment a) ⊕ m.start)'),
         (CODE, USED, f'{USED}align_line, '),
-        (CODE, '    fn no_auto_margin(self)', '''    fn align_line(self, imcb: Line<f32>) -> Line<f32>
+        (CODE, '    // Where the border box of a final size begins.', '''    fn align_line(self, imcb: Line<f32>) -> Line<f32>
         ensures { result ≡ align_line self.alignment self imcb }
     {
         match self.alignment {
@@ -247,7 +247,7 @@ align_line align.End a l = l
         }
     }
 
-    fn no_auto_margin(self)'''),
+    // Where the border box of a final size begins.'''),
         (CODE, ALIGNED, 'self.self_aligned(self.align_line(imcb), outer, edge) + margin.start')]),
     ('alignment: border box, margins left out', LAWS, [
         (AXIS, BOX, 'size', 2),
@@ -320,7 +320,7 @@ by_direction End a = end_edge a.reversed
 
 -- no insets: the margin box aligned''')] + static_as('align_in a.place.area outer (by_direction a.place.align.keyword a)') + [
         (CODE, USED, f'{USED}by_direction, '),
-        (CODE, '    fn no_auto_margin(self)', '''    fn by_direction(self, edge: AxisStaticEdge) -> AxisStaticEdge
+        (CODE, '    // Where the border box of a final size begins.', '''    fn by_direction(self, edge: AxisStaticEdge) -> AxisStaticEdge
         ensures { result ≡ by_direction edge self }
     {
         match edge {
@@ -330,7 +330,7 @@ by_direction End a = end_edge a.reversed
         }
     }
 
-    fn no_auto_margin(self)'''),
+    // Where the border box of a final size begins.'''),
         (CODE, AT_STATIC_SAFE, if_over('imcb.end - imcb.start', CODE_STATIC)),
         (CODE, CODE_STATIC, CODE_STATIC.replace('self.place.align.keyword', 'self.by_direction(self.place.align.keyword)'), 2)]),
     ('static: margin ignored', LAWS, [
@@ -392,7 +392,7 @@ by_direction End a = end_edge a.reversed
         (CODE, 'end: free - start,', 'end: sys::f32_max(free - start, 0.0),')]),
     ('auto margins also with one inset', LAWS, [
         (AXIS, 'both_insets a = is_some a.inset.start && is_some a.inset.end', 'both_insets a = is_some a.inset.start || is_some a.inset.end'),
-        (CODE, 'self.inset.start.is_some() && self.inset.end.is_some()', 'self.inset.start.is_some() || self.inset.end.is_some()')]),
+        (CODE, 'self.inset.both_ends_defined()', 'self.inset.start.is_some() || self.inset.end.is_some()')]),
     ('auto margins: aligned in the block all the same', LAWS, [
         (AXIS, '\n    (l.start ⊕ m.start)', '\n    (self_aligned a.safety a l (size ⊕ or_zero a.margin.start ⊕ or_zero a.margin.end) (align_edge a.alignment a) ⊕ or_zero a.margin.start)'),
         (CODE, AT_BLOCK, at_auto(f'''{{
@@ -408,7 +408,7 @@ by_direction End a = end_edge a.reversed
         (CODE, 'sys::f32_max(self.inset_modified_containing_block_size() - margins, 0.0)', 'self.inset_modified_containing_block_size() - margins')]),
     ('stretches with one inset', LAWS, [
         (AXIS, 'stretches a plain = both_insets a && ', 'stretches a plain = (is_some a.inset.start || is_some a.inset.end) && '),
-        (CODE, '{◌≡◌, not, ◌&&◌, ', '{◌≡◌, not, ◌&&◌, ◌||◌, '),
+        (CODE, '{◌≡◌, not, ◌&&◌}', '{◌≡◌, not, ◌&&◌, ◌||◌, is_some}'),
         (CODE, 'self.both_insets() && self.alignment.stretches', 'self.any_inset() && self.alignment.stretches'),
         (CODE, '    // Whether an auto size is the stretch-fit size.', '''    fn any_inset(self) -> bool
         ensures { result ≡ is_some self.inset.start || is_some self.inset.end }
@@ -430,21 +430,18 @@ by_direction End a = end_edge a.reversed
         (CODE, line('size - 2.0 * rest', 'size', 8), line('0.0', '2.0 * center', 8)),
         (CODE, 'REST', 'rest'),
         (MODEL, AROUND_N, '(sub_n w (dbl_n (sub_n w c)) toN w) (zero_n toN dbl_n c)'),
-        (NUMBERS, AROUND, '(sub_n ω (dbl_n (sub_n ω c)) toN ω) (zero_n toN dbl_n c)', 4),
         (BLOCKS, f'{FROM_START}\n      {TO_END}', f'{TO_END}\n      {FROM_START}')]),
     ('static center: the block is the area', QUARTERS, [
         (AXIS, f'{NEARER} (0f to 2f ⊗ center) (areaSize ⊖ 2f ⊗ (areaSize ⊖ center) to areaSize)', f'{NEARER} (0f to areaSize) (0f to areaSize)'),
         (CODE, line('0.0', '2.0 * center', 8), line('0.0', 'size', 8)),
         (CODE, line('size - 2.0 * rest', 'size', 8), line('0.0', 'size', 8)),
         (MODEL, AROUND_N, '(zero_n toN w) (zero_n toN w)'),
-        (NUMBERS, AROUND, '(zero_n toN ω) (zero_n toN ω)', 4),
         (BLOCKS, f'{FROM_START}\n      {TO_END}', '(record { start = zero_exact; end = widen (omega arith) hw })\n      (record { start = zero_exact; end = widen (omega arith) hw })')]),
     ('static center: from the center on', ['oof_axis', ('oof_axis_laws', NO_CODE + NO_MIRROR + AROUND_ALONE)], [
         (AXIS, f'{NEARER} (0f to 2f ⊗ center) (areaSize ⊖ 2f ⊗ (areaSize ⊖ center) to areaSize)', f'{NEARER} (center to areaSize) (center to areaSize)'),
         (CODE, line('0.0', '2.0 * center', 8), line('center', 'size', 8)),
         (CODE, line('size - 2.0 * rest', 'size', 8), line('center', 'size', 8)),
         (MODEL, AROUND_N, '(c toN w) (c toN w)'),
-        (NUMBERS, AROUND, '(c toN ω) (c toN ω)', 4),
         (BLOCKS, 'LineExact 4 b', 'LineExact 2 b', 5),
         (BLOCKS, 'LineExact 4 (3 * L + 2 * A)', 'LineExact 2 (3 * L + 2 * A)', 5),
         (BLOCKS, f'{FROM_START}\n      {TO_END}', '(record { start = widen (omega arith) hc; end = widen (omega arith) (eighths hw) })\n      (record { start = widen (omega arith) hc; end = widen (omega arith) (eighths hw) })'),
@@ -481,8 +478,7 @@ by_direction End a = end_edge a.reversed
         (MODEL, 'self_n Default σ w l box k = cond (le_n box (span_n l) || is_normal σ.alignment) (align_n l box k) (limited_n σ.scrolls σ.reversed w l box k)', 'self_n Default σ w l box k = align_n l box (cond (lt_n (span_n l) box) (start_of σ.reversed) k)'),
         (PLACES, ('  self_exact Default a k h hw b =', '  static_place_exact :'), SELF_EXACT_SAFE),
         (OF_FLOATS, 'fits_aligned Default a l outer k h = rw h refl', 'fits_aligned Default a l outer k h = rw (fits_not_over outer (span l) h) refl'),
-        (OF_FLOATS, ('normal_aligned Default a l outer n =', 'normal_edge :'), NORMAL_AS_SAFE),
-        (NUMBERS, 'fits_told Default σ ω l v k f = rw f refl', 'fits_told Default σ ω l v k f = rw (le-ltb ((span_n l).p + v.n) (v.p + (span_n l).n) (at_most v (span_n l) f)) refl')]),
+        (OF_FLOATS, ('normal_aligned Default a l outer n =', 'normal_edge :'), NORMAL_AS_SAFE)]),
     ('limit: the area only', QUARTERS, NO_REACH + limits('0f', 'a.size', '0.0', 'self.size', 'zero_n', 'w', '0f', 'w', 'zero_exact', 'widen (omega arith) hw')),
     ('limit: the block only', QUARTERS, NO_REACH + limits('l.start', 'l.end', 'imcb.start', 'imcb.end', 'l.start', 'l.end', 'l.start', 'l.end', 'h.start', 'h.end')),
     ('limit: never open', QUARTERS, NO_REACH + [

@@ -11,10 +11,10 @@ EDITS = [
     # of bottom margin, padding and border too
     ('top margin: percentages of the height', R, [
         (RESOLVED, 'of_width f sides areaSize = resolved_rect f sides areaSize.width areaSize.width', 'of_width f sides areaSize = resolved_rect f sides areaSize.width areaSize.height'),
-        (RESOLVE, 'resolve::maybe_resolve_rect(field, sides, area.width, area.width)', 'resolve::maybe_resolve_rect(field, sides, area.width, area.height)')]),
+        (RESOLVE, 'sides.map(|length| resolve::maybe_resolve(field, length, area.width))', 'resolve::maybe_resolve_rect(field, sides, area)')]),
     ('top and bottom insets: percentages of the width', R, [
         (RESOLVED, 'resolved_rect field.InsetOrMargin sides areaSize.width areaSize.height', 'resolved_rect field.InsetOrMargin sides areaSize.width areaSize.width'),
-        (RESOLVE, 'resolve::maybe_resolve_rect(Field::InsetOrMargin, sides, area.width, area.height)', 'resolve::maybe_resolve_rect(Field::InsetOrMargin, sides, area.width, area.width)')]),
+        (RESOLVE, 'resolve::maybe_resolve_rect(Field::InsetOrMargin, sides, area)', 'sides.map(|length| resolve::maybe_resolve(Field::InsetOrMargin, length, area.width))')]),
     ('offset: not taken off the static area', R, [
         (RESOLVED, 'record { area = counted_from place.area offset; align = place.align }', 'record { area = place.area; align = place.align }'),
         (RESOLVE, 'area: place.area.relative_to(offset),', 'area: place.area,')]),
@@ -86,28 +86,28 @@ EDITS = [
     # ---- step 5: stretch
     ('table: normal stretches', B, [
         (BOX, 'let plain = not style.replaced && not style.table in', 'let plain = not style.replaced && not style.replaced in'),
-        (SIZING, 'stretches axis (not style.replaced && not style.table)', 'stretches axis (not style.replaced && not style.replaced)'),
-        (SIZING, 'axis.is_stretch_sized(style.replaced, style.table)', 'axis.is_stretch_sized(style.replaced, style.replaced)')]),
+        (SIZING, 'not self.now.style.now.replaced && not self.now.style.now.table', 'not self.now.style.now.replaced && not self.now.style.now.replaced'),
+        (SIZING, 'is_stretch_sized(self.style.replaced, self.style.table)', 'is_stretch_sized(self.style.replaced, self.style.replaced)')]),
     ('replaced: normal stretches', B, [
         (BOX, 'let plain = not style.replaced && not style.table in', 'let plain = not style.table && not style.table in'),
-        (SIZING, 'stretches axis (not style.replaced && not style.table)', 'stretches axis (not style.table && not style.table)'),
-        (SIZING, 'axis.is_stretch_sized(style.replaced, style.table)', 'axis.is_stretch_sized(style.table, style.table)')]),
+        (SIZING, 'not self.now.style.now.replaced && not self.now.style.now.table', 'not self.now.style.now.table && not self.now.style.now.table'),
+        (SIZING, 'is_stretch_sized(self.style.replaced, self.style.table)', 'is_stretch_sized(self.style.table, self.style.table)')]),
     ('table: stretched directly', B, [
         (BOX, 'known = known;\n      min = raised_min stretchesX box.min.width box.fit.width by raised_min stretchesY box.min.height box.fit.height;',
             'known = heightened ratio box stretchesY (widened ratio box stretchesX known);\n      min = box.min;'),
-        (SIZING, """        let raised = Size {
-            width: raised_min(stretchx, min.width, fit.width),
-            height: raised_min(stretchy, min.height, fit.height),
-        };
-        return Stretched { known, min: raised };
-""", """        let own = stretch_ratio(style, resolved, stretchx, stretchy);
-        let wide = widen(known, own, resolved, stretchx);
-        return Stretched {
-            known: heighten(wide, own, resolved, stretchy),
-            min,
-        };
+        (SIZING, """            let raised = Size {
+                width: raised_min(stretchx, min.width, fit.width),
+                height: raised_min(stretchy, min.height, fit.height),
+            };
+            return Stretched { known, min: raised };
+""", """            let own = self.stretch_ratio(stretchx, stretchy);
+            let wide = self.widen(known, own, stretchx);
+            return Stretched {
+                known: self.heighten(wide, own, stretchy),
+                min,
+            };
 """),
-        (SIZING, '    let fit = resolved.fit;\n', '')]),
+        (SIZING, '        let fit = self.resolved.fit;\n', '')]),
     ('table: min not raised', B, [
         (BOX, 'cond stretchesSide (Some (larger (or_zero min) fit)) min', 'cond stretchesSide min min'),
         (SIZING, 'Some(sys::f32_max(min.unwrap_or(0.0), fit))', 'min')]),
@@ -118,8 +118,8 @@ EDITS = [
     ('stretched: a given size too', B, [
         (BOX, 'let stretchesX = not (is_some known.width) && stretches box.horizontal plain in', 'let stretchesX = stretches box.horizontal plain in'),
         (BOX, 'let stretchesY = not (is_some known.height) && stretches box.vertical plain in', 'let stretchesY = stretches box.vertical plain in'),
-        (SIZING, 'result ≡ (not (is_some known) && stretches axis (not style.replaced && not style.table))', 'result ≡ stretches axis (not style.replaced && not style.table)'),
-        (SIZING, 'known.is_none() && axis.is_stretch_sized(style.replaced, style.table)', 'axis.is_stretch_sized(style.replaced, style.table)')]),
+        (SIZING, 'result ≡ (not (is_some known) && stretches axis.now (not self.now.style.now.replaced && not self.now.style.now.table))', 'result ≡ stretches axis.now (not self.now.style.now.replaced && not self.now.style.now.table)'),
+        (SIZING, 'known.is_none() && axis.is_stretch_sized', 'axis.is_stretch_sized')]),
     # ---- step 6: measured
     ('never measured: padding plus border', B, [
         (BOX, 'cond (both_present at.known) (done zero_size) (measure_both (fill_input node at.known box.space))', 'done zero_size'),

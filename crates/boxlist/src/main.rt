@@ -5,6 +5,7 @@
 use boxlist_print::Listing;
 use std::process::ExitCode;
 
+// The call that `boxreach` makes with its own name and listing: a program is a crate, and what they share is `run_named`.
 fn main(rt: HostRuntime) -> ExitCode {
     screen_program::run_named(
         "boxlist",

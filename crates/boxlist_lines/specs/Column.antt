@@ -7,14 +7,14 @@ use Rattle.boxlist_lines.specs.declared.Ink.TheVariants.{Digits, Sign, Star, Bla
 
 -- the rightmost cell, in ASCII: a digit, `-`, `*` or a blank
 unfoldable pub cell_of : Ink → ℕ
-cell_of (Digits s n) = 48 + n % 10
+cell_of (Digits c) = 48 + c.size % 10
 cell_of Sign = 45
 cell_of Star = 42
 cell_of Blank = 32
 
 -- what stands left of it
 unfoldable pub left_of : Ink → Ink
-left_of (Digits s n) = cond (leb 10 n) (Digits s (n / 10)) (cond s Sign Blank)
+left_of (Digits c) = cond (leb 10 c.size) (Digits (record { negative = c.negative; size = c.size / 10 })) (cond c.negative Sign Blank)
 left_of Sign = Blank
 left_of Star = Blank
 left_of Blank = Blank
@@ -32,10 +32,10 @@ COLUMN = 8
 -- `*` for no whole eighth, or above 9,999,999 in size
 unfoldable pub count_ink : Option Count → Ink
 count_ink None = Star
-count_ink (Some c) = Digits c.negative c.size
+count_ink (Some c) = Digits c
 
 unfoldable pub code_ink : ℕ → Ink
-code_ink n = cond (leb n 9999999) (Digits false n) Star
+code_ink n = cond (leb n 9999999) (Digits (record { negative = false; size = n })) Star
 
 -- a float's eighths
 unfoldable pub eighths_text : Float → List ℕ

@@ -2,7 +2,7 @@
 -- Assumes nothing.
 use Rattle.std.specs.Prelude.{ℕ, ◌+◌, ◌*◌, ◌≡◌, true, false, List, [], ◌∷◌, ◌++◌, length, replicate, pos, Float, None}
 use Rattle.std.specs.Float.{fin}
-use Rattle.util.specs.Eighths.{whole, count_of}
+use Rattle.util.specs.Eighths.{count_of}
 use Rattle.geometry.specs.declared.Rect.{Rect}
 use Rattle.boxlist_lines.specs.declared.Ink.{Ink}
 use Rattle.boxlist_lines.specs.declared.Ink.TheVariants.{Digits}
@@ -16,7 +16,7 @@ ColumnWidth = (w : ℕ) (ink : Ink) → length (cells w ink) ≡ w
 
 -- the longest number, -9999999, fills its column
 abbrev pub LongestFills : Type 0
-LongestFills = cells COLUMN (Digits true 9999999) ≡ 45 ∷ replicate 7 57
+LongestFills = cells COLUMN (Digits (record { negative = true; size = 9999999 })) ≡ 45 ∷ replicate 7 57
 
 -- what is no whole eighth, or too large, is a star
 abbrev pub StarAlone : Type 0

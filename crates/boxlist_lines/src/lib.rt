@@ -1,5 +1,5 @@
 // Numbers right-justified in columns, as the printed list and the screen file have them.
-#![tactic(auto)]
+#![tactic(auto, unfolding(crate::specs::Column::count_ink, crate::specs::Column::code_ink))]
 
 ghost use Rattle.std.specs.Prelude.{◌≡◌, ◌+◌, ◌≤◌, length};
 ghost use Rattle.std.proofs.lemmas.List.Edits.{sets};
@@ -16,7 +16,7 @@ pub const COLUMN: usize = 8;
 // What is still to be written of a column, from its right end.
 #[derive(Clone, Copy)]
 pub enum Ink {
-    Digits { negative: bool, size: u64 },
+    Digits(Count),
     Sign,
     Star,
     Blank,
@@ -28,7 +28,7 @@ fn cell(ink: Ink) -> u8
     ensures { result ≡ cell_of ink }
 {
     match ink {
-        Ink::Digits { size, .. } => b'0' + (size % 10) as u8,
+        Ink::Digits(count) => b'0' + (count.size % 10) as u8,
         Ink::Sign => b'-',
         Ink::Star => b'*',
         Ink::Blank => b' ',
@@ -41,18 +41,20 @@ fn left_of(ink: Ink) -> Ink
     ensures { result ≡ left_of ink }
 {
     match ink {
-        Ink::Digits { negative, size } if 10 <= size => Ink::Digits {
-            negative,
-            size: size / 10,
-        },
-        Ink::Digits { negative: true, .. } => Ink::Sign,
+        Ink::Digits(count) if 10 <= count.size => Ink::Digits(Count {
+            size: count.size / 10,
+            ..count
+        }),
+        Ink::Digits(Count { negative: true, .. }) => Ink::Sign,
         _ => Ink::Blank,
     }
 }
 
 // Writes a column of a width, from its right end.
-// By hand, since a `write!` of `{:>8}` promises its bytes only where it ends well, and no promise of std's says that it does.
-#[tactic(auto, using(crate::proofs::Cells::no_cells))]
+// By hand, with `cell`, `left_of`, `put_eighths` and `put_code`, since a `write!` of `{:>8}` promises its bytes only where it ends well, and no
+// promise of std's says that it does. Why place and room stand beside the slice, here and below, is said at `list::put_bytes`.
+// The place is counted, since of `iter_mut().rev()` nothing is promised of what the slice ends as.
+#[tactic(auto, using(crate::proofs::Cells::cell_first, crate::proofs::Cells::no_cells))]
 pub fn put(out: &mut [u8], at: usize, width: usize, ink: Ink)
     requires { at + width ≤ length out.old }
     ensures { out.new ≡ sets out.old at (cells width ink) }
@@ -65,39 +67,39 @@ pub fn put(out: &mut [u8], at: usize, width: usize, ink: Ink)
 }
 
 // A count of eighths: its number, or a star where a float is no whole count.
-#[tactic(auto, unfolding(crate::specs::Column::count_ink))]
-pub fn count_ink(count: Option<Count>) -> Ink
-    ensures { result ≡ count_ink count }
-{
-    match count {
-        None => Ink::Star,
-        Some(Count { negative, size }) => Ink::Digits { negative, size },
+impl From<Option<Count>> for Ink {
+    ghost from_gives = { λ count ink. ink ≡ count_ink count };
+
+    fn from(count: Option<Count>) -> Ink {
+        count.map_or(Ink::Star, Ink::Digits)
     }
 }
 
 // A code of the printed list: its number, or a star above 9,999,999.
-#[tactic(auto, unfolding(crate::specs::Column::code_ink))]
-pub fn code_ink(code: u32) -> Ink
-    ensures { result ≡ code_ink code }
-{
-    let size = u64::from(code);
-    if size <= eighths::LARGEST {
-        Ink::Digits {
-            negative: false,
-            size,
+impl From<u32> for Ink {
+    ghost from_gives = { λ code ink. ink ≡ code_ink code };
+
+    fn from(code: u32) -> Ink {
+        let size = u64::from(code);
+        if size <= eighths::LARGEST {
+            Ink::Digits(Count {
+                negative: false,
+                size,
+            })
+        } else {
+            Ink::Star
         }
-    } else {
-        Ink::Star
     }
 }
 
+// The two below differ in one call: of any number that becomes an `Ink`, a contract could only say that there is some ink that it becomes.
 // A float's eighths in a column of the list.
 #[tactic(auto, unfolding(crate::specs::Column::eighths_text))]
 pub fn put_eighths(out: &mut [u8], at: usize, x: f32)
     requires { at + COLUMN ≤ length out.old }
     ensures { out.new ≡ sets out.old at (eighths_text x) }
 {
-    put(out, at, COLUMN, count_ink(eighths::to_eighths(x)));
+    put(out, at, COLUMN, Ink::from(eighths::to_eighths(x)));
 }
 
 // A code in a column of the list.
@@ -106,5 +108,5 @@ pub fn put_code(out: &mut [u8], at: usize, code: u32)
     requires { at + COLUMN ≤ length out.old }
     ensures { out.new ≡ sets out.old at (code_text code) }
 {
-    put(out, at, COLUMN, code_ink(code));
+    put(out, at, COLUMN, Ink::from(code));
 }

@@ -1,4 +1,4 @@
-// The lines of the printed list.
+// The lines of the printed list. All bytes but the line feeds go through `put_bytes` and `put`, and none through a `write!`: at `put` stands why.
 ghost use Rattle.std.specs.Prelude.{◌≡◌, ◌+◌, ◌*◌, ◌≤◌, length};
 ghost use Rattle.std.proofs.lemmas.List.Edits.{sets};
 ghost use Rattle.boxlist_lines.specs.Column.{COLUMN};
@@ -16,7 +16,8 @@ pub struct Row {
     pub margin: Rect<f32>,
 }
 
-// How many bytes the lines have: nine columns, five and two, and a line feed each.
+// How many bytes the lines have: nine columns, five and two, and a line feed each. Written out, since contracts and array types take the value of a
+// constant, which calls no function.
 pub const ROW: usize = 9 * COLUMN + 1;
 
 pub const OVERFLOW: usize = 5 * COLUMN + 1;
@@ -24,7 +25,9 @@ pub const OVERFLOW: usize = 5 * COLUMN + 1;
 pub const REFUSAL: usize = 2 * COLUMN + 1;
 
 // Bytes as they are.
-// The place stands beside the slice, here and below: of a part `&mut out[at..]` each caller would have to prove again what it leaves of the rest.
+// Place and room stand beside the slice, here and below: of a part `&mut out[at..]` each caller would have to prove again what it leaves of the
+// rest, and of a struct that holds the slice nothing says what the slice ends as.
+// `records::write` does so with words; its promise is by that crate's own `written`, and neither crate cites the other.
 #[tactic(auto, using(crate::proofs::Stores::part_sets))]
 pub fn put_bytes(out: &mut [u8], at: usize, bytes: &[u8])
     requires { at + length bytes.now ≤ length out.old }
@@ -45,7 +48,7 @@ fn put_rect(out: &mut [u8], at: usize, rect: Rect<f32>)
     put_eighths(out, at + 3 * COLUMN, rect.bottom);
 }
 
-// The names of the columns.
+// The names of the columns. A function of its own, as each text has: its contract ties the bytes to the definition that has their words.
 #[tactic(auto, unfolding(crate::specs::Lines::header_text, crate::specs::Lines::line_text, crate::specs::Lines::joined, crate::specs::Lines::word_text))]
 pub fn put_header(out: &mut [u8], at: usize)
     requires { at + ROW ≤ length out.old }
@@ -74,6 +77,7 @@ pub fn put_row(out: &mut [u8], at: usize, row: Row)
 }
 
 // The overflow rectangle of the run.
+// A refusal's line has another word and other columns: one function of both would be given all of that.
 #[tactic(auto, using(crate::proofs::Lines::overflow_stores))]
 pub fn put_overflow(out: &mut [u8], at: usize, overflow: Rect<f32>)
     requires { at + OVERFLOW ≤ length out.old }
@@ -84,7 +88,7 @@ pub fn put_overflow(out: &mut [u8], at: usize, overflow: Rect<f32>)
     out[at + 5 * COLUMN] = b'\n';
 }
 
-// A refusal, by its number.
+// A refusal, by its number. Any number, as it always took: a `Refusal` would ask more of callers, which no public function may come to do.
 #[tactic(auto, using(crate::proofs::Lines::refusal_stores))]
 pub fn put_refusal(out: &mut [u8], at: usize, number: u32)
     requires { at + REFUSAL ≤ length out.old }

@@ -1,5 +1,4 @@
 -- Proofs of the statements of `specs/Laws.antt`. Assumes nothing.
-use Rattle.std.specs.Prelude.{Float}
 use Prim.Native.Nat.{ℕ, ◌+◌, ◌<◌, ◌≤◌}
 use native.Mathlib.Omega.{arith}
 use mathlib.Core.Path.{◌≡◌, refl, sym, ap, ◌∙◌}
@@ -9,6 +8,8 @@ use lib.Dec.{leb, lit≤}
 use lib.ListN.{length, take}
 use lib.Seq.{length-sets, length-take-le, take_all}
 use borrow.Author.Tests.{leb-true, leb-false}
+use Rattle.std.specs.Prelude.{Result, Ok, Err, Float}
+use Rattle.refusal.specs.declared.Refusal.{Refusal}
 use Rattle.refusal.specs.declared.Refusal.TheVariants.{BadScreenLine}
 use Rattle.refusal.specs.Refusal.{number_of}
 use Rattle.boxlist_lines.specs.Lines.{refusal_text}
@@ -18,7 +19,7 @@ use Rattle.screen.specs.Screen.{is_screen, item_count, header_of, styles_of, rep
 use Rattle.screen.proofs.Laws.{screen_size}
 use Rattle.run.specs.declared.Opening.{Opening}
 use Rattle.run.specs.declared.Answer.{Answer}
-use Rattle.run.specs.declared.Answer.TheVariants.{Ask, Finish, Refused}
+use Rattle.run.specs.declared.Answer.TheVariants.{Ask, Finish}
 use Rattle.run.specs.declared.State.{State}
 use Rattle.run.specs.Call.{Lent, Outcome}
 use Rattle.script.specs.Script.{played_out}
@@ -49,10 +50,10 @@ list_fits : (listing : Listing) (styles : List ℕ) (o : Outcome) → o.step.sta
 unfolding list_of
 list_fits listing styles o h = go o.step.answer
   where
-    go : (a : Answer) → length (list_by listing styles a o) ≤ LIST_BYTES
-    go (Ask q) = lit≤ tt
-    go (Finish f) = finished_fits listing o.step.state f.overflow _ h
-    go (Refused r) = rw (refusal_bytes (number_of r)) (lit≤ tt)
+    go : (a : Result Answer Refusal) → length (list_by listing styles a o) ≤ LIST_BYTES
+    go (Ok (Ask q)) = lit≤ tt
+    go (Ok (Finish f)) = finished_fits listing o.step.state f.overflow _ h
+    go (Err r) = rw (refusal_bytes (number_of r)) (lit≤ tt)
 
 pub printed_fits : PrintedFits
 unfolding printed

@@ -17,7 +17,7 @@ use Rattle.pixels.specs.Pixels.{all_accepted}
 use Rattle.screen.specs.Screen.{is_screen, item_count, header_of, styles_of, replies_of, candidates_of}
 use Rattle.screen.proofs.Exactly.{screen_exactly}
 use Rattle.run.specs.declared.Answer.{Answer}
-use Rattle.run.specs.declared.Answer.TheVariants.{Ask, Finish, Refused}
+use Rattle.run.specs.declared.Answer.TheVariants.{Ask, Finish}
 use Rattle.run.specs.declared.Finish.{Finish as FinishOf}
 use Rattle.run.specs.Call.{lent}
 use Rattle.run.specs.Conditions.{NoneHolds}
@@ -54,13 +54,13 @@ pub run_is_listed : RunIsListed
 unfolding printed list_of
 run_is_listed listing text none = go (run_of text).step.answer refl (passes text none).finish
   where
-    go : (a : Answer) → (run_of text).step.answer ≡ a → is_finish a ≡ true
+    go : (a : Result Answer Refusal) → (run_of text).step.answer ≡ a → is_finish a ≡ true
         → let o = run_of text in
-        (f : FinishOf) × (o.step.answer ≡ Finish f)
+        (f : FinishOf) × (o.step.answer ≡ Ok (Finish f))
         × (printed listing text ≡ finished_text listing o.step.state f.overflow (lent (styles_of text) o.layouts o.working o.unclaimed))
-    go (Ask q) e h = no h refl
-    go (Finish f) e h = (f, e, rw (a_screen text none, e) refl)
-    go (Refused r) e h = no h refl
+    go (Ok (Ask q)) e h = no h refl
+    go (Ok (Finish f)) e h = (f, e, rw (a_screen text none, e) refl)
+    go (Err r) e h = no h refl
 
 -- ---- a row
 

@@ -1,22 +1,23 @@
 -- The claimed records of a scripted run fit its working list: nothing is surfaced, so they are those of the opening. Assumes nothing.
-use Rattle.std.specs.Prelude.{Float}
 use Prim.Native.Nat.{ℕ, zero, suc, ◌*◌, ◌/◌, ◌≤◌}
 use native.Mathlib.Omega.{arith}
 use native.Mathlib.Nat.{add-zero, zero-add}
 use mathlib.Core.Path.{◌≡◌, refl, sym, ◌∙◌, subst}
 use mathlib.Core.List.{List, []}
 use lib.ListN.{length}
+use Rattle.std.specs.Prelude.{Result, Ok, Err, Float}
 use Rattle.geometry.specs.declared.Rect.{Rect}
 use Rattle.tree_record.specs.Candidate.{candidate_width}
 use Rattle.records.specs.Records.{records}
 use Rattle.sweep.specs.Sweep.{first_candidates, candidates_in, keep}
 use Rattle.oof_box.specs.declared.question.Reply.{Reply}
+use Rattle.refusal.specs.declared.Refusal.{Refusal}
 use Rattle.run.specs.declared.Opening.{Opening}
 use Rattle.run.specs.declared.Counts.{Counts}
 use Rattle.run.specs.declared.Opened.{Opened}
 use Rattle.run.specs.declared.State.{State}
 use Rattle.run.specs.declared.Answer.{Answer}
-use Rattle.run.specs.declared.Answer.TheVariants.{Ask, Finish, Refused}
+use Rattle.run.specs.declared.Answer.TheVariants.{Ask, Finish}
 use Rattle.run.specs.Call.{Lent, Outcome}
 use Rattle.run.specs.Run.{asking, finishing, proceeding, closed, begun, opened, measured_on, laid_out, replied}
 use Rattle.run.specs.Theorems.{next}
@@ -51,10 +52,10 @@ unfolding played filled played_on next
 played_filled zero replies styles o = refl
 played_filled (suc n) replies styles o = played_filled n replies styles (played_on replies styles o) ∙ once o.step.answer refl
   where
-    once : (a : Answer) → o.step.answer ≡ a → filled (played_on replies styles o) ≡ filled o
-    once (Ask q) e = rw e (reply_filled o.step.state (scripted_reply replies q) _)
-    once (Finish f) e = rw e refl
-    once (Refused r) e = rw e refl
+    once : (a : Result Answer Refusal) → o.step.answer ≡ a → filled (played_on replies styles o) ≡ filled o
+    once (Ok (Ask q)) e = rw e (reply_filled o.step.state (scripted_reply replies q) _)
+    once (Ok (Finish f)) e = rw e refl
+    once (Err r) e = rw e refl
 
 open_filled : (o : Opening) (candidates : List ℕ) (lent : Lent) → filled (opened o candidates lent) ≤ length lent.working / candidate_width
 unfolding filled closed begun

@@ -8,7 +8,7 @@ use mathlib.Core.Bool.{Bool, true, false, cond}
 use mathlib.Core.List.{List, [], ◌∷◌}
 use lib.ListN.{length, drop, replicate, length-replicate}
 use borrow.Author.Tests.{le-leb, le-ltb, eq-eqb}
-use Rattle.std.specs.Prelude.{Ok, Err, Float}
+use Rattle.std.specs.Prelude.{Ok, Err, Result, is_err}
 use Rattle.util.proofs.Floats.{no}
 use Rattle.refusal.specs.declared.Refusal.{Refusal}
 use Rattle.refusal.specs.declared.Refusal.TheVariants.{BadScreenLine}
@@ -23,16 +23,12 @@ use Rattle.tree_record.specs.Candidate.{candidate_width}
 use Rattle.tree_record.specs.Layout.{layout_width}
 use Rattle.sweep.specs.Sweep.{side, first_candidates, candidates_in, keep}
 use Rattle.run.specs.declared.Opening.{Opening}
-use Rattle.geometry.specs.declared.Rect.{Rect}
-use Rattle.run.specs.declared.Counts.{Counts}
-use Rattle.run.specs.declared.Opened.{Opened}
 use Rattle.run.specs.declared.Answer.{Answer}
-use Rattle.run.specs.declared.Answer.TheVariants.{Ask, Finish, Refused}
+use Rattle.run.specs.declared.Answer.TheVariants.{Ask, Finish}
 use Rattle.run.specs.Call.{Outcome, lent}
 use Rattle.run.specs.Refusals.{Verdict, accepted, refused, ◌when◌else◌, ragged, bad_table, bad_list, bad_slices, list_full}
-use Rattle.run.specs.Run.{asking, finishing, proceeding, claims_of, none_filled, opening_verdict, begun, opened}
-use Rattle.run.specs.Theorems.{is_refused}
-use Rattle.run.proofs.Ways.{NextWay, asks, ends, next_way}
+use Rattle.run.specs.Run.{claims_of, none_filled, opening_verdict, begun, opened}
+use Rattle.run.proofs.Refusals.{proceeding_accepts}
 use Rattle.script.specs.Script.{played_out}
 use Rattle.script.specs.Theorems.{is_finish}
 use Rattle.script.proofs.Ends.{refused_opening_stays}
@@ -117,15 +113,6 @@ module _ (text : List ℕ) (e : is_screen text ≡ true) where
       )
       refl
 
--- the first box, or the finish, is no refusal
-unrefused : (styles working : List ℕ) (run : Opened) (counts : Counts) (overflow : Rect Float) → is_refused (proceeding styles working run counts overflow).answer ≡ false
-unfolding asking finishing
-unrefused styles working run counts overflow = go (next_way styles working run counts overflow)
-  where
-    go : NextWay styles working run counts overflow → is_refused (proceeding styles working run counts overflow).answer ≡ false
-    go (asks h e) = rw e refl
-    go (ends h e) = rw e refl
-
 -- ---- a run's list, by the verdict of its opening
 
 module _ (listing : Listing) (o : Opening) (replies candidates styles : List ℕ) (n : ℕ) where
@@ -135,15 +122,15 @@ module _ (listing : Listing) (o : Opening) (replies candidates styles : List ℕ
   turned_down r e =
       rw (refused_opening_stays o replies candidates (lent_for styles n) r (rw e refl), e) (line r)
 
-  pub begins_unrefused : opening_verdict o candidates (lent_for styles n) ≡ accepted → is_refused (opened o candidates (lent_for styles n)).step.answer ≡ false
+  pub begins_unrefused : opening_verdict o candidates (lent_for styles n) ≡ accepted → is_err (opened o candidates (lent_for styles n)).step.answer ≡ false
   unfolding opened begun
-  begins_unrefused e = rw e (unrefused _ _ _ _ _)
+  begins_unrefused e = rw e (proceeding_accepts _ _ _ _ _)
 
-  finished : (a : Answer) → (played_out o replies candidates (lent_for styles n)).step.answer ≡ a → is_finish a ≡ true
+  finished : (a : Result Answer Refusal) → (played_out o replies candidates (lent_for styles n)).step.answer ≡ a → is_finish a ≡ true
       → Shows listing accepted (list_of listing styles (played_out o replies candidates (lent_for styles n)))
   unfolding list_of
-  finished (Ask q) e h = no h refl
-  finished (Finish f) e h = rw e (by listing)
+  finished (Ok (Ask q)) e h = no h refl
+  finished (Ok (Finish f)) e h = rw e (by listing)
     where
       end : Outcome
       end = played_out o replies candidates (lent_for styles n)
@@ -154,7 +141,7 @@ module _ (listing : Listing) (o : Opening) (replies candidates styles : List ℕ
       by : (listing : Listing) → Shows listing accepted (finished_text listing end.step.state f.overflow (lent styles end.layouts end.working end.unclaimed))
       by Boxes = list (rows_at end.working end.step.state.counts.filled.working end.layouts) _ (rw rows_count few)
       by Verdicts = verdicts end.step.state _ few
-  finished (Refused r) e h = no h refl
+  finished (Err r) e h = no h refl
 
   shown : (v : Verdict) → opening_verdict o candidates (lent_for styles n) ≡ v → Shows listing v (list_of listing styles (played_out o replies candidates (lent_for styles n)))
   shown (Ok tt) e = finished _ refl (opened_finishes o replies candidates (lent_for styles n) (begins_unrefused e))

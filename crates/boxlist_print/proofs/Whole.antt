@@ -1,12 +1,12 @@
 -- From a text to what is printed. Assumes nothing.
-use Prim.Native.Nat.{ℕ, zero, suc, ◌+◌, ◌*◌, ◌≤◌}
-use native.Mathlib.Omega.{arith}
-use native.Mathlib.Nat.{zero-add, le_of_suc-le-suc, mul-le-mul_right}
+use Prim.Native.Nat.{ℕ, ◌+◌, ◌*◌, ◌≤◌}
+use native.Mathlib.Nat.{zero-add, mul-le-mul_right}
 use mathlib.Core.Path.{◌≡◌, refl, ap, ◌∙◌, subst}
 use mathlib.Core.Bool.{false}
-use mathlib.Core.List.{List, ◌∷◌}
+use mathlib.Core.List.{List}
 use lib.ListN.{length, take, drop, replicate, length-replicate}
 use lib.Seq.{sets, sets-eq, take_at}
+use Rattle.std.proofs.lemmas.List.{take-replicate}
 use Rattle.refusal.specs.Refusal.{number_of}
 use Rattle.refusal.specs.declared.Refusal.TheVariants.{BadScreenLine}
 use Rattle.boxlist_lines.specs.Lines.{refusal_text}
@@ -18,18 +18,13 @@ use Rattle.screen.proofs.Laws.{screen_words}
 use Rattle.screen.proofs.Whole.{Told}
 use Rattle.style_record.specs.Record.{style_words}
 use Rattle.tree_record.specs.Candidate.{candidate_width}
+use Rattle.tree_record.specs.Layout.{layout_width}
 use Rattle.boxlist_print.specs.declared.Listing.{Listing}
 use Rattle.boxlist_print.specs.Rows.{Prints}
 use Rattle.boxlist_print.specs.Printed.{list_from, printed}
 
--- the front of zeros are zeros
-pub zeros : (k n : ℕ) → k ≤ n → take {A = ℕ} k (replicate n 0) ≡ replicate k 0
-zeros zero n h = refl
-zeros (suc k) zero h = absurd (none k h)
-  where
-    none : (k : ℕ) → suc k ≤ 0 → ⊥
-    none k h = omega arith
-zeros (suc k) (suc n) h = ap (λ (l : List ℕ). 0 ∷ l) (zeros k n (le_of_suc-le-suc h))
+pub zero_layouts : (n : ℕ) → n ≤ MAX_ITEMS → take {A = ℕ} (n * layout_width) (replicate (MAX_ITEMS * layout_width) 0) ≡ replicate (n * layout_width) 0
+zero_layouts n h = take-replicate (n * layout_width) (MAX_ITEMS * layout_width) 0 (mul-le-mul_right layout_width h)
 
 -- what was written over the front of zeros is read back there
 front : (vs : List ℕ) (n k : ℕ) → length vs ≡ k → k ≤ n → take {A = ℕ} k (sets (replicate n 0) 0 vs) ≡ vs

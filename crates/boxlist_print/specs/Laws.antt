@@ -1,5 +1,5 @@
 -- What `printed` means, as statements. `proofs/` proves each, under its name in small letters. Assumes nothing.
-use Rattle.std.specs.Prelude.{ℕ, ◌+◌, ◌<◌, ◌≤◌, ◌↔◌, ◌⊎◌, ◌≢◌, ◌≡◌, not, List, [], ◌∷◌, length, take, Err, IsOk, Float}
+use Rattle.std.specs.Prelude.{ℕ, ◌+◌, ◌<◌, ◌≤◌, ◌↔◌, ◌⊎◌, ◌≢◌, ◌≡◌, not, List, [], ◌∷◌, length, take, Err, IsOk, Ok, Float}
 use Rattle.geometry.specs.declared.Rect.{Rect}
 use Rattle.refusal.specs.declared.Refusal.{Refusal}
 use Rattle.refusal.specs.declared.Refusal.TheVariants.{BadArea, BadStyle, BadCandidate, BadScreenLine, NotInEighths}
@@ -67,7 +67,7 @@ abbrev pub RunIsListed : Type 0
 RunIsListed =
     (listing : Listing) (text : List ℕ) → NoneHolds (program_tests text)
     → let o = run_of text in
-    (f : Finish) × (o.step.answer ≡ answer.Finish f)
+    (f : Finish) × (o.step.answer ≡ Ok (answer.Finish f))
     × (printed listing text ≡ finished_text listing o.step.state f.overflow (lent (styles_of text) o.layouts o.working o.unclaimed))
 
 -- a row of verdicts says seen, unseen or refused 9: a run's own state and words meet 2, 4 and 6 at none of its boxes

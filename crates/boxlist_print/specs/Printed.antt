@@ -1,7 +1,8 @@
 -- What `boxlist` prints (document 01, "Program `boxlist`") and what `boxreach` prints (request #102): `printed`, the last definition, of any
 -- text. Assumes nothing.
-use Rattle.std.specs.Prelude.{ℕ, ◌+◌, ◌*◌, cond, List, [], get_or, replicate, Float}
+use Rattle.std.specs.Prelude.{ℕ, ◌+◌, ◌*◌, cond, List, [], get_or, replicate, Result, Ok, Err, Float}
 use Rattle.geometry.specs.declared.Rect.{Rect}
+use Rattle.refusal.specs.declared.Refusal.{Refusal}
 use Rattle.refusal.specs.Refusal.{number_of}
 use Rattle.refusal.specs.declared.Refusal.TheVariants.{BadScreenLine}
 use Rattle.boxlist_lines.specs.Lines.{ROW, OVERFLOW, list_text, refusal_text}
@@ -11,7 +12,7 @@ use Rattle.tree_record.specs.Candidate.{candidate_width}
 use Rattle.tree_record.specs.Layout.{layout_width, area_of}
 use Rattle.run.specs.declared.Opening.{Opening}
 use Rattle.run.specs.declared.Answer.{Answer}
-use Rattle.run.specs.declared.Answer.TheVariants.{Ask, Finish, Refused}
+use Rattle.run.specs.declared.Answer.TheVariants.{Ask, Finish}
 use Rattle.run.specs.declared.State.{State}
 use Rattle.run.specs.Call.{Lent, Outcome, lent}
 use Rattle.script.specs.Script.{played_out}
@@ -32,10 +33,10 @@ finished_text Boxes s overflow lent = list_text (rows_at lent.working s.counts.f
 finished_text Verdicts s overflow lent = verdicts_text s lent
 
 -- a run over these styles. One that is played out never stands at a question
-abbrev pub list_by : Listing → List ℕ → Answer → Outcome → List ℕ
-list_by listing styles (Ask q) o = []
-list_by listing styles (Finish f) o = finished_text listing o.step.state f.overflow (lent styles o.layouts o.working o.unclaimed)
-list_by listing styles (Refused r) o = refusal_text (number_of r)
+abbrev pub list_by : Listing → List ℕ → Result Answer Refusal → Outcome → List ℕ
+list_by listing styles (Ok (Ask q)) o = []
+list_by listing styles (Ok (Finish f)) o = finished_text listing o.step.state f.overflow (lent styles o.layouts o.working o.unclaimed)
+list_by listing styles (Err r) o = refusal_text (number_of r)
 
 unfoldable pub list_of : Listing → List ℕ → Outcome → List ℕ
 list_of listing styles o = list_by listing styles o.step.answer o

@@ -10,18 +10,18 @@ ghost use Rattle.tree_record.specs.Candidate.{candidate_width};
 ghost use Rattle.run.specs.Call.{lent};
 ghost use Rattle.script.specs.Script.{played_out};
 ghost use Rattle.boxlist_print.specs.Rows.{Prints};
-ghost use Rattle.boxlist_print.specs.Printed.{LIST_BYTES, finished_text, list_of, opening_of, list_words, list_from, printed};
+ghost use Rattle.boxlist_print.specs.Printed.{finished_text, list_of, opening_of, list_words, list_from, printed};
 
 use boxlist_lines::list;
 use geometry::{Point, Rect, Size};
-use rows::{float_at, word_at};
-use run::{Answer, Opening, State};
+use run::{Answer, Lent, Opening, State};
 use screen::{LineCounts, ScreenLists};
 use screen_fields::format;
 use style_record::words::STYLE_WORDS;
 use tree::layout::OofPositioningArea;
 use tree_record::candidate::CANDIDATE_WORDS;
 use tree_record::layout::LAYOUT_WORDS;
+use util::bits;
 
 mod rows;
 mod verdicts;
@@ -42,48 +42,57 @@ const LIST_WORDS: usize = format::MAX_CANDIDATES * CANDIDATE_WORDS;
 
 const ALL_LAYOUTS: usize = format::MAX_ITEMS * LAYOUT_WORDS;
 
-// What the first line opens.
+// What the first line opens: its first eight words (`opening_in` of oof_c_words says why it reads those of a C state apart).
 #[tactic(auto, unfolding(crate::specs::Printed::opening_of))]
-fn opening_of(header: &[u32]) -> Opening
+fn opening_of(header: &[u32; format::HEADER_WORDS]) -> Opening
     ensures { result ≡ opening_of header.now }
 {
+    let [
+        width,
+        height,
+        x,
+        y,
+        direction,
+        claims,
+        overflowx,
+        overflowy,
+        _,
+        _,
+    ] = *header;
     Opening {
         area: OofPositioningArea {
             size: Size {
-                width: float_at(header, 0),
-                height: float_at(header, 1),
+                width: bits::from_word(width),
+                height: bits::from_word(height),
             },
             offset: Point {
-                x: float_at(header, 2),
-                y: float_at(header, 3),
+                x: bits::from_word(x),
+                y: bits::from_word(y),
             },
         },
-        direction: word_at(header, 4),
-        claims: word_at(header, 5),
-        overflowx: word_at(header, 6),
-        overflowy: word_at(header, 7),
+        direction,
+        claims,
+        overflowx,
+        overflowy,
     }
 }
 
-// The list of a finished run.
+// The list of a finished run. Answers how many bytes it has, here and below: at `rows::put_list` stands why, and at
+// `boxlist_lines::put` why there is no `write!`.
 fn put_finished(
     listing: Listing,
-    out: &mut [u8],
+    out: &mut [u8; LIST_BYTES],
     s: State,
     overflow: Rect<f32>,
-    styles: &[u32],
-    layouts: &[u32],
-    working: &[u32],
-    unclaimed: &[u32],
+    lent: &Lent,
 ) -> usize
-    requires working_bound { s.counts.filled.working ≤ MAX_CANDIDATES }
-    requires in_bounds { LIST_BYTES ≤ length out.old }
-    ensures { Prints result out.old out.new (finished_text listing s overflow (lent styles.now layouts.now working.now unclaimed.now)) }
+    requires { s.counts.filled.working ≤ MAX_CANDIDATES }
+    ensures { Prints result out.old out.new (finished_text listing s overflow lent.now) }
 {
     let n = s.counts.filled.working;
     match listing {
-        Listing::Boxes => rows::put_list(out, working, n, layouts, overflow),
-        Listing::Verdicts => verdicts::put_verdicts(out, s, styles, layouts, working, unclaimed),
+        Listing::Boxes => rows::put_list(out, lent.working, n, lent.layouts, overflow),
+        Listing::Verdicts => verdicts::put_verdicts(out, s, lent),
     }
 }
 
@@ -97,35 +106,30 @@ fn list_run(
     layouts: &mut [u32],
     working: &mut [u32],
     unclaimed: &mut [u32],
-    out: &mut [u8],
+    out: &mut [u8; LIST_BYTES],
 ) -> usize
-    requires working_len { length working.old ≡ list_words }
-    requires in_bounds { LIST_BYTES ≤ length out.old }
+    requires { length working.old ≡ list_words }
     ensures { Prints result out.old out.new (list_of listing styles.now (played_out o replies.now candidates.now (lent styles.now layouts.old working.old unclaimed.old))) }
 {
     let step = script::play_out(o, replies, styles, candidates, layouts, working, unclaimed);
-    let state = step.state;
-    let answer = step.answer;
-    match answer {
-        Answer::Ask(_) => 0,
-        Answer::Finish(finish) => {
-            let overflow = finish.overflow;
-            put_finished(
-                listing,
-                out,
-                state,
-                overflow,
+    match step.answer {
+        // a run that is played out stands at no question; for one that did, the definition prints nothing
+        Ok(Answer::Ask(_)) => 0,
+        Ok(Answer::Finish(finish)) => {
+            let lent = Lent {
                 styles,
-                &layouts[..],
-                &working[..],
-                &unclaimed[..],
-            )
+                layouts,
+                working,
+                unclaimed,
+            };
+            put_finished(listing, out, step.state, finish.overflow, &lent)
         }
-        Answer::Refused(refusal) => rows::put_refused(out, u32::from(refusal)),
+        Err(refusal) => rows::put_refused(out, refusal),
     }
 }
 
-// Prints the list of a screen's words, with zeros to write layouts and lists into.
+// Prints the list of a screen's words, with zeros to write layouts and lists into. Of the largest lists each run is lent the part for its counts.
+// Three lists of the same items: document 01 has styles and layouts lent apart, and the replies are the screen's own.
 fn list_words(
     listing: Listing,
     counts: LineCounts,
@@ -152,12 +156,13 @@ fn list_words(
 }
 
 // Prints what is printed for a text, and answers how many bytes it has.
+// What is listed and the buffer go down side by side: of a struct that holds a `&mut` nobody could say what the buffer ends as.
 pub fn list_screen(listing: Listing, text: &[u8], out: &mut [u8; LIST_BYTES]) -> usize
     ensures { Prints result out.old out.new (printed listing text.now) }
 {
     let mut lists = ScreenLists::filled(0);
     match screen::read_screen(text, &mut lists) {
         Ok(counts) => list_words(listing, counts, &lists, out),
-        Err(refusal) => rows::put_refused(out, u32::from(refusal)),
+        Err(refusal) => rows::put_refused(out, refusal),
     }
 }

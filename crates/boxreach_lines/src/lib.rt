@@ -1,4 +1,5 @@
-// The lines of the printed verdicts: place, node, and whether scrolling brings the box up.
+// The lines of the printed verdicts: place, node, and whether scrolling brings the box up. But for the line feed they go through `put_bytes` and `put_code` of
+// `boxlist_lines`, where it stands why not through a `write!`, and why the place and the room stand beside the slice.
 #![tactic(auto)]
 
 ghost use Rattle.std.specs.Prelude.{◌≡◌, ◌+◌, ◌*◌, ◌≤◌, length};
@@ -13,10 +14,10 @@ use boxlist_lines::{COLUMN, put_code};
 use reach::Offsets;
 use refusal::Refusal;
 
-// How many bytes a line has: five columns and a line feed.
+// How many bytes a line has: five columns and a line feed, written out as the other lines' are (boxlist_lines).
 pub const VERDICT_ROW: usize = 5 * COLUMN + 1;
 
-// The names of the columns.
+// The names of the columns. A function of its own, as `put_unseen` is: its contract ties the bytes to the definition that has their words.
 #[tactic(auto, unfolding(crate::specs::Lines::verdict_names, boxlist_lines::specs::Lines::line_text, boxlist_lines::specs::Lines::joined, boxlist_lines::specs::Lines::word_text))]
 pub fn put_names(out: &mut [u8], at: usize)
     requires { at + VERDICT_ROW ≤ length out.old }
@@ -25,7 +26,7 @@ pub fn put_names(out: &mut [u8], at: usize)
     put_bytes(out, at, b"   place    node verdict scrollx scrolly\n");
 }
 
-// `seen`, and the offsets.
+// `seen`, and the offsets. A refusal has another word and other columns: one function of both would be given all of that.
 #[tactic(auto, using(crate::proofs::Lines::seen_stores))]
 fn put_seen(out: &mut [u8], at: usize, offsets: Offsets)
     requires { at + 3 * COLUMN ≤ length out.old }
@@ -46,12 +47,12 @@ fn put_unseen(out: &mut [u8], at: usize)
 
 // `refused`, and the number.
 #[tactic(auto, using(crate::proofs::Lines::refused_stores))]
-fn put_refused(out: &mut [u8], at: usize, number: u32)
+fn put_refused(out: &mut [u8], at: usize, refusal: Refusal)
     requires { at + 3 * COLUMN ≤ length out.old }
-    ensures { out.new ≡ sets out.old at (joined (refused_columns number)) }
+    ensures { out.new ≡ sets out.old at (joined (refused_columns (number_of refusal))) }
 {
     put_bytes(out, at, b" refused");
-    put_code(out, at + COLUMN, number);
+    put_code(out, at + COLUMN, u32::from(refusal));
     put_bytes(out, at + 2 * COLUMN, b"       -");
 }
 
@@ -63,7 +64,7 @@ fn put_verdict(out: &mut [u8], at: usize, reached: Result<Option<Offsets>, Refus
     match reached {
         Ok(Some(offsets)) => put_seen(out, at, offsets),
         Ok(None) => put_unseen(out, at),
-        Err(refusal) => put_refused(out, at, u32::from(refusal)),
+        Err(refusal) => put_refused(out, at, refusal),
     }
 }
 

@@ -11,6 +11,7 @@ use lib.Dec.{eqb}
 use lib.ListN.{length}
 use borrow.Author.Tests.{eq-eqb}
 use Rattle.reach.specs.declared.Offsets.{Offsets}
+use Rattle.std.specs.Prelude.{None, Err, is_err, Result, IsOk, Option, ⊤, Float, ℤ}
 use Rattle.util.proofs.Floats.{no}
 use Rattle.geometry.specs.declared.Line.{Line}
 use Rattle.geometry.specs.declared.Point.{Point}
@@ -19,28 +20,24 @@ use Rattle.style.specs.declared.alignment.AlignItems.{AlignItems}
 use Rattle.tree.specs.Static.{from_alignment}
 use Rattle.tree.specs.declared.layout.AxisStaticPosition.{AxisStaticPosition}
 use Rattle.tree.specs.declared.layout.Layout.{Layout}
-use Rattle.std.specs.Prelude.{Result, IsOk, Option, Float, ℤ}
 use Rattle.pixels.specs.Pixels.{pixel_edges}
 use Rattle.refusal.specs.declared.Refusal.{Refusal}
 use Rattle.refusal.specs.declared.Refusal.TheVariants.{BadStyle}
 use Rattle.style_record.specs.Check.{checked}
 use Rattle.style_record.specs.Decode.{style_at}
 use Rattle.style_record.specs.declared.check.BadWord.{BadWord}
-use Rattle.std.specs.Prelude.{Result, ⊤}
 use Rattle.sweep.specs.Sweep.{layers_of, claimed}
 use Rattle.oof_box.specs.declared.question.Reply.{Reply}
 use Rattle.oof_box.specs.declared.question.Reply.TheVariants.{LaidOut}
 use Rattle.oof_box.specs.Cut.{layout_after}
 use Rattle.oof_box.proofs.Floor.{size_law as box-size-law}
 use Rattle.run.specs.declared.Opening.{Opening}
-use Rattle.run.specs.declared.Progress.TheVariants.{Finished}
 use Rattle.run.specs.declared.State.{State}
 use Rattle.run.specs.declared.Step.{Step}
-use Rattle.run.specs.declared.Answer.TheVariants.{Refused}
 use Rattle.run.specs.Call.{Lent, Outcome, outcome}
 use Rattle.run.specs.Refusals.{accepted}
 use Rattle.run.specs.Conditions.{StyleIsBad, FirstIs, NoneHolds}
-use Rattle.run.specs.Theorems.{Names, WroteSize, open_in, one_if_asked, is_refused, asked_for, Heard, Loan, own, other, Turn, next, next_with, turned, Lends, AllLend, called, Stands, heeded_in, course_of, laid_so_far}
+use Rattle.run.specs.Theorems.{Names, WroteSize, open_in, one_if_asked, asked_for, Heard, Loan, own, other, Turn, next, next_with, turned, Lends, AllLend, called, Stands, heeded_in, course_of, laid_so_far}
 use Rattle.run.specs.Run.{claims_of, extents_of, box_at_hand, opened, replied, taken_by, laid_out}
 use Rattle.run.proofs.Refusals.{refused_reply_keeps, refused_opening_keeps, saying, turn_refused}
 use Rattle.run.proofs.Exactly.{opening_refused_exactly, opening_accepted_exactly, reply_refused_exactly, reply_accepted_exactly, unresolved_exactly}
@@ -141,12 +138,12 @@ named styles p = let n = named_where_bad styles in Iff.trans p (n.1, n.0)
 
 pub openings_go_by_the_check : OpeningsGoByTheCheck
 openings_go_by_the_check o candidates lent has c none =
-    subst (λ (x : Outcome). (x.step.answer ≡ Refused BadStyle) ↔ Names (checked lent.styles)) (sym c)
+    subst (λ (x : Outcome). (x.step.answer ≡ Err BadStyle) ↔ Names (checked lent.styles)) (sym c)
     (named lent.styles (Iff.trans (opening_refused_exactly o candidates lent BadStyle) (third_is_first refl refl refl refl none)))
 
 pub replies_go_by_the_check : RepliesGoByTheCheck
 replies_go_by_the_check s reply surfaced lent has c none =
-    subst (λ (x : Outcome). (x.step.answer ≡ Refused BadStyle) ↔ Names (checked lent.styles)) (sym c)
+    subst (λ (x : Outcome). (x.step.answer ≡ Err BadStyle) ↔ Names (checked lent.styles)) (sym c)
     (named lent.styles (Iff.trans (reply_refused_exactly s reply surfaced lent BadStyle) (third_is_first refl refl refl refl none)))
 
 -- ---- at most three questions
@@ -193,8 +190,8 @@ module _ (o : Opening) (candidates : List ℕ) (lent : Lent) where
       ∙ ap (λ (x : Outcome). turned lent.styles x t) (run_is earlier)
       ∙ sym (foldl-append (turned lent.styles) (opened o candidates lent) turns (t ∷ []))
 
-  run_opened : {turns : List Turn} {has : Outcome} → Run o candidates lent turns has → is_refused (opened o candidates lent).step.answer ≡ false
-  run_opened (Run.opening c n) = subst (λ (x : Outcome). is_refused x.step.answer ≡ false) c n
+  run_opened : {turns : List Turn} {has : Outcome} → Run o candidates lent turns has → is_err (opened o candidates lent).step.answer ≡ false
+  run_opened (Run.opening c n) = subst (λ (x : Outcome). is_err x.step.answer ≡ false) c n
   run_opened (Run.reply t earlier c n) = run_opened earlier
 
   run_lends : {turns : List Turn} {has : Outcome} → Run o candidates lent turns has → AllLend lent.styles (opened o candidates lent) turns
@@ -219,7 +216,7 @@ quarters_have_edges o candidates lent turns has area table quarter calls heard =
 pub quarters_are_answered : QuartersAreAnswered
 quarters_are_answered o candidates lent turns has area table quarter calls heard =
     subst
-    (λ (x : Outcome). x.step.state.progress ≡ Finished → (place : ℕ) → place < x.step.state.counts.filled.working → IsOk (told_of place lent.styles x))
+    (λ (x : Outcome). x.step.state.progress ≡ None → (place : ℕ) → place < x.step.state.counts.filled.working → IsOk (told_of place lent.styles x))
     (sym (run_is o candidates lent calls))
     (λ finished place filled. all_answered o candidates lent turns place area table quarter (run_opened o candidates lent calls) (run_lends o candidates lent calls) heard finished filled)
 
@@ -235,7 +232,7 @@ finished_is_drawn o candidates lent turns has before calls =
     let boxes = claimed (claims_of o) (all_came candidates (heeded_in o candidates lent turns)) in
     subst
     (λ (x : Outcome).
-    x.step.state.progress ≡ Finished → length before ≡ x.step.state.counts.filled.working
+    x.step.state.progress ≡ None → length before ≡ x.step.state.counts.filled.working
     → drawn_of before lent.styles x ≡ record { verdict = accepted; order = drawing_order (layers_of boxes) })
     (sym (run_is o candidates lent calls))
     (run-is-drawn o candidates lent turns before (run_opened o candidates lent calls) (run_lends o candidates lent calls))
@@ -259,7 +256,7 @@ size_law : (s : State) (reply : Reply) (surfaced : List ℕ) (lent : Lent) → S
 size_law s reply surfaced lent overflow k a = go (reply_way s reply surfaced lent)
   where
     go : ReplyWay s reply surfaced lent → SizedLayout s lent (replied s reply surfaced lent).layouts
-    go (ReplyWay.turned_down r f) = no (ap (λ (x : Outcome). is_refused x.step.answer) f) a
+    go (ReplyWay.turned_down r f) = no (ap (λ (x : Outcome). is_err x.step.answer) f) a
     go (measures replies v t f) = never_kept s overflow (ap (taken_by s) (sym k) ∙ t)
     go (lays_out laid v t f) = subst (λ (x : Outcome). SizedLayout s lent x.layouts) (sym f) (sized s laid surfaced lent)
 
@@ -281,19 +278,19 @@ since styles RefusedSince.none = refl
 since styles {asked} (RefusedSince.more {before = before} {has = has} t earlier c r) =
     let e = takes styles before t.heard t.loan has c in
     let a = (turned styles before t).step.answer in
-    e ∙ turn_refused styles before t (subst (λ (x : Outcome). is_refused x.step.answer ≡ true) e r) ∙ ap (saying a) (since styles earlier)
+    e ∙ turn_refused styles before t (subst (λ (x : Outcome). is_err x.step.answer ≡ true) e r) ∙ ap (saying a) (since styles earlier)
     ∙ ap (λ (x : Outcome). saying x.step.answer asked) (sym e)
 
 pub laid_out_as_asked : LaidOutAsAsked
 laid_out_as_asked o candidates lent turns asked before has run input told refused overflow surfaced c n =
     let s = equals_straight_run o candidates lent turns asked run in
-    let q = s.pending ∙ sym (s.answer (ap is_refused told)) ∙ told in
+    let q = s.pending ∙ sym (s.answer (ap is_err told)) ∙ told in
     let same = since lent.styles refused in
     let e = takes lent.styles before (record { reply = LaidOut overflow; surfaced = surfaced }) own has c in
     subst (λ (x : Outcome). WroteSize input asked.layouts x.layouts) (sym e)
     (subst (λ (ws : List ℕ). WroteSize input ws (next lent.styles before (record { reply = LaidOut overflow; surfaced = surfaced })).layouts) (ap (λ (x : Outcome). x.layouts) same)
     (lays_out_lem lent.styles before input overflow surfaced (ap (open_in lent.styles) same ∙ q)
-    (subst (λ (x : Outcome). is_refused x.step.answer ≡ false) e n)))
+    (subst (λ (x : Outcome). is_err x.step.answer ≡ false) e n)))
 
 -- ---- the mirror image
 

@@ -5,7 +5,7 @@
 -- What document 01 leaves free is fixed by the definition all the same: what is asked and written where words were rewritten between calls or
 -- a state was forged (oof_box/specs/Cut.antt), and the numbers of a refused opening's state, which are zeros.
 -- Assumes nothing.
-use Rattle.std.specs.Prelude.{ℕ, ◌*◌, ◌≤◌, ◌<◌, ◌↔◌, ◌≡◌, Bool, false, List, [], ◌∷◌, length, take, Result, Err, All, IsOk, Option, Float, ℤ}
+use Rattle.std.specs.Prelude.{ℕ, ◌*◌, ◌≤◌, ◌<◌, ◌↔◌, ◌≡◌, Bool, false, List, [], ◌∷◌, length, take, Result, Err, All, IsOk, Option, None, Ok, is_err, ⊤, Float, ℤ}
 use Rattle.reach.specs.declared.Offsets.{Offsets}
 use Rattle.util.specs.Laws.{AtOrAbove}
 use Rattle.geometry.specs.Geometry.{sums, rect_sum}
@@ -18,7 +18,6 @@ use Rattle.refusal.specs.Refusal.{number_of}
 use Rattle.style.specs.declared.alignment.AlignItems.{AlignItems}
 use Rattle.style_record.specs.Check.{bad_at, checked}
 use Rattle.style_record.specs.declared.check.BadWord.{BadWord}
-use Rattle.std.specs.Prelude.{Result, Ok, ⊤}
 use Rattle.tree.specs.Static.{from_alignment}
 use Rattle.tree.specs.declared.layout.AxisStaticPosition.{AxisStaticPosition}
 use Rattle.tree.specs.declared.layout.Layout.{Layout}
@@ -32,14 +31,13 @@ use Rattle.oof_box.specs.declared.question.Question.TheVariants.{LayOut}
 use Rattle.oof_box.specs.declared.question.Reply.{Reply}
 use Rattle.oof_box.specs.declared.question.Reply.TheVariants.{LaidOut}
 use Rattle.run.specs.declared.Opening.{Opening}
-use Rattle.run.specs.declared.Progress.TheVariants.{Finished}
 use Rattle.run.specs.declared.State.{State}
-use Rattle.run.specs.declared.Answer.TheVariants.{Ask, Refused}
+use Rattle.run.specs.declared.Answer.TheVariants.{Ask}
 use Rattle.run.specs.Call.{Lent, Outcome, unwritten}
 use Rattle.run.specs.Refusals as verdict
 use Rattle.run.specs.Run.{closed, box_at_hand, extents_of, claims_of}
 use Rattle.run.specs.Conditions.{StyleIsBad, FirstNotAllowed, AllAllowed, FirstIs, NoneHolds, SideIsUnresolved, opening_tests, reply_tests}
-use Rattle.run.specs.Theorems.{Names, is_refused, own, StageTellsKind, WroteSize, Turn, Stands, heeded_in, course_of, laid_so_far}
+use Rattle.run.specs.Theorems.{Names, own, StageTellsKind, WroteSize, Turn, Stands, heeded_in, course_of, laid_so_far}
 use Rattle.mirror_run.specs.Image.{image_styles}
 use Rattle.mirror_run.specs.Quarter.{AreaInQuarters, QuarterArea, QuarterTable, QuarterCandidates}
 use Rattle.mirror_run.specs.Runs.{Message, MirroredRuns, unclaimed_at_opening, layout_of_box}
@@ -68,9 +66,9 @@ use Rattle.demands.specs.Entries.{Opens, RepliesTo, AnyCalls, Takes, Run, Refuse
 pub record OpeningDemands (o : Opening) (candidates : List ℕ) (lent : Lent) (has : Outcome) : Type 0 where
   -- what the theorems over runs suppose of a call
   pub call : Opens o candidates lent has
-  pub refused : (r : Refusal) → (has.step.answer ≡ Refused r) ↔ FirstIs (opening_tests o candidates lent) (number_of r)
-  pub accepted : (is_refused has.step.answer ≡ false) ↔ NoneHolds (opening_tests o candidates lent)
-  pub kept : (r : Refusal) → has.step.answer ≡ Refused r → has ≡ unwritten lent (record { state = closed lent; answer = Refused r })
+  pub refused : (r : Refusal) → (has.step.answer ≡ Err r) ↔ FirstIs (opening_tests o candidates lent) (number_of r)
+  pub accepted : (is_err has.step.answer ≡ false) ↔ NoneHolds (opening_tests o candidates lent)
+  pub kept : (r : Refusal) → has.step.answer ≡ Err r → has ≡ unwritten lent (record { state = closed lent; answer = Err r })
 
 -- Of demand 2, the law of the final size: the words that an accepted lay-out reply writes, from any state, forged ones too, are those of a
 -- layout whose size is no NaN and at least padding plus border, on each axis where that sum isn't NaN
@@ -81,14 +79,14 @@ pub record SizedLayout (s : State) (lent : Lent) (layouts : List ℕ) : Type 0 w
   pub height : AtOrAbove (sums (rect_sum layout.padding layout.border)).height layout.size.height
 
 abbrev pub SizeLaw : State → Reply → Lent → Outcome → Type 0
-SizeLaw s reply lent has = (overflow : Rect Float) → reply ≡ LaidOut overflow → is_refused has.step.answer ≡ false → SizedLayout s lent has.layouts
+SizeLaw s reply lent has = (overflow : Rect Float) → reply ≡ LaidOut overflow → is_err has.step.answer ≡ false → SizedLayout s lent has.layouts
 
 -- a reply, whatever the state that is given with it
 pub record ReplyDemands (s : State) (reply : Reply) (surfaced : List ℕ) (lent : Lent) (has : Outcome) : Type 0 where
   pub call : RepliesTo s reply surfaced lent has
-  pub refused : (r : Refusal) → (has.step.answer ≡ Refused r) ↔ FirstIs (reply_tests s reply surfaced lent) (number_of r)
-  pub accepted : (is_refused has.step.answer ≡ false) ↔ NoneHolds (reply_tests s reply surfaced lent)
-  pub kept : (r : Refusal) → has.step.answer ≡ Refused r → has ≡ unwritten lent (record { state = s; answer = Refused r })
+  pub refused : (r : Refusal) → (has.step.answer ≡ Err r) ↔ FirstIs (reply_tests s reply surfaced lent) (number_of r)
+  pub accepted : (is_err has.step.answer ≡ false) ↔ NoneHolds (reply_tests s reply surfaced lent)
+  pub kept : (r : Refusal) → has.step.answer ≡ Err r → has ≡ unwritten lent (record { state = s; answer = Err r })
   pub size : SizeLaw s reply lent has
 
 -- `from_alignment`: 7
@@ -140,13 +138,13 @@ abbrev pub OpeningsGoByTheCheck : Type 0
 OpeningsGoByTheCheck =
     (o : Opening) (candidates : List ℕ) (lent : Lent) (has : Outcome) → Opens o candidates lent has
     → NoneHolds (take 2 (opening_tests o candidates lent))
-    → (has.step.answer ≡ Refused BadStyle) ↔ Names (checked lent.styles)
+    → (has.step.answer ≡ Err BadStyle) ↔ Names (checked lent.styles)
 
 abbrev pub RepliesGoByTheCheck : Type 0
 RepliesGoByTheCheck =
     (s : State) (reply : Reply) (surfaced : List ℕ) (lent : Lent) (has : Outcome) → RepliesTo s reply surfaced lent has
     → NoneHolds (take 2 (reply_tests s reply surfaced lent))
-    → (has.step.answer ≡ Refused BadStyle) ↔ Names (checked lent.styles)
+    → (has.step.answer ≡ Err BadStyle) ↔ Names (checked lent.styles)
 
 -- "A run asks at most three questions for each box hoisted", whatever words the host rewrites between calls: at most three for each box, none
 -- for one that isn't hoisted, and no others
@@ -173,10 +171,10 @@ abbrev pub LaidOutAsAsked : Type 0
 LaidOutAsAsked =
     (o : Opening) (candidates : List ℕ) (lent : Lent) (turns : List Turn) (asked before has : Outcome)
     → Run o candidates lent turns asked
-    → (input : LayoutInput) → asked.step.answer ≡ Ask (LayOut input)
+    → (input : LayoutInput) → asked.step.answer ≡ Ok (Ask (LayOut input))
     → RefusedSince lent.styles asked before
     → (overflow : Rect Float) (surfaced : List ℕ) → Takes lent.styles before (record { reply = LaidOut overflow; surfaced = surfaced }) own has
-    → is_refused has.step.answer ≡ false
+    → is_err has.step.answer ≡ false
     → WroteSize input asked.layouts has.layouts
 
 -- ---- Demand 3. "Take a left-to-right run and its mirror image .. Let the host give both any one list of replies, refused ones included, each
@@ -226,7 +224,7 @@ abbrev pub FinishedIsDrawn : Type 0
 FinishedIsDrawn =
     (o : Opening) (candidates : List ℕ) (lent : Lent) (turns : List Turn) (has : Outcome) (before : List ℕ)
     → Run o candidates lent turns has
-    → has.step.state.progress ≡ Finished → length before ≡ has.step.state.counts.filled.working
+    → has.step.state.progress ≡ None → length before ≡ has.step.state.counts.filled.working
     → let boxes = claimed (claims_of o) (all_came candidates (heeded_in o candidates lent turns)) in
     drawn_of before lent.styles has ≡ record { verdict = verdict.accepted; order = drawing_order (layers_of boxes) }
 
@@ -258,7 +256,7 @@ QuartersAreAnswered =
     → AreaInQuarters o.area → QuarterTable lent.styles → QuarterCandidates candidates
     → Run o candidates lent turns has
     → All (QuarterHeard (claims_of o)) (heeded_in o candidates lent turns)
-    → has.step.state.progress ≡ Finished
+    → has.step.state.progress ≡ None
     → (place : ℕ) → place < has.step.state.counts.filled.working → IsOk (told_of place lent.styles has)
 
 -- ---- What is demanded of runs, and the theorems beyond: the function `demanded` of src/lib.rt ensures these, so that a crate without a proof of each is not proved.

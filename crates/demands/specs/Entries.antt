@@ -1,13 +1,13 @@
 -- What a host does with the entries, and all that it knows of them: their contracts. `demands::open` and `demands::reply` (src/lib.rt) are
 -- the calls themselves and ensure `Opens` and `RepliesTo` of each, so that what is shown here of lists of such calls holds of the code.
 -- Assumes nothing.
-use Rattle.std.specs.Prelude.{ℕ, ◌+◌, ◌≡◌, true, false, List, [], ◌∷◌, ◌++◌}
+use Rattle.std.specs.Prelude.{ℕ, ◌+◌, ◌≡◌, true, false, List, [], ◌∷◌, ◌++◌, is_err}
 use Rattle.oof_box.specs.declared.question.Reply.{Reply}
 use Rattle.run.specs.declared.Opening.{Opening}
 use Rattle.run.specs.declared.State.{State}
 use Rattle.run.specs.Call.{Lent, Outcome, lent, outcome}
 use Rattle.run.specs.Run.{opened, replied}
-use Rattle.run.specs.Theorems.{is_refused, one_if_asked, asked_for, Heard, Loan, own, other, Turn, Lends}
+use Rattle.run.specs.Theorems.{one_if_asked, asked_for, Heard, Loan, own, other, Turn, Lends}
 use Rattle.mirror_run.specs.Image.{image_opening, image_candidates}
 use Rattle.mirror_run.specs.Runs.{Message, Fair}
 
@@ -52,7 +52,7 @@ pub data Takes (styles : List ℕ) (before : Outcome) (h : Heard) : Loan → Out
 
 -- an opening that isn't refused, then replies, each given the state that the last call returned. One that lends other slices is refused
 pub data Run (o : Opening) (candidates : List ℕ) (lent : Lent) : List Turn → Outcome → Type 0 where
-  opening : {has : Outcome} → Opens o candidates lent has → is_refused has.step.answer ≡ false → Run o candidates lent [] has
+  opening : {has : Outcome} → Opens o candidates lent has → is_err has.step.answer ≡ false → Run o candidates lent [] has
   reply :
       {turns : List Turn} {before has : Outcome} (t : Turn)
       → Run o candidates lent turns before
@@ -67,7 +67,7 @@ pub data RefusedSince (styles : List ℕ) (asked : Outcome) : Outcome → Type 0
       {before has : Outcome} (t : Turn)
       → RefusedSince styles asked before
       → Takes styles before t.heard t.loan has
-      → is_refused has.step.answer ≡ true
+      → is_err has.step.answer ≡ true
       → RefusedSince styles asked has
 
 -- ---- A run and its mirror image, side by side: each message is one reply, given to both. What is asked of it is `Fair`

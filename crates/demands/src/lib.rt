@@ -1,5 +1,5 @@
-// The demands that speak of one call, stated of the entries themselves: each function here is a call of an entry and nothing
-// else, and ensures what is demanded of it. Those that speak of runs are theorems (specs/Demands.antt); they suppose of each
+// The demands that speak of one call, stated of the entries themselves: each function here but the last is a call of an entry
+// and nothing else, and ensures what is demanded of it. Those that speak of runs are theorems (specs/Demands.antt); they suppose of each
 // call what is ensured here.
 #![tactic(auto)]
 
@@ -13,11 +13,12 @@ use geometry::{Line, Point, Rect, Size};
 use oof_box::question::Reply;
 use reach::Offsets;
 use refusal::Refusal;
-use run::{Opening, State, Step};
+use run::{Lent, Opening, State, Step};
 use style::alignment::AlignItems;
 use style_record::check::BadWord;
 use tree::layout::{AxisStaticPosition, Layout};
 
+// Each function, here and below, takes what the entry takes, since the demand is stated of that call.
 pub fn open(
     o: Opening,
     styles: &[u32],
@@ -45,6 +46,7 @@ pub fn reply(
     placer::reply(s, reply, surfaced, styles, layouts, working, unclaimed)
 }
 
+#[tactic(auto, using(crate::proofs::Demands::alignment_demands))]
 pub fn from_alignment(
     alignment: AlignItems,
     area: Line<f32>,
@@ -55,39 +57,29 @@ pub fn from_alignment(
     AxisStaticPosition::from_alignment(alignment, area, rtl)
 }
 
+#[tactic(auto, using(crate::proofs::Demands::pixels_demands))]
 pub fn pixel_edges(layout: Layout, offset: Point<f32>) -> Result<Rect<i32>, Refusal>
     ensures { PixelsDemands layout offset result }
 {
     pixels::pixel_edges(layout, offset)
 }
 
-pub fn reach(
-    place: usize,
-    s: State,
-    styles: &[u32],
-    layouts: &[u32],
-    working: &[u32],
-    unclaimed: &[u32],
-) -> Result<Option<Offsets>, Refusal>
-    ensures { ReachDemands place s (lent styles.now layouts.now working.now unclaimed.now) result }
+#[tactic(auto, using(crate::proofs::Demands::reach_demands))]
+pub fn reach(place: usize, s: State, lent: &Lent) -> Result<Option<Offsets>, Refusal>
+    ensures { ReachDemands place s lent.now result }
 {
-    reach::reach(place, s, styles, layouts, working, unclaimed)
+    reach::reach(place, s, lent)
 }
 
-pub fn drawing_order(
-    s: State,
-    styles: &[u32],
-    layouts: &[u32],
-    working: &[u32],
-    unclaimed: &[u32],
-    order: &mut [u32],
-) -> Result<(), Refusal>
-    ensures { DrawingDemands s (lent styles.now layouts.now working.now unclaimed.now) order.old (record { verdict = result; order = order.new }) }
+#[tactic(auto, using(crate::proofs::Demands::drawing_demands))]
+pub fn drawing_order(s: State, lent: &Lent, order: &mut [u32]) -> Result<(), Refusal>
+    ensures { DrawingDemands s lent.now order.old (record { verdict = result; order = order.new }) }
 {
-    drawing::drawing_order(s, styles, layouts, working, unclaimed, order)
+    drawing::drawing_order(s, lent, order)
 }
 
 // These two refuse nothing.
+#[tactic(auto, using(crate::proofs::Demands::check_demands))]
 pub fn check_styles(styles: &[u32]) -> Result<(), BadWord>
     ensures { CheckDemands styles.now result }
 {

@@ -10,6 +10,7 @@ use lib.IntN.{ℤ}
 use lib.ListN.{length}
 use borrow.Author.Tests.{ne_eqb, eq-eqb}
 use Rattle.reach.specs.declared.Offsets.{Offsets}
+use Rattle.std.specs.Prelude.{Result, is_err, Some, None, Ok, Err, IsOk, Option, ⊤, Float}
 use Rattle.util.proofs.Floats.{no}
 use Rattle.geometry.specs.declared.Point.{Point}
 use Rattle.refusal.specs.Refusal.{number_of}
@@ -17,7 +18,6 @@ use Rattle.refusal.specs.declared.Refusal.{Refusal}
 use Rattle.style_record.specs.Check.{checked}
 use Rattle.style_record.specs.declared.check.BadWord.{BadWord}
 use Rattle.tree_record.specs.Layout.{layout_of}
-use Rattle.std.specs.Prelude.{Result, Some, None, Ok, Err, IsOk, Option, ⊤, Float}
 use Rattle.pixels.specs.Conditions.{pixel_tests}
 use Rattle.pixels.specs.Pixels.{pixel_edges}
 use Rattle.geometry.specs.declared.Rect.{Rect}
@@ -28,10 +28,10 @@ use Rattle.run.specs.Call.{Lent, Outcome, outcome}
 use Rattle.run.specs.Conditions.{item_words, FirstIs, NoneHolds, opening_tests, reply_tests}
 use Rattle.run.specs.Run.{closed, begun, opened, replied}
 use Rattle.run.specs.Straight.{Course, ended, asks}
-use Rattle.run.specs.Theorems.{is_refused, one_if_asked, Heard, Loan, own, other, Turn, turned, next, next_with, AllLend, Stands, said_after, open_in, called, heeded_in, course_of, laid_count}
+use Rattle.run.specs.Theorems.{one_if_asked, Heard, Loan, own, other, Turn, turned, next, next_with, AllLend, Stands, said_after, open_in, called, heeded_in, course_of, laid_count}
 use Rattle.run.specs.Theorems as run
 use Rattle.run.specs.declared.Answer.{Answer}
-use Rattle.run.specs.declared.Answer.TheVariants.{Ask, Finish, Refused}
+use Rattle.run.specs.declared.Answer.TheVariants.{Ask, Finish}
 use Rattle.run.specs.declared.Opening.{Opening}
 use Rattle.run.specs.declared.State.{State}
 use Rattle.run.specs.declared.Step.{Step}
@@ -96,11 +96,11 @@ zeroed {tests} (first_holds r f) = (λ e. absurd (refused_is_not r e), λ g. abs
 
 -- of a run's answer, and of pixel edges
 module _ (tests : List (ℕ × Type 0)) where
-  answer_by : (a : Answer) → ((r : Refusal) → (a ≡ Refused r) ↔ FirstIs tests (number_of r)) → (is_refused a ≡ false) ↔ NoneHolds tests → ResultBy tests (result_of a)
+  answer_by : (a : Result Answer Refusal) → ((r : Refusal) → (a ≡ Err r) ↔ FirstIs tests (number_of r)) → (is_err a ≡ false) ↔ NoneHolds tests → ResultBy tests (result_of a)
   unfolding result_of
-  answer_by (Ask q) f g = none_holds (g.0 refl)
-  answer_by (Finish x) f g = none_holds (g.0 refl)
-  answer_by (Refused r) f g = first_holds r ((f r).0 refl)
+  answer_by (Ok (Ask q)) f g = none_holds (g.0 refl)
+  answer_by (Ok (Finish x)) f g = none_holds (g.0 refl)
+  answer_by (Err r) f g = first_holds r ((f r).0 refl)
 
   edges_by : (p : Result (Rect ℤ) Refusal) (before : List ℤ) → ((r : Refusal) → (p ≡ Err r) ↔ FirstIs tests (number_of r)) → IsOk p ↔ NoneHolds tests
       → ResultBy tests (edges_told p before).result
@@ -302,12 +302,12 @@ never true = refl
 never false = refl
 
 -- what the words say of a call is what its step says
-asked_same : (i begun : ℕ) (a : Answer) (shown : List ℕ)
+asked_same : (i begun : ℕ) (a : Result Answer Refusal) (shown : List ℕ)
     → cond (eqb (result_of a) 0 && not (eqb (at (answer_left a shown) 0) 0) && eqb begun (i + 1)) 1 0 ≡ cond (eqb begun (i + 1)) (one_if_asked a) 0
 unfolding result_of answer_left finish_words
-asked_same i begun (Ask q) shown = rw (no_finish q) refl
-asked_same i begun (Finish f) shown = never (eqb begun (i + 1))
-asked_same i begun (Refused r) shown = rw (not_zero r) (never (eqb begun (i + 1)))
+asked_same i begun (Ok (Ask q)) shown = rw (no_finish q) refl
+asked_same i begun (Ok (Finish f)) shown = never (eqb begun (i + 1))
+asked_same i begun (Err r) shown = rw (not_zero r) (never (eqb begun (i + 1)))
 
 abbrev ForBoxIn : ℕ → ℕ → State → Type 0
 ForBoxIn i n s = ForBox i n s × Hoisted s
@@ -377,17 +377,17 @@ record Has (styles : List ℕ) (has : Returned) (x : Outcome) : Type 0 where
   state : state_of has.words.state ≡ x.step.state
   result : has.result ≡ result_of x.step.answer
 
-refused_of : (a : Answer) → result_of a ≢ 0 → is_refused a ≡ true
+refused_of : (a : Result Answer Refusal) → result_of a ≢ 0 → is_err a ≡ true
 unfolding result_of
-refused_of (Ask q) h = absurd (h refl)
-refused_of (Finish f) h = absurd (h refl)
-refused_of (Refused r) h = refl
+refused_of (Ok (Ask q)) h = absurd (h refl)
+refused_of (Ok (Finish f)) h = absurd (h refl)
+refused_of (Err r) h = refl
 
-accepted_of : (a : Answer) → result_of a ≡ 0 → is_refused a ≡ false
+accepted_of : (a : Result Answer Refusal) → result_of a ≡ 0 → is_err a ≡ false
 unfolding result_of
-accepted_of (Ask q) h = refl
-accepted_of (Finish f) h = refl
-accepted_of (Refused r) h = absurd (refused_is_not r h)
+accepted_of (Ok (Ask q)) h = refl
+accepted_of (Ok (Finish f)) h = refl
+accepted_of (Err r) h = absurd (refused_is_not r h)
 
 -- a reply, whatever was lent with it: the run goes one turn on, and the answer's words tell its step's
 record Went (styles : List ℕ) (last has : Returned) (x : Outcome) : Type 0 where
@@ -425,7 +425,7 @@ went styles {last = last} {x = x} h (other slices) f k (Takes.lent_other c) =
       answer = ap (λ (y : Returned). y.words.answer) c ∙ ap (λ (y : Outcome). answer_left y.step.answer last.words.answer) e;
     }
 
-lends : (loan : Loan) {result : ℕ} (a : Answer) → result ≡ result_of a → Lends loan result → run.Lends loan a
+lends : (loan : Loan) {result : ℕ} (a : Result Answer Refusal) → result ≡ result_of a → Lends loan result → run.Lends loan a
 lends own a e h = tt
 lends (other slices) a e h = refused_of a (λ z. h (e ∙ z))
 
@@ -441,11 +441,11 @@ unfolding answer_left
 said_shown answered (ended w) shown = refl
 said_shown answered (asks w q next) shown = refl
 
-refused_shown : (a : Answer) (shown : List ℕ) → is_refused a ≡ true → answer_left a shown ≡ shown
+refused_shown : (a : Result Answer Refusal) (shown : List ℕ) → is_err a ≡ true → answer_left a shown ≡ shown
 unfolding answer_left
-refused_shown (Ask q) shown e = no {b = false} e refl
-refused_shown (Finish f) shown e = no {b = false} e refl
-refused_shown (Refused r) shown e = refl
+refused_shown (Ok (Ask q)) shown e = no {b = false} e refl
+refused_shown (Ok (Finish f)) shown e = no {b = false} e refl
+refused_shown (Err r) shown e = refl
 
 module _ (o : Opening) (candidates styles : List ℕ) (before : Words) where
   abbrev l : Lent
@@ -454,14 +454,14 @@ module _ (o : Opening) (candidates styles : List ℕ) (before : Words) where
   abbrev after : List Turn → Outcome
   after turns = called o candidates l turns
 
-  abbrev said : List Turn → Answer
+  abbrev said : List Turn → Result Answer Refusal
   said turns = said_after (length (heeded_in o candidates l turns)) (course_of o candidates l turns)
 
   abbrev StandsAt : List Turn → Outcome → Type 0
   StandsAt turns x = Stands l (length (heeded_in o candidates l turns)) x (course_of o candidates l turns)
 
   record Ran (turns : List Turn) (has : Returned) : Type 0 where
-    accepted : is_refused (opened o candidates l).step.answer ≡ false
+    accepted : is_err (opened o candidates l).step.answer ≡ false
     lent : AllLend styles (opened o candidates l) turns
     now : Has styles has (after turns)
     answer : has.words.answer ≡ answer_left (said turns) []
@@ -487,7 +487,7 @@ module _ (o : Opening) (candidates styles : List ℕ) (before : Words) where
               state = ap (λ (y : Returned). state_of y.words.state) c ∙ kept;
               result = ap (λ (y : Returned). y.result) c;
             };
-        answer = ap (λ (y : Returned). y.words.answer) c ∙ ap (λ (a : Answer). answer_left a before.answer) (s.answer accepted) ∙ said_shown _ (course_of o candidates l []) before.answer;
+        answer = ap (λ (y : Returned). y.words.answer) c ∙ ap (λ (a : Result Answer Refusal). answer_left a before.answer) (s.answer accepted) ∙ said_shown _ (course_of o candidates l []) before.answer;
       }
 
   more : (turns : List Turn) (t : Turn) {last has : Returned} → FitsReply t.heard.reply → Ran turns last
@@ -499,7 +499,7 @@ module _ (o : Opening) (candidates styles : List ℕ) (before : Words) where
         accepted = r.accepted;
         lent = lent;
         now = subst (Has styles has) (sym on) w.now;
-        answer = w.answer ∙ shows (is_refused x.step.answer) refl;
+        answer = w.answer ∙ shows (is_err x.step.answer) refl;
       }
     where
       x : Outcome
@@ -520,13 +520,13 @@ module _ (o : Opening) (candidates styles : List ℕ) (before : Words) where
       s : StandsAt later (after later)
       s = straight_run o candidates l later r.accepted lent
 
-      shows : (b : Bool) → is_refused x.step.answer ≡ b → answer_left x.step.answer last.words.answer ≡ answer_left (said later) []
+      shows : (b : Bool) → is_err x.step.answer ≡ b → answer_left x.step.answer last.words.answer ≡ answer_left (said later) []
       shows false n =
-          ap (λ (a : Answer). answer_left a last.words.answer) (sym (ap (λ (y : Outcome). y.step.answer) on) ∙ s.answer (ap (λ (y : Outcome). is_refused y.step.answer) on ∙ n))
+          ap (λ (a : Result Answer Refusal). answer_left a last.words.answer) (sym (ap (λ (y : Outcome). y.step.answer) on) ∙ s.answer (ap (λ (y : Outcome). is_err y.step.answer) on ∙ n))
           ∙ said_shown _ (course_of o candidates l later) last.words.answer
       shows true n =
           refused_shown x.step.answer last.words.answer n ∙ r.answer
-          ∙ ap (λ (a : Answer). answer_left a [])
+          ∙ ap (λ (a : Result Answer Refusal). answer_left a [])
           (sym (stands turns r).pending ∙ sym (ap (open_in styles) (turn_refused styles (after turns) t n)) ∙ sym (ap (open_in styles) on) ∙ s.pending)
 
   ran : {turns : List Turn} {has : Returned} → Run o candidates styles before turns has → Ran turns has

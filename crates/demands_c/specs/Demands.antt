@@ -17,7 +17,6 @@ use Rattle.run.specs.Run.{closed, claims_of}
 use Rattle.run.specs.Straight.{Course}
 use Rattle.run.specs.Theorems.{Turn, Stands, said_after, heeded_in, course_of, laid_count}
 use Rattle.run.specs.declared.Opening.{Opening}
-use Rattle.run.specs.declared.Progress.TheVariants.{Finished}
 use Rattle.mirror_run.specs.Quarter.{AreaInQuarters, QuarterTable, QuarterCandidates}
 use Rattle.pixels_laws.specs.Laws.{QuarterHeard}
 use Rattle.oof_c_words.specs.StateWords.{at, state_of, state_words}
@@ -147,7 +146,7 @@ QuartersAreAnswered =
     → Run o candidates styles before turns has
     → All (QuarterHeard (claims_of o)) (heeded_in o candidates (lent_in styles before) turns)
     → let state = state_of has.words.state in
-    state.progress ≡ Finished
+    state.progress ≡ None
     → (place : ℕ) → place < state.counts.filled.working
     → (verdict : List ℕ) → (reach_in_words place (lent_in styles has.words) has.words.state verdict).result ≡ 0
 

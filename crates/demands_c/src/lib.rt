@@ -13,6 +13,7 @@ ghost use Rattle.demands_c.specs.Demands.{OpeningDemands, ReplyDemands, PixelsDe
 
 use oof_box::question::Reply;
 
+// Each function, here and below, takes what the entry takes, since the demand is stated of that call.
 pub fn open(
     width: f32,
     height: f32,
@@ -103,12 +104,14 @@ pub fn reply_laid_out(
     )
 }
 
+#[tactic(auto, using(crate::proofs::Demands::pixels_demands))]
 pub fn pixels(layout: &[u32; 23], x: f32, y: f32, edges: &mut [i32; 4]) -> u32
     ensures { PixelsDemands layout.now (record { x = x; y = y }) edges.old (pixels_returned result edges.new) }
 {
     oof_c::oof_pixels(layout, x, y, edges)
 }
 
+#[tactic(auto, using(crate::proofs::Demands::reach_demands))]
 pub fn reach(
     place: usize,
     styles: &[u32],
@@ -123,6 +126,7 @@ pub fn reach(
     oof_c::oof_reach(place, styles, layouts, working, unclaimed, state, verdict)
 }
 
+#[tactic(auto, using(crate::proofs::Demands::drawing_demands))]
 pub fn drawing_order(
     styles: &[u32],
     layouts: &[u32],
@@ -136,6 +140,7 @@ pub fn drawing_order(
     oof_c::oof_drawing_order(styles, layouts, working, unclaimed, state, order)
 }
 
+#[tactic(auto, using(crate::proofs::Demands::bad_word_demands))]
 pub fn first_bad_word(styles: &[u32], found: &mut [u32; 2]) -> u32
     ensures { BadWordDemands styles.now found.old (check_returned result found.new) }
 {

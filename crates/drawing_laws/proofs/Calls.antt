@@ -1,12 +1,11 @@
 -- Two calls whose records differ in layers only leave the same but for layers. Assumes nothing.
-use Rattle.std.specs.Prelude.{Option, None, Some, Float}
+use Rattle.std.specs.Prelude.{Option, None, Some, Ok, Err, Float}
 use Prim.Native.Nat.{ℕ, ◌+◌, ◌-◌, ◌*◌, ◌/◌}
 use mathlib.Core.Path.{◌≡◌, refl, sym, ap, ◌∙◌, subst, subst₂}
 use mathlib.Core.Bool.{Bool, true, false, cond}
 use mathlib.Core.List.{List, map}
 use lib.Dec.{ltb}
 use lib.ListN.{length}
-use Rattle.std.specs.Prelude.{Some, Ok, Err}
 use Rattle.geometry.specs.Geometry.{union_of}
 use Rattle.geometry.specs.declared.Rect.{Rect}
 use Rattle.refusal.specs.declared.Refusal.{Refusal}
@@ -30,7 +29,6 @@ use Rattle.run.specs.declared.Answer.TheVariants.{Ask}
 use Rattle.run.specs.declared.Counts.{Counts}
 use Rattle.run.specs.declared.Opened.{Opened}
 use Rattle.run.specs.declared.Opening.{Opening}
-use Rattle.run.specs.declared.Progress.TheVariants.{Asking}
 use Rattle.run.specs.declared.State.{State}
 use Rattle.run.specs.declared.Step.{Step}
 use Rattle.run.specs.Call.{Lent, Outcome, lent}
@@ -52,8 +50,8 @@ module _ (styles : List ℕ) (run : Opened) (overflow : Rect Float) where
   asking_of counts replies box =
       let next = asked_after run.container (style_at styles box.node) box replies in
       record {
-        state = record { progress = Asking next.stage; replies = replies; counts = counts; overflow = overflow; opened = run };
-        answer = Ask next.question;
+        state = record { progress = Some next.stage; replies = replies; counts = counts; overflow = overflow; opened = run };
+        answer = Ok (Ask next.question);
       }
 
   asking_same : (w w' : List ℕ) (counts : Counts) (replies : Replies) → SameButLayers w w' → asking styles w run counts overflow replies ≡ asking styles w' run counts overflow replies
@@ -63,7 +61,7 @@ module _ (styles : List ℕ) (run : Opened) (overflow : Rect Float) where
       let box' = candidate_of (record_at candidate_width w' (counts.begun - 1)) in
       ap
       (λ (next : Asked).
-      record { state = record { progress = Asking next.stage; replies = replies; counts = counts; overflow = overflow; opened = run }; answer = Ask next.question })
+      record { state = record { progress = Some next.stage; replies = replies; counts = counts; overflow = overflow; opened = run }; answer = Ok (Ask next.question) })
       (sym (cut_reads_no_layer run.container (style_at styles box.node) box box'.layer replies).0)
       ∙ ap (asking_of counts replies) (record_alike w w' same (counts.begun - 1))
 

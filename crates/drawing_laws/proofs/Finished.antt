@@ -7,7 +7,7 @@ use mathlib.Core.List.{List, [], ◌∷◌, ◌++◌, map, foldl}
 use lib.Dec.{eqb}
 use lib.ListN.{length, length-append}
 use borrow.Author.Tests.{not-false, eq-eqb}
-use Rattle.std.specs.Prelude.{Option, Float}
+use Rattle.std.specs.Prelude.{Option, is_err, Float}
 use Rattle.util.proofs.Floats.{no}
 use Rattle.geometry.specs.declared.Point.{Point}
 use Rattle.geometry.specs.declared.Rect.{Rect}
@@ -25,9 +25,10 @@ use Rattle.run.specs.declared.State.{State}
 use Rattle.run.specs.Call.{Lent, Outcome}
 use Rattle.run.specs.Refusals.{accepted, lent_by, bad_candidate, bad_candidates}
 use Rattle.run.specs.Run.{claims_of, asking, opening_verdict, begun, opened, reply_verdict, measured_on, laid_out, replied}
-use Rattle.run.specs.Theorems.{is_refused, Heard, Loan, own, other, Turn, next, next_with, turned, Lends, AllLend, called}
+use Rattle.run.specs.Theorems.{Heard, Loan, own, other, Turn, next, next_with, turned, Lends, AllLend, called}
 use Rattle.run.proofs.Refusals.{refused_in, turn_refused}
-use Rattle.run.proofs.Ways.{OpeningWay, begins, opening_way, ReplyWay, measures, lays_out, reply_way, passed, neither}
+use Rattle.std.proofs.lemmas.Bool.{or_parts}
+use Rattle.run.proofs.Ways.{OpeningWay, begins, opening_way, ReplyWay, measures, lays_out, reply_way, passed}
 use Rattle.placer.proofs.Nodes.{both_below, moved_below, keep_below, good_below}
 use Rattle.mirror_run.proofs.Unread.{taken_all}
 use Rattle.mirror_run.proofs.Verdicts.{opening_passed, reply_passed}
@@ -48,7 +49,7 @@ unfolding reply_verdict bad_candidate
 reply_below s reply surfaced lent e =
     all_below (items lent.styles) (lent_by reply surfaced)
     (not-false _
-    (neither (bad_candidate lent.styles lent.working s.counts.filled.working) (bad_candidates lent.styles (lent_by reply surfaced))
+    (or_parts (bad_candidate lent.styles lent.working s.counts.filled.working) (bad_candidates lent.styles (lent_by reply surfaced))
     (passed _ _ _ (passed _ _ _ (passed _ _ _ (passed _ _ _ e).1).1).1).0).1)
 
 -- ---- the filled working records of a run: candidates whose words break no rule, written from the front of the list as it was lent
@@ -151,7 +152,7 @@ module _ (o : Opening) (candidates : List ℕ) (lent : Lent) where
         below = keep_below (items lent.styles) (claims_of o) true (candidates_in candidates) (all_below (items lent.styles) candidates p.candidate);
       }
 
-  opened_good : is_refused (opened o candidates lent).step.answer ≡ false → Good lent.styles lent.working (opened o candidates lent)
+  opened_good : is_err (opened o candidates lent).step.answer ≡ false → Good lent.styles lent.working (opened o candidates lent)
   opened_good accepts = go (opening_way o candidates lent)
     where
       go : OpeningWay o candidates lent → Good lent.styles lent.working (opened o candidates lent)

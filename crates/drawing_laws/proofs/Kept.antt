@@ -1,19 +1,17 @@
 -- A run keeps the layers of its candidates: through a call, and so over any list of them. Assumes nothing.
-use Rattle.std.specs.Prelude.{Some, Float}
+use borrow.Author.Rules.{rules}
+use Rattle.std.specs.Prelude.{Some, Option, None, Ok, is_err, Float}
 use Prim.Native.Nat.{ℕ}
 use mathlib.Core.Path.{◌≡◌, refl, sym, ap, ◌∙◌, subst}
 use mathlib.Core.Bool.{Bool, true, false, cond}
 use mathlib.Core.List.{List, [], ◌∷◌, ◌++◌, map, foldl, append-nil, append_assoc, map-append}
-use lib.ListN.{length}
 use borrow.Author.Tests.{not-false}
-use Rattle.std.specs.Prelude.{Option, None, Ok}
 use Rattle.util.proofs.Floats.{no}
 use Rattle.geometry.specs.declared.Point.{Point}
 use Rattle.geometry.specs.declared.Rect.{Rect}
 use Rattle.style.specs.declared.ContainingBlockClaims.{ContainingBlockClaims}
 use Rattle.tree.specs.declared.layout.OofCandidate.{OofCandidate}
-use Rattle.records.specs.Records.{records, room}
-use Rattle.tree_record.specs.Candidate.{candidate_width}
+use Rattle.records.specs.Records.{records}
 use Rattle.sweep.specs.Laws.{HasLayers}
 use Rattle.sweep.specs.Sweep.{first_candidates, candidates_in, layers_of, moved, keep, claimed, others, Lists, swept_into, Outcome as Swept, swept}
 use Rattle.sweep.specs.declared.Filled.{Filled}
@@ -31,10 +29,11 @@ use Rattle.run.specs.declared.Step.{Step}
 use Rattle.run.specs.Call.{Lent, Outcome}
 use Rattle.run.specs.Refusals.{accepted, list_full, lent_by}
 use Rattle.run.specs.Run.{asking, finishing, proceeding, claims_of, none_filled, opening_verdict, begun, opened, taken_by, reply_verdict, measured_on, laid_out, replied}
-use Rattle.run.specs.Theorems.{is_refused, Heard, Loan, own, other, Turn, next, next_with, turned, Lends, AllLend, heeded, claimed_so_far}
+use Rattle.run.specs.Theorems.{Heard, Loan, own, other, Turn, next, next_with, turned, Lends, AllLend, heeded, claimed_so_far}
 use Rattle.run.proofs.Refusals.{refused_in, saying, turn_refused}
 use Rattle.run.proofs.Worlds.{unmoved}
-use Rattle.run.proofs.Ways.{NextWay, asks, ends, next_way, OpeningWay, begins, opening_way, ReplyWay, measures, lays_out, reply_way, passed, neither, never_kept}
+use Rattle.std.proofs.lemmas.Bool.{or_parts}
+use Rattle.run.proofs.Ways.{next_way, OpeningWay, begins, opening_way, ReplyWay, measures, lays_out, reply_way, passed, never_kept}
 use Rattle.mirror_run.specs.Runs.{unclaimed_so_far}
 use Rattle.mirror_run.proofs.Unread.{taken_all}
 use Rattle.drawing_laws.specs.Laws.{surfaced_by, KeepsLayers, LayersOfARun}
@@ -63,13 +62,7 @@ module _ (by : ContainingBlockClaims) (s : Option (Point Float)) (slice : List �
   settled : swept by cs lent.working lent.unclaimed f
       ≡ record { answer = Ok (swept_by by s slice lent f).filled; working = (swept_by by s slice lent f).working; unclaimed = (swept_by by s slice lent f).unclaimed }
   unfolding swept list_full
-  settled =
-      let b = neither _ _ full in
-      rw (
-        ap (λ (n : ℕ). room candidate_width (length lent.working) f.working n) (kept_moved by true s (candidates_in slice)) ∙ not-false _ b.0,
-        ap (λ (n : ℕ). room candidate_width (length lent.unclaimed) f.unclaimed n) (kept_moved by false s (candidates_in slice)) ∙ not-false _ b.1,
-      )
-      refl
+  settled = search (rules, kept_moved, or_parts, not-false)
 
   pub swept_layers : HasLayers (swept_by by s slice lent f).filled.working (swept_by by s slice lent f).working f.working lent.working (claimed by (candidates_in slice))
       × HasLayers (swept_by by s slice lent f).filled.unclaimed (swept_by by s slice lent f).unclaimed f.unclaimed lent.unclaimed (others by (candidates_in slice))
@@ -95,11 +88,7 @@ pub record Keeps (run : Opened) (counts : Counts) (step : Step) : Type 0 where
 
 pub proceeding_keeps : (styles working : List ℕ) (run : Opened) (counts : Counts) (overflow : Rect Float) → Keeps run counts (proceeding styles working run counts overflow)
 unfolding asking finishing
-proceeding_keeps styles working run counts overflow = go (next_way styles working run counts overflow)
-  where
-    go : NextWay styles working run counts overflow → Keeps run counts (proceeding styles working run counts overflow)
-    go (asks h e) = subst (Keeps run counts) (sym e) (record { filled = refl; opened = refl })
-    go (ends h e) = subst (Keeps run counts) (sym e) (record { filled = refl; opened = refl })
+proceeding_keeps styles working run counts overflow = search (rules, next_way)
 
 -- ---- what a run has, of the candidates that came
 
@@ -134,10 +123,7 @@ begun_has o candidates lent v =
 -- what came by then, and what comes
 more : (by : ContainingBlockClaims) (list : Bool) (came new : List OofCandidate) {ls : List ℕ} → ls ≡ layers_of (keep by list came)
     → ls ++ layers_of (keep by list new) ≡ layers_of (keep by list (came ++ new))
-more by list came new e =
-    ap (λ (l : List ℕ). l ++ layers_of (keep by list new)) e
-    ∙ sym (map-append (λ (c : OofCandidate). c.layer) (keep by list came) (keep by list new))
-    ∙ ap layers_of (sym (keep_append by list came new))
+more by list came new e = search (rules, keep_append, map-append)
 
 -- a measure reply brings none
 none_came : (s : State) (given : Reply) (surfaced : List ℕ) {replies : Replies} → taken_by s given ≡ Some (Kept replies) → candidates_in (lent_by given surfaced) ≡ []
@@ -156,7 +142,7 @@ module _ (by : ContainingBlockClaims) (styles : List ℕ) (x : Outcome) (came : 
 
   measured_has : (replies : Replies) → Has by (measured_on s replies lent) came
   unfolding measured_on asking
-  measured_has replies = record { claims = has.claims; layers = record { working = has.layers.working; unclaimed = has.layers.unclaimed } }
+  measured_has replies = search rules
 
   -- after a sweep, whatever the step
   swept_has : (shift : Option (Point Float)) (surfaced layouts : List ℕ) (counts : Counts) (step : Step) → list_full s.opened.claims lent s.counts.filled surfaced ≡ false
@@ -206,17 +192,16 @@ module _ (by : ContainingBlockClaims) (styles : List ℕ) (x : Outcome) (came : 
 
 -- an answer says nothing of the records
 said : {by : ContainingBlockClaims} {x y : Outcome} {came : List OofCandidate} → y ≡ saying y.step.answer x → Has by x came → Has by y came
-said {by} {x} {y} {came} e has =
-    subst (λ (z : Outcome). Has by z came) (sym e) (record { claims = has.claims; layers = record { working = has.layers.working; unclaimed = has.layers.unclaimed } })
+said {by} {x} {y} {came} e has = search rules
 
 turns_have : (by : ContainingBlockClaims) (styles : List ℕ) (x : Outcome) (came : List OofCandidate) (ts : List Turn) → AllLend styles x ts → Has by x came
     → Has by (foldl (turned styles) x ts) (came ++ surfaced_by (heeded styles x ts))
 unfolding heeded
 turns_have by styles x came [] lends has = subst (Has by x) (sym (append-nil came)) has
 turns_have by styles x came (t ∷ ts) lends has =
-    go (is_refused (turned styles x t).step.answer) refl (λ came has. turns_have by styles (turned styles x t) came ts lends.1 has)
+    go (is_err (turned styles x t).step.answer) refl (λ came has. turns_have by styles (turned styles x t) came ts lends.1 has)
   where
-    go : (b : Bool) → is_refused (turned styles x t).step.answer ≡ b
+    go : (b : Bool) → is_err (turned styles x t).step.answer ≡ b
         → ((came : List OofCandidate) → Has by (turned styles x t) came → Has by (foldl (turned styles) (turned styles x t) ts) (came ++ surfaced_by (heeded styles (turned styles x t) ts)))
         → Has by (foldl (turned styles) (turned styles x t) ts) (came ++ surfaced_by (cond b (heeded styles (turned styles x t) ts) (t.heard ∷ heeded styles (turned styles x t) ts)))
     go true e rest = rest came (said (turn_refused styles x t e) has)
@@ -225,7 +210,7 @@ turns_have by styles x came (t ∷ ts) lends has =
         (append_assoc came (candidates_in (lent_by t.heard.reply t.heard.surfaced)) (surfaced_by (heeded styles (turned styles x t) ts)))
         (rest (came ++ candidates_in (lent_by t.heard.reply t.heard.surfaced)) (one t.loan e lends.0))
       where
-        one : (l : Loan) → is_refused (next_with styles x t.heard l).step.answer ≡ false → Lends l (next_with styles x t.heard l).step.answer
+        one : (l : Loan) → is_err (next_with styles x t.heard l).step.answer ≡ false → Lends l (next_with styles x t.heard l).step.answer
             → Has by (next_with styles x t.heard l) (came ++ candidates_in (lent_by t.heard.reply t.heard.surfaced))
         one own e l = accepted_has by styles x came has t.heard e
         one (other slices) e l = no l e

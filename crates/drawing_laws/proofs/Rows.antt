@@ -1,16 +1,15 @@
 -- The rows of `specs/Rows.antt`, computed. Assumes nothing.
-use Rattle.std.specs.Prelude.{is_some, option_map}
 use mathlib.Core.Path.{refl}
 use Rattle.util.specs.Maybe.{map_add, map_clamped}
 use Rattle.geometry.specs.Geometry.{both_present, added_size, clamped_size, with_ratio}
-use Rattle.style.specs.Codes.{safety_code, safety_of}
+use Rattle.style.specs.Codes.{position_code, position_of, safety_code, safety_of}
 use Rattle.style.specs.Resolve.{by_tag, resolved, takes, maybe_resolved, resolved_size}
 use Rattle.records.specs.Records.{record_at, records, room, written, wrong, every, breaks, good, good_records}
 use Rattle.style_record.specs.Record.{length_field, length_kinds, code_kinds, kind_of, items}
 use Rattle.style_record.specs.Check.{safety_breaks, breaks_as, breaks_rule, breaks as breaks', first_from, first_broken, or_rest, checked_from, checked}
 use Rattle.style_record.specs.Decode.{length_at, size_at, ratio_at, style_of, style_at}
 use Rattle.tree.specs.Static.{shifted_axis, translated}
-use Rattle.tree_record.specs.Codes.{position_code, position_of, edge_code, edge_of}
+use Rattle.tree.specs.Codes.{edge_code, edge_of}
 use Rattle.tree_record.specs.Candidate.{axis_of, candidate_of, candidate_words}
 use Rattle.tree_record.specs.Layout.{layout_words}
 use Rattle.sweep.specs.Sweep.{first_candidates, candidates_in, moved, side, keep, list_words}

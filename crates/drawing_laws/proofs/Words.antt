@@ -15,7 +15,7 @@ use Rattle.tree.specs.declared.layout.OofCandidate.{OofCandidate}
 use Rattle.tree.specs.Static.{translated}
 use Rattle.records.specs.Records.{record_at, written, whole, wrong, breaks, good_records}
 use Rattle.records.proofs.Laws.{word_of_record, good_is_unbroken, written_twice}
-use Rattle.tree_record.specs.Codes.{position_code}
+use Rattle.style.specs.Codes.{position_code}
 use Rattle.tree_record.specs.Candidate.{candidate_width, layer_word, layer_count, candidate_kinds, axis_of, candidate_of, axis_words, candidate_words}
 use Rattle.sweep.specs.Sweep.{candidates_in, moved, appended}
 use Rattle.sweep.proofs.Steps.{appended_none, appended_one, appended_twice}

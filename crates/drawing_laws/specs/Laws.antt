@@ -1,7 +1,7 @@
 -- Request #104: layers over runs. A run keeps the layers of its candidates, and finished it is drawn by them; placement doesn't read them;
 -- under what `Mirror` asks (mirror_run), the mirror image of a run is drawn in the same order. As statements: `proofs/` proves each, under its
 -- name in small letters. Assumes nothing.
-use Rattle.std.specs.Prelude.{ℕ, ◌+◌, ◌*◌, ◌/◌, ◌<◌, false, ◌≡◌, length, get_or, Float}
+use Rattle.std.specs.Prelude.{ℕ, ◌+◌, ◌*◌, ◌/◌, ◌<◌, false, ◌≡◌, length, get_or, None, is_err, Float}
 use mathlib.Core.List.{List, [], ◌∷◌, ◌++◌, foldl}
 use Rattle.geometry.specs.declared.Rect.{Rect}
 use Rattle.style.specs.declared.ContainingBlockClaims.{ContainingBlockClaims}
@@ -15,12 +15,11 @@ use Rattle.oof_box.specs.Cut.{asked_after, layout_after}
 use Rattle.oof_box.specs.declared.question.Replies.{Replies}
 use Rattle.oof_box.specs.declared.question.Reply.{Reply}
 use Rattle.run.specs.declared.Opening.{Opening}
-use Rattle.run.specs.declared.Progress.TheVariants.{Finished}
 use Rattle.run.specs.declared.State.{State}
 use Rattle.run.specs.Call.{Lent, Outcome, lent}
 use Rattle.run.specs.Refusals.{accepted, lent_by}
 use Rattle.run.specs.Run.{claims_of, extents_of, opened, replied}
-use Rattle.run.specs.Theorems.{is_refused, Heard, Loan, own, other, Turn, AllLend, called, heeded_in, claimed_so_far}
+use Rattle.run.specs.Theorems.{Heard, Loan, own, other, Turn, AllLend, called, heeded_in, claimed_so_far}
 use Rattle.mirror_run.specs.Image.{image_opening, image_styles, image_candidates}
 use Rattle.mirror_run.specs.Quarter.{QuarterArea, QuarterTable, QuarterCandidates}
 use Rattle.mirror_run.specs.Runs.{Message, run_next, image_next, surfaced_in, AllFair, unclaimed_so_far}
@@ -46,7 +45,7 @@ pub record KeepsLayers (by : ContainingBlockClaims) (came : List OofCandidate) (
 abbrev pub LayersOfARun : Type 0
 LayersOfARun =
     (o : Opening) (candidates : List ℕ) (lent : Lent) (turns : List Turn)
-    → is_refused (opened o candidates lent).step.answer ≡ false
+    → is_err (opened o candidates lent).step.answer ≡ false
     -- nobody else writes the run's words: a call that lends other slices is refused
     → AllLend lent.styles (opened o candidates lent) turns
     -- what a refused reply surfaces isn't taken in
@@ -63,12 +62,12 @@ drawn_of before styles has = drawn has.step.state (lent styles has.layouts has.w
 abbrev pub FinishedIsDrawn : Type 0
 FinishedIsDrawn =
     (o : Opening) (candidates : List ℕ) (lent : Lent) (turns : List Turn) (before : List ℕ)
-    → is_refused (opened o candidates lent).step.answer ≡ false
+    → is_err (opened o candidates lent).step.answer ≡ false
     -- nobody else writes the run's words: a call that lends other slices is refused
     → AllLend lent.styles (opened o candidates lent) turns
     → let has = called o candidates lent turns in
     let boxes = claimed (claims_of o) (all_came candidates (heeded_in o candidates lent turns)) in
-    has.step.state.progress ≡ Finished → length before ≡ has.step.state.counts.filled.working
+    has.step.state.progress ≡ None → length before ≡ has.step.state.counts.filled.working
     → drawn_of before lent.styles has ≡ record { verdict = accepted; order = drawing_order (layers_of boxes) }
 
 -- ---- "Placement doesn't read the layer": a box

@@ -1,6 +1,6 @@
 -- Layers through an opening and a reply, and from an opening to the drawing order, on a few words; `proofs/Rows.antt` computes each row.
 -- Assumes nothing.
-use Rattle.std.specs.Prelude.{ℕ, zero, suc, List, [], ◌∷◌, ◌++◌, ◌≡◌, replicate}
+use Rattle.std.specs.Prelude.{ℕ, zero, suc, List, [], ◌∷◌, ◌++◌, ◌≡◌, replicate, Some, Err}
 use Rattle.geometry.specs.Geometry.{zero_point, zero_rect, zero_size}
 use Rattle.refusal.specs.declared.Refusal.TheVariants.{BadExtent, BadCandidate}
 use Rattle.style_record.specs.Record.{lengths, code_words}
@@ -8,9 +8,7 @@ use Rattle.sweep.specs.Sweep.{layers_of}
 use Rattle.oof_box.specs.Cut.{no_replies}
 use Rattle.oof_box.specs.declared.question.Reply.TheVariants.{LaidOut}
 use Rattle.oof_box.specs.declared.question.Stage.TheVariants.{LayOut}
-use Rattle.run.specs.declared.Answer.TheVariants.{Refused}
 use Rattle.run.specs.declared.Opening.{Opening}
-use Rattle.run.specs.declared.Progress.TheVariants.{Asking}
 use Rattle.run.specs.declared.State.{State}
 use Rattle.run.specs.Call.{Lent, Outcome, lent}
 use Rattle.run.specs.Refusals.{accepted}
@@ -52,7 +50,7 @@ held = slices (candidate 2 9 ++ candidate 2 3 ++ replicate 14 0) (candidate 3 25
 abbrev at_lay_out : State
 at_lay_out =
     record {
-      progress = Asking LayOut;
+      progress = Some LayOut;
       replies = no_replies;
       counts = record { filled = record { working = 2; unclaimed = 1 }; begun = 1; answered = 0 };
       overflow = zero_rect;
@@ -71,13 +69,13 @@ LayerRows =
     × (layers_of (claimed_so_far (surfaces (candidate 3 7 ++ candidate 2 0))) ≡ 9 ∷ 3 ∷ 0 ∷ [])
     × (layers_of (unclaimed_so_far (surfaces (candidate 3 7 ++ candidate 2 0))) ≡ 255 ∷ 7 ∷ [])
     -- 256 is no layer, of one that is claimed and of one that isn't
-    × ((opens (candidate 2 256)).step.answer ≡ Refused BadCandidate)
-    × ((opens (candidate 3 256)).step.answer ≡ Refused BadCandidate)
-    × ((surfaces (candidate 2 256)).step.answer ≡ Refused BadCandidate)
-    × ((surfaces (candidate 3 256)).step.answer ≡ Refused BadCandidate)
+    × ((opens (candidate 2 256)).step.answer ≡ Err BadCandidate)
+    × ((opens (candidate 3 256)).step.answer ≡ Err BadCandidate)
+    × ((surfaces (candidate 2 256)).step.answer ≡ Err BadCandidate)
+    × ((surfaces (candidate 3 256)).step.answer ≡ Err BadCandidate)
     -- 13 words, a record without its layer, are no candidate
-    × ((opens (replicate 13 0)).step.answer ≡ Refused BadExtent)
-    × ((surfaces (replicate 13 0)).step.answer ≡ Refused BadExtent)
+    × ((opens (replicate 13 0)).step.answer ≡ Err BadExtent)
+    × ((surfaces (replicate 13 0)).step.answer ≡ Err BadExtent)
 
 -- ---- from an opening to the drawing order
 

@@ -5,31 +5,29 @@ use mathlib.Core.Bool.{Bool, true, false, cond, ◌||◌}
 use mathlib.Core.List.{List, []}
 use mathlib.Core.Logic.{inl, inr, ◌≢◌}
 use mathlib.Core.Path.{◌≡◌, refl, ap}
-use Rattle.std.specs.Prelude.{Ok, Err}
+use Rattle.std.specs.Prelude.{Ok, Err, Option, Some, None, is_some}
 use Rattle.util.proofs.Floats.{no}
 use Rattle.refusal.specs.declared.Refusal.TheVariants.{BadExtent, WrongReply, BadCandidate}
 use Rattle.run.specs.Call.{Lent}
 use Rattle.run.specs.Conditions.{places}
 use Rattle.run.specs.Refusals.{Verdict, accepted, refused, ◌when◌else◌, bad_lent, above_lists, bad_candidate}
-use Rattle.run.specs.declared.Progress.{Progress}
-use Rattle.run.specs.declared.Progress.TheVariants.{Finished, Asking}
 use Rattle.run.specs.declared.State.{State}
 use Rattle.run.proofs.Decides.{Decides, Says, either, regroup, below, then, no_more, refused_first, accepted_none}
 use Rattle.run.proofs.Conditions.{slices_decided, lengths_decided, candidate_decided}
-use Rattle.finished.specs.Finished.{is_open, finished_verdict}
+use Rattle.finished.specs.Finished.{finished_verdict}
 use Rattle.finished.specs.Conditions.{NotFinished, finished_tests}
 use Rattle.finished.specs.Laws.{RefusedExactly, AcceptedExactly}
 
-open_decided : (p : Progress) → Decides (is_open p) (p ≢ Finished)
-open_decided Finished = record { holds = λ t. no {b = false} t refl; fails = λ f n. n refl }
-open_decided (Asking stage) = record { holds = λ t e. no {b = true} refl (ap is_open e); fails = λ f. no {b = true} refl f }
+open_decided : {A : Type 0} (p : Option A) → Decides (is_some p) (p ≢ None)
+open_decided None = record { holds = λ t. no {b = false} t refl; fails = λ f n. n refl }
+open_decided (Some stage) = record { holds = λ t e. no {b = true} refl (ap is_some e); fails = λ f. no {b = true} refl f }
 
 unfinished_decided : (s : State) (lent : Lent)
-    → Decides (is_open s.progress || above_lists lent.working lent.unclaimed s.counts.filled) (NotFinished s lent)
+    → Decides (is_some s.progress || above_lists lent.working lent.unclaimed s.counts.filled) (NotFinished s lent)
 unfinished_decided s lent = either (open_decided s.progress) (either (below _ _) (below _ _))
 
 -- filled records that the list has places for
-filled_there : (s : State) (lent : Lent) → is_open s.progress || above_lists lent.working lent.unclaimed s.counts.filled ≡ false
+filled_there : (s : State) (lent : Lent) → is_some s.progress || above_lists lent.working lent.unclaimed s.counts.filled ≡ false
     → s.counts.filled.working ≤ places lent.working
 filled_there s lent f =
     let n = (unfinished_decided s lent).fails f in
@@ -40,7 +38,7 @@ filled_there s lent f =
 abbrev pub tested_then : State → Lent → Bool → Verdict → Verdict
 tested_then s lent other own =
     BadExtent when (bad_lent s.opened.extents lent || other) else
-    WrongReply when (is_open s.progress || above_lists lent.working lent.unclaimed s.counts.filled) else
+    WrongReply when (is_some s.progress || above_lists lent.working lent.unclaimed s.counts.filled) else
     BadCandidate when bad_candidate lent.styles lent.working s.counts.filled.working else
     own
 
@@ -60,7 +58,7 @@ after (Err r) own = refused r
 pub tested_after : (s : State) (lent : Lent) (other : Bool) (own : Verdict) → after (finished_verdict s lent other) own ≡ tested_then s lent other own
 unfolding finished_verdict ◌when◌else◌
 tested_after s lent other own =
-    go (bad_lent s.opened.extents lent || other) (is_open s.progress || above_lists lent.working lent.unclaimed s.counts.filled)
+    go (bad_lent s.opened.extents lent || other) (is_some s.progress || above_lists lent.working lent.unclaimed s.counts.filled)
     (bad_candidate lent.styles lent.working s.counts.filled.working)
   where
     go : (a b c : Bool)

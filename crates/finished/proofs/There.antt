@@ -8,6 +8,8 @@ use mathlib.Core.Path.{◌≡◌, refl, ap, ◌∙◌}
 use lib.Dec.{leb, ltb, lit<}
 use lib.ListN.{length, get_or}
 use borrow.Author.Tests.{leb-false, ltb-false}
+use Rattle.std.specs.Prelude.{is_some}
+use Rattle.std.proofs.lemmas.Bool.{or_parts}
 use Rattle.records.specs.Records.{record_at, good_records}
 use Rattle.records.proofs.Laws.{word_of_record}
 use Rattle.style_record.specs.Record.{items}
@@ -16,10 +18,11 @@ use Rattle.tree_record.specs.Layout.{layout_width}
 use Rattle.run.specs.Call.{Lent}
 use Rattle.run.specs.Refusals.{accepted, bad_table, bad_list, bad_slices, other_lengths, above_lists}
 use Rattle.run.specs.declared.State.{State}
-use Rattle.placer_check.proofs.Verdicts.{passed, neither}
-use Rattle.placer.proofs.Calls.{fine, table, few_records}
+use Rattle.run.proofs.Ways.{few_records}
+use Rattle.placer_check.proofs.Verdicts.{passed}
+use Rattle.placer.proofs.Calls.{fine, table}
 use Rattle.placer.proofs.Nodes.{good_below, below_at, item_words_lem}
-use Rattle.finished.specs.Finished.{is_open, finished_verdict}
+use Rattle.finished.specs.Finished.{finished_verdict}
 
 -- the node of a record, as the code reads it
 pub node_is : (working : List ℕ) (place : ℕ) → (candidate_of (record_at candidate_width working place)).node ≡ get_or working (candidate_width * place) 0
@@ -33,29 +36,29 @@ module _ (s : State) (l : Lent) (other : Bool) (e : finished_verdict s l other �
   unfolding finished_verdict
   slices_fine =
       let a = passed _ _ _ _ e refl in
-      let b = neither (bad_slices l || other_lengths s.opened.extents l) other a.0 in
-      ((neither (bad_slices l) (other_lengths s.opened.extents l) b.0).0, b.1)
+      let b = or_parts (bad_slices l || other_lengths s.opened.extents l) other a.0 in
+      ((or_parts (bad_slices l) (other_lengths s.opened.extents l) b.0).0, b.1)
 
   pub not_other : other ≡ false
   not_other = slices_fine.1
 
   lists_fine : bad_table l.styles l.layouts || bad_list l.working ≡ false
   unfolding bad_slices
-  lists_fine = (neither (bad_table l.styles l.layouts || bad_list l.working) (bad_list l.unclaimed) slices_fine.0).0
+  lists_fine = (or_parts (bad_table l.styles l.layouts || bad_list l.working) (bad_list l.unclaimed) slices_fine.0).0
 
   table_fine : length l.layouts ≡ layout_width * items l.styles
-  table_fine = table l.styles l.layouts (neither (bad_table l.styles l.layouts) (bad_list l.working) lists_fine).0
+  table_fine = table l.styles l.layouts (or_parts (bad_table l.styles l.layouts) (bad_list l.working) lists_fine).0
 
   few : length l.working / candidate_width ≤ 4096
-  few = few_records l.working (neither (bad_table l.styles l.layouts) (bad_list l.working) lists_fine).1
+  few = few_records l.working (or_parts (bad_table l.styles l.layouts) (bad_list l.working) lists_fine).1
 
   within : s.counts.filled.working ≤ length l.working / candidate_width
   unfolding finished_verdict
   within =
       let a = passed _ _ _ _ e refl in
       let b = passed _ _ _ _ a.1 refl in
-      let above = (neither (is_open s.progress) (above_lists l.working l.unclaimed s.counts.filled) b.0).1 in
-      ltb-false _ _ (neither (ltb (length l.working / candidate_width) s.counts.filled.working) (ltb (length l.unclaimed / candidate_width) s.counts.filled.unclaimed) above).0
+      let above = (or_parts (is_some s.progress) (above_lists l.working l.unclaimed s.counts.filled) b.0).1 in
+      ltb-false _ _ (or_parts (ltb (length l.working / candidate_width) s.counts.filled.working) (ltb (length l.unclaimed / candidate_width) s.counts.filled.unclaimed) above).0
 
   pub filled_few : s.counts.filled.working ≤ 4096
   filled_few = let h = few in let k = within in omega arith

@@ -1,14 +1,13 @@
 -- When a part that reads a finished run refuses, in the words of request #102. Assumes nothing.
-use Rattle.std.specs.Prelude.{ℕ, ◌<◌, List, ◌∷◌, ◌⊎◌, ◌≢◌}
+use Rattle.std.specs.Prelude.{ℕ, ◌<◌, List, ◌∷◌, ◌⊎◌, ◌≢◌, None}
 use Rattle.run.specs.Call.{Lent}
 use Rattle.run.specs.Conditions.{SlicesAreBad, LengthsDiffer, places, CandidateIsBad}
-use Rattle.run.specs.declared.Progress.TheVariants.{Finished}
 use Rattle.run.specs.declared.State.{State}
 
 -- "an unfinished run or counts above the lists": the two counts that count a list's records. Boxes begun and questions answered aren't tested
 abbrev pub NotFinished : State → Lent → Type 0
 NotFinished s lent =
-    (s.progress ≢ Finished) ⊎ (places lent.working < s.counts.filled.working) ⊎ (places lent.unclaimed < s.counts.filled.unclaimed)
+    (s.progress ≢ None) ⊎ (places lent.working < s.counts.filled.working) ⊎ (places lent.unclaimed < s.counts.filled.unclaimed)
 
 -- "2 for the slices lent, as in a reply, here also for" what the part itself calls a bad extent, `Other`; "then 6 for an unfinished run or
 -- counts above the lists; then 4 over the filled working list; then" the part's own tests

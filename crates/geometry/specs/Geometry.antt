@@ -27,6 +27,10 @@ moved_by l offset = l.start ⊕ offset to l.end ⊕ offset
 abbrev pub counted_from : Line Float → Float → Line Float
 counted_from l origin = l.start ⊖ origin to l.end ⊖ origin
 
+-- whether both ends are there
+abbrev pub both_ends_present : Line (Option Float) → Bool
+both_ends_present l = is_some l.start && is_some l.end
+
 -- ---- `ZERO` and `NONE` of the Rust
 
 abbrev pub zero_point : Point Float

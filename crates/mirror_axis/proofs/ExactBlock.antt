@@ -1,5 +1,6 @@
 -- The block of an axis of whole quarter pixels is the integer block: no operation rounds. L and A bound lengths and static area, in
 -- sixteenths; the block is bounded by 3 L + 2 A. Assumes nothing.
+use borrow.Author.Rules.{rules}
 use Rattle.std.specs.Prelude.{Float, None, Option, Some, is_some}
 use mathlib.Core.Path.{◌≡◌, refl}
 use mathlib.Core.Bool.{Bool, true, false, cond}
@@ -45,9 +46,7 @@ is_start Center = false
 is_start End = false
 
 closed_exact : {b : ℕ} {l : Line Float} {m : LineN} (k : AxisStaticEdge) → LineExact 4 b l m → LineExact 4 b (cond (is_start k) (l.end to l.end) (l.start to l.start)) (closed_n k m)
-closed_exact Start h = record { start = h.end; end = h.end }
-closed_exact Center h = record { start = h.start; end = h.start }
-closed_exact End h = record { start = h.start; end = h.start }
+closed_exact k h = search rules
 
 repaired_exact : {b : ℕ} {l : Line Float} {m : LineN} (k : AxisStaticEdge) → LineExact 4 b l m → LineExact 4 b (repaired (is_start k) l) (repaired_n k m)
 unfolding repaired
@@ -59,10 +58,7 @@ end_is false = refl
 
 weaker_is : (s e : Option Float) (a : OofAxis) → start_is_weaker s e a ≡ is_start (weaker_of (is_some s) (is_some e) a.reversed)
 unfolding start_is_weaker
-weaker_is (Some x) (Some y) a = end_is a.reversed
-weaker_is (Some x) None a = refl
-weaker_is None (Some y) a = refl
-weaker_is None None a = end_is a.reversed
+weaker_is s e a = search (rules, end_is)
 
 module _ (L A : ℕ) (room : 10 * L + 6 * A < 16777216) where
   centered_exact : {c w : Float} {γ ω : N} → Exact 2 A c γ → Exact 4 L w ω → LineExact 4 (3 * L + 2 * A) (centered_block c w) (centered_n γ ω)
@@ -89,6 +85,4 @@ module _ (L A : ℕ) (room : 10 * L + 6 * A < 16777216) where
 
   pub block_exact : (a : OofAxis) (α : AxisN) → ExactAxis L A a α → LineExact 4 (3 * L + 2 * A) (block a) (block_n (shape a) α)
   unfolding block
-  block_exact a α h =
-      rw (weaker_is a.inset.start a.inset.end a)
-      (repaired_exact (weaker_of (is_some a.inset.start) (is_some a.inset.end) a.reversed) (inset_exact a.inset.start a.inset.end a α h.inset_start h.inset_end h))
+  block_exact a α h = search (rules, inset_exact, repaired_exact, weaker_is)

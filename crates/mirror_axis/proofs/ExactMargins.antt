@@ -1,6 +1,6 @@
 -- The stretch-fit size and the margins of an axis of whole quarter pixels are the integer ones. S bounds the box size. Margins that
 -- fill the block are whole eighths bounded by 7 L + 4 A + S, others whole quarters bounded by L. Assumes nothing.
-use Rattle.std.specs.Prelude.{Float, None, Option, Some, is_some, unwrap_or}
+use Rattle.std.specs.Prelude.{Float, None, Option, Some, is_some}
 use mathlib.Core.Path.{refl, ap}
 use mathlib.Core.Bool.{Bool, true, false, ◌&&◌, cond}
 use Prim.Native.Nat.{ℕ, ◌+◌, ◌*◌, ◌≤◌, ◌<◌}

@@ -1,5 +1,6 @@
 -- Where a box stands in an axis of whole quarter pixels is the integer place, in whole eighths, bounded by 10 L + 6 A + S: a margin box is halved
 -- only where its margins don't fill the block, and then it is whole quarters. Assumes nothing.
+use borrow.Author.Rules.{rules}
 use Rattle.std.specs.Prelude.{Float, None, Option, Some, is_some}
 use mathlib.Core.Path.{◌≡◌, refl, ap}
 use mathlib.Core.Bool.{Bool, true, false, ◌&&◌, ◌||◌, cond}
@@ -16,7 +17,6 @@ use Rattle.tree.specs.Static.{start_edge}
 use Rattle.tree.specs.declared.layout.AxisStaticEdge.{AxisStaticEdge}
 use Rattle.tree.specs.declared.layout.AxisStaticEdge.TheVariants.{Start, Center, End}
 use Rattle.oof_axis.specs.declared.OofAlignment.{OofAlignment}
-use Rattle.oof_axis.specs.declared.OofAlignment.TheVariants as align
 use Rattle.oof_axis.specs.declared.OofAxis.{OofAxis}
 use Rattle.oof_axis.specs.Axis.{align_in, align_edge, is_normal, limit, kept_within, self_aligned, static_aligned, position_in, position, placement}
 use Rattle.util_exact.specs.Integer.{N, add_n}
@@ -34,11 +34,7 @@ use Rattle.mirror_axis.proofs.ExactMargins.{margin_bound, margin_unit, margins_e
 
 align_is : (al : OofAlignment) (a : OofAxis) → align_edge al a ≡ align_of al a.reversed
 unfolding align_edge
-align_is align.Normal a = refl
-align_is align.Stretch a = refl
-align_is align.Start a = refl
-align_is align.Center a = refl
-align_is align.End a = refl
+align_is al a = search rules
 
 module _ (L A S : ℕ) (room : 10 * L + 6 * A + S < 16777216) where
   -- a line as the block is bounded, a margin box, a place
@@ -164,4 +160,4 @@ module _ (L A S : ℕ) (room : 10 * L + 6 * A + S < 16777216) where
 
   pub place_exact : (a : OofAxis) (α : AxisN) {size : Float} {u : N} → ExactAxis L A a α → Exact 4 S size u → Placed (placement a size).position (place_n (shape a) α u)
   unfolding position placement
-  place_exact a α h hu = position_at a.inset.start a.inset.end a α h (block_exact L A (omega arith) a α h) hu (margins_exact L A S room a α h hu)
+  place_exact a α h hu = search (rules, block_exact, margins_exact, position_at)

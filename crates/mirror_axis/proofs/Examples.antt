@@ -1,5 +1,5 @@
 -- The law on axes that are computed: its hypotheses can be met, and those on the width and on the room are needed. Assumes nothing.
-use Rattle.std.specs.Prelude.{Float, None, Option, Some, is_some, unwrap_or}
+use Rattle.std.specs.Prelude.{Float, None, Option, Some}
 use mathlib.Core.Path.{◌≡◌, refl, subst}
 use mathlib.Core.List.{List, [], ◌∷◌}
 use mathlib.Core.Bool.{Bool, true, false, false≢true}

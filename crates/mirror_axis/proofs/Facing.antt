@@ -1,17 +1,17 @@
 -- The mirror law between two axes that face each other: each the mirror image of the other as numbers, whatever floats they are
 -- written with. L, A and S bound lengths, static area and box size, in sixteenths. Assumes nothing.
-use Rattle.std.specs.Prelude.{Float, is_some}
-use mathlib.Core.Path.{◌≡◌, sym, ap, ap₂, subst, ◌∙◌}
-use mathlib.Core.Bool.{Bool, false, ◌&&◌}
+use borrow.Author.Rules.{rules}
+use Rattle.std.specs.Prelude.{Float}
+use mathlib.Core.Path.{◌≡◌, sym, ap, ap₂, subst}
+use mathlib.Core.Bool.{and_comm, Bool, ◌&&◌}
 use Prim.Native.Nat.{ℕ, ◌+◌, ◌*◌, ◌<◌}
 use native.Mathlib.Omega.{arith}
 use lib.Ieee.{Float}
 use Rattle.geometry.specs.declared.Line.{Line}
 use Rattle.oof_axis.specs.declared.OofAlignment.{OofAlignment}
 use Rattle.oof_axis.specs.declared.OofAxis.{OofAxis}
-use Rattle.oof_axis.specs.Axis.{block, both_insets, stretch_fit, stretching, stretches, is_stretch, placement}
+use Rattle.oof_axis.specs.Axis.{block, both_insets, stretch_fit, stretching, stretches, placement}
 use Rattle.util_exact.specs.Integer.{N, add_n}
-use Rattle.util_exact.proofs.Tests.{and_commute}
 use Rattle.util_exact.proofs.Integers.{Multiple, sub_n, add_mult, even_of}
 use Rattle.util_exact.proofs.Exact.{Exact, any}
 use Rattle.util_exact.proofs.Sum.{sub_exact}
@@ -71,7 +71,7 @@ module _ (L A : ℕ) (room : 10 * L + 6 * A < 16777216) (a a' : OofAxis) (h : Fa
 
   pub insets_shared : both_insets a ≡ both_insets a'
   unfolding both_insets
-  insets_shared = and_commute (is_some a.inset.start) (is_some a.inset.end) ∙ sym (ap (λ (σ : Shape). σ.inset_start && σ.inset_end) h.shapes)
+  insets_shared = search (rules, and_comm)
 
   pub alignment_shared : a.alignment ≡ a'.alignment
   alignment_shared = sym (ap (λ (σ : Shape). σ.alignment) h.shapes)
@@ -80,10 +80,6 @@ module _ (L A : ℕ) (room : 10 * L + 6 * A < 16777216) (a a' : OofAxis) (h : Fa
   pub stretches_shared : (plain : Bool) → stretches a plain ≡ stretches a' plain
   unfolding stretches
   stretches_shared plain = ap₂ ◌&&◌ insets_shared (ap (λ (al : OofAlignment). stretching al plain) alignment_shared)
-
-  pub is_stretch_shared : is_stretch a ≡ is_stretch a'
-  unfolding is_stretch
-  is_stretch_shared = ap (λ (al : OofAlignment). stretching al false) alignment_shared
 
 module _ (L A S : ℕ) (room : 10 * L + 6 * A + S < 16777216) (a a' : OofAxis) (h : Facing L A a a') (size size' : Float) (s : Same 4 S size size') where
   abbrev margins_left : LineN

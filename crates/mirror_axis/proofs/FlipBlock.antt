@@ -1,9 +1,10 @@
 -- The integer axis and its mirror image: the blocks are mirrored. Assumes nothing.
+use Rattle.std.proofs.lemmas.Bool.Decides.{nat_tests}
+use borrow.Author.Rules.{rules}
 use mathlib.Core.Path.{◌≡◌, refl}
-use mathlib.Core.Bool.{Bool, true, false, not, cond}
+use mathlib.Core.Bool.{Bool, not, cond}
 use Prim.Native.Nat.{◌+◌, ◌≤◌, ◌<◌}
 use native.Mathlib.Omega.{arith}
-use borrow.Author.Tests.{leb-true, leb-false}
 use Rattle.tree.specs.declared.layout.AxisStaticEdge.{AxisStaticEdge}
 use Rattle.tree.specs.declared.layout.AxisStaticEdge.TheVariants.{Start, Center, End}
 use Rattle.util_exact.specs.Integer.{N, zero_n, add_n, EqN}
@@ -66,21 +67,7 @@ one_passes a b a' b' e f g h = omega arith
 -- c and r: the center's distances from start and end; c' and r' those of the image
 around : (w c r c' r' : N) → NotZero w → EqN r (sub_n w c) → EqN c' r → EqN r' c
     → Flip w (cond (le_n (mag_n c) (mag_n r)) (zero_n toN dbl_n c) (sub_n w (dbl_n r) toN w)) (cond (le_n (mag_n c') (mag_n r')) (zero_n toN dbl_n c') (sub_n w (dbl_n r') toN w))
-around w c r c' r' nz e f g = go (le_n (mag_n c) (mag_n r)) refl (le_n (mag_n c') (mag_n r')) refl
-  where
-    go : (t : Bool) → le_n (mag_n c) (mag_n r) ≡ t → (t' : Bool) → le_n (mag_n c') (mag_n r') ≡ t'
-        → Flip w (cond t (zero_n toN dbl_n c) (sub_n w (dbl_n r) toN w)) (cond t' (zero_n toN dbl_n c') (sub_n w (dbl_n r') toN w))
-    go true x true y =
-        let u = leb-true ((mag_n c).p + (mag_n r).n) ((mag_n r).p + (mag_n c).n) x in
-        let v = leb-true ((mag_n c').p + (mag_n r').n) ((mag_n r').p + (mag_n c').n) y in
-        let k = tie w c r nz e (only_tie (mag_n c) (mag_n r) (mag_n c') (mag_n r') (mag_cong c' r f) (mag_cong r' c g) u v) in
-        record { start = omega arith; end = omega arith }
-    go true x false y = record { start = omega arith; end = omega arith }
-    go false x true y = record { start = omega arith; end = omega arith }
-    go false x false y =
-        let u = leb-false ((mag_n c).p + (mag_n r).n) ((mag_n r).p + (mag_n c).n) x in
-        let v = leb-false ((mag_n c').p + (mag_n r').n) ((mag_n r').p + (mag_n c').n) y in
-        absurd (one_passes (mag_n c) (mag_n r) (mag_n c') (mag_n r') (mag_cong c' r f) (mag_cong r' c g) u v)
+around w c r c' r' nz e f g = search (rules, mag_cong, one_passes, only_tie, tie)
 
 centered_flip : (w c c' : N) → NotZero w → EqN (add_n c c') w → Flip w (centered_n c w) (centered_n c' w)
 centered_flip w c c' nz e = around w c (sub_n w c) c' (sub_n w c') nz refl (omega arith) (omega arith)
@@ -95,16 +82,10 @@ middle w a b h =
 
 static_flip : (w : N) (m : LineN) (k : AxisStaticEdge) → NotZero w → Multiple 2 (add_n m.start m.end) → Flip w (static_n k m w) (static_n (other_edge k) (flipped w m) w)
 unfolding other_edge
-static_flip w m Start nz ev = omega arith
-static_flip w m Center nz ev =
-    centered_flip w (half_n (add_n m.start m.end)) (half_n (add_n (sub_n w m.end) (sub_n w m.start))) nz (middle w m.start m.end ev)
-static_flip w m End nz ev = omega arith
+static_flip w m k h l = search (rules, centered_flip, middle)
 
 inset_flip : (s e : Bool) (k : AxisStaticEdge) (α : AxisN) → NotZero α.size → Multiple 2 (add_n α.area.start α.area.end) → Flip α.size (inset_n s e k α) (inset_n e s (other_edge k) (image_n α))
-inset_flip true true k α nz ev = omega arith
-inset_flip true false k α nz ev = omega arith
-inset_flip false true k α nz ev = omega arith
-inset_flip false false k α nz ev = static_flip α.size α.area k nz ev
+inset_flip s e k α h l = search (rules, static_flip)
 
 -- ---- an end below its start
 
@@ -116,9 +97,7 @@ Side End = Unit {0}
 
 closed_flip : (w : N) (l l' : LineN) (k : AxisStaticEdge) → Side k → Flip w l l' → Flip w (closed_n k l) (closed_n (other_edge k) l')
 unfolding other_edge
-closed_flip w l l' Start s h = record { start = h.end; end = h.end }
-closed_flip w l l' Center s h = absurd s
-closed_flip w l l' End s h = record { start = h.start; end = h.start }
+closed_flip w l l' k h i = search rules
 
 repaired_flip : (w : N) (l l' : LineN) (k : AxisStaticEdge) → Side k → Flip w l l' → Flip w (repaired_n k l) (repaired_n (other_edge k) l')
 repaired_flip w l l' k s h =
@@ -129,16 +108,7 @@ repaired_flip w l l' k s h =
 -- in the image the other edge is the weaker
 weaker_other : (s e r : Bool) → (weaker_of e s (not r) ≡ other_edge (weaker_of s e r)) × Side (weaker_of s e r)
 unfolding other_edge
-weaker_other true true true = (refl, tt)
-weaker_other true true false = (refl, tt)
-weaker_other true false r = (refl, tt)
-weaker_other false true r = (refl, tt)
-weaker_other false false true = (refl, tt)
-weaker_other false false false = (refl, tt)
+weaker_other s e r = search rules
 
 pub block_flip : (σ : Shape) (α : AxisN) → NotZero α.size → Multiple 2 (add_n α.area.start α.area.end) → Flip α.size (block_n σ α) (block_n (image_shape σ) (image_n α))
-block_flip σ α nz ev =
-    let weaker = weaker_other σ.inset_start σ.inset_end σ.reversed in
-    rw weaker.0
-    (repaired_flip α.size (inset_n σ.inset_start σ.inset_end σ.keyword α) (inset_n σ.inset_end σ.inset_start (other_edge σ.keyword) (image_n α))
-    (weaker_of σ.inset_start σ.inset_end σ.reversed) weaker.1 (inset_flip σ.inset_start σ.inset_end σ.keyword α nz ev))
+block_flip σ α nz ev = grind (arith, nat_tests, inset_flip, repaired_flip, weaker_other)

@@ -1,4 +1,5 @@
 -- Step 4: size keywords, and the known sizes once their question is answered. Assumes nothing.
+use borrow.Author.Rules.{rules}
 use mathlib.Core.Path.{◌≡◌, refl, ap, ap₂}
 use mathlib.Core.Bool.{◌||◌}
 use Prim.Native.Nat.{ℕ, ◌≤◌}
@@ -63,8 +64,7 @@ keyword_size a a' h =
 
 pub stretch_size : (box box' : ResolvedBox) → BoxShared box box' → SizeShared size_bound (keyword_stretch box) (keyword_stretch box')
 unfolding keyword_stretch
-stretch_size box box' h =
-    record { width = keyword_size box.horizontal box'.horizontal h.opposite; height = ap (λ (a : OofAxis). absolute_stretch a.size a.inset a.margin) h.vertical }
+stretch_size box box' h = search (rules, keyword_size)
 
 -- ---- keywords
 

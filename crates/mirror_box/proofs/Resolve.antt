@@ -1,4 +1,5 @@
 -- Steps 1 to 3: what is known of a box and of its image before the host is asked. Assumes nothing.
+use borrow.Author.Rules.{rules}
 use Rattle.std.specs.Prelude.{Float, Option}
 use mathlib.Core.Path.{◌≡◌, refl, ap, subst}
 use mathlib.Core.Bool.{Bool, not}
@@ -148,7 +149,7 @@ module _ (container : ContainingBlock) (style : Style) (candidate candidate' : O
 
   faces : Facing length_bound static_bound (horizontal container style candidate) (horizontal (image_container container) (image_style style) candidate')
   unfolding horizontal
-  faces = opposite_faces length_bound static_bound (horizontal container style candidate) (horizontal (image_container container) (image_style style) candidate') horizontal_opposite hb.not_zero
+  faces = search (rules, horizontal_opposite, opposite_faces)
 
   fit_shared : SizeShared fit_bound (record { width = stretch_fit (horizontal container style candidate); height = stretch_fit (vertical container style candidate) })
       (record {

@@ -1,6 +1,7 @@
 -- Steps 5 and 6: stretched sizes, and the final size. Assumes nothing.
+use borrow.Author.Rules.{rules}
 use mathlib.Core.Path.{◌≡◌, refl, ap, ap₂}
-use mathlib.Core.Bool.{Bool, true, false, not, cond, ◌&&◌}
+use mathlib.Core.Bool.{Bool, not, ◌&&◌}
 use lib.Dec.{lit<, lit≤}
 use lib.Ieee.{Float}
 use Rattle.std.specs.Prelude.{Option, IfSome, unwrap_or, Float, None, Some, is_some}
@@ -13,7 +14,7 @@ use Rattle.oof_common.specs.declared.sizing_keyword.SizingKeywordResolution.{Siz
 use Rattle.oof_axis.specs.Axis.{stretches}
 use Rattle.oof_axis.specs.declared.OofAxis.{OofAxis}
 use Rattle.oof_resolve.specs.declared.ResolvedBox.{ResolvedBox}
-use Rattle.oof_box.specs.Box.{settled, ignores_ratio, stretch_ratio, widened, heightened, raised_min, stretched, final_size}
+use Rattle.oof_box.specs.Box.{settled, stretch_ratio, widened, heightened, raised_min, stretched, final_size}
 use Rattle.oof_box.specs.Cut.{stretched_by, size_by, sizing}
 use Rattle.oof_box.specs.declared.question.Replies.{Replies}
 use Rattle.oof_box.specs.declared.sizing.Stretched.{Stretched}
@@ -46,11 +47,7 @@ raised_word e f g = rw (e, f, g)
 -- there is no ratio to apply
 pub no_ratio : (style : Style) (box : ResolvedBox) (across down : Bool) → style.ratio ≡ None → stretch_ratio style box across down ≡ None
 unfolding stretch_ratio
-no_ratio style box across down e = rw e (both (ignores_ratio box across down))
-  where
-    both : (t : Bool) → cond {A = Option Float} t None None ≡ None
-    both true = refl
-    both false = refl
+no_ratio style box across down e = search rules
 
 -- what was measured, or nothing
 measured_size_lem : (f : Option (Size Float)) → IfSome f (λ s. Quarter s.width) → SizeShared fit_bound (unwrap_or f zero_size) (unwrap_or f zero_size)

@@ -1,10 +1,12 @@
 -- The larger and the smaller of numbers that are equal in both runs are equal, whatever numbers they are. Assumes nothing.
-use mathlib.Core.Path.{◌≡◌, refl, ap₂}
+use borrow.Author.Rules.{rules}
+use Rattle.std.proofs.lemmas.Bool.{and_parts}
+use mathlib.Core.Path.{◌≡◌, refl}
 use mathlib.Core.Logic.{◌⊎◌, inl, inr}
-use mathlib.Core.Bool.{Bool, true, false, false≢true, beq, ◌&&◌, ◌||◌}
-use Prim.Native.Nat.{ℕ, ◌*◌}
+use mathlib.Core.Bool.{Bool, true, false, beq, ◌||◌}
+use Prim.Native.Nat.{ℕ}
 use lib.Dec.{eqb}
-use lib.Ieee.{Float, nan, inf, fin, up, down, lt, le, eq, level}
+use lib.Ieee.{Float, lt, le, eq, level}
 use borrow.Author.Tests.{eqb-true}
 use Rattle.util.specs.Order.{larger, smaller}
 use Rattle.util.proofs.Order.{eq_le, le_numbers, le_trans, not_above_lem, equal}
@@ -16,27 +18,14 @@ use Rattle.mirror_box.specs.Law.{UnionsMirrored}
 -- ---- equal as numbers: at most, either way
 
 beq_sym : (s t : Bool) → beq s t ≡ beq t s
-beq_sym true true = refl
-beq_sym true false = refl
-beq_sym false true = refl
-beq_sym false false = refl
-
-first : (p q : Bool) → p && q ≡ true → p ≡ true
-first true q h = refl
-first false q h = h
+beq_sym s t = search rules
 
 level_sym : (s : Bool) (a : ℕ) (t : Bool) (b : ℕ) → level s a t b ≡ true → level t b s a ≡ true
-level_sym s a t b h = let e = eqb-true a b (first (eqb a b) (beq s t || eqb a 0) h) in rw (e, beq_sym t s) (rw e at h)
+level_sym s a t b h = let e = eqb-true a b (and_parts (eqb a b) (beq s t || eqb a 0) h).0 in rw (e, beq_sym t s) (rw e at h)
 
 eq_sym : (x y : Float) → x ≐ y → y ≐ x
 unfolding eq
-eq_sym nan y h = absurd (false≢true h)
-eq_sym (inf s) nan h = absurd (false≢true h)
-eq_sym (inf s) (inf t) h = rw (beq_sym t s) h
-eq_sym (inf s) (fin t n d) h = absurd (false≢true h)
-eq_sym (fin s m e) nan h = absurd (false≢true h)
-eq_sym (fin s m e) (inf t) h = absurd (false≢true h)
-eq_sym (fin s m e) (fin t n d) h = level_sym s (m * up e * down d) t (n * up d * down e) h
+eq_sym x y h = search (rules, beq_sym, level_sym)
 
 never_below : (x y : Float) → le y x ≡ true → (t : Bool) → lt x y ≡ t → lt x y ≡ false
 never_below x y h true e = absurd (not_above_lem x y e h)
@@ -66,15 +55,8 @@ smaller_le x y x' y' h k = go (smaller_is_one x' y')
 -- a function of two numbers that keeps their order, of equal numbers
 equal_by : (f : Float → Float → Float) → ((x y x' y' : Float) → le x x' ≡ true → le y y' ≡ true → le (f x y) (f x' y') ≡ true)
     → (x y x' y' : Float) → x ≐ x' → y ≐ y' → f x y ≐ f x' y'
-equal_by f rising x y x' y' h k =
-    le_both (f x y) (f x' y') (rising x y x' y' (eq_le x x' h) (eq_le y y' k)) (rising x' y' x y (eq_le x' x (eq_sym x x' h)) (eq_le y' y (eq_sym y y' k)))
+equal_by f rising x y x' y' h k = search (rules, eq_le, eq_sym, le_both)
 
 pub unions_mirrored : UnionsMirrored
 unfolding union_of
-unions_mirrored r r' s s' h k =
-    record {
-      left = equal_by smaller smaller_le r.left s.left r'.left s'.left h.left k.left;
-      right = equal_by larger larger_le r.right s.right r'.right s'.right h.right k.right;
-      top = ap₂ smaller h.top k.top;
-      bottom = ap₂ larger h.bottom k.bottom;
-    }
+unions_mirrored r r' s s' h k = search (rules, equal_by, larger_le, smaller_le)

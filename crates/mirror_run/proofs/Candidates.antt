@@ -1,21 +1,20 @@
 -- A list of candidates and its image: the same check, the same claims, and each decodes to its image. Assumes nothing.
-use Prim.Native.Nat.{ℕ, zero, suc, ◌+◌, ◌*◌, ◌/◌, ◌<◌}
+use borrow.Author.Rules.{rules}
+use Prim.Native.Nat.{ℕ, zero, suc, ◌*◌, ◌/◌, ◌<◌}
 use native.Mathlib.Omega.{arith}
-use mathlib.Core.Path.{◌≡◌, refl, ap, ◌∙◌}
-use mathlib.Core.Bool.{Bool, true, false, not, ◌&&◌}
+use mathlib.Core.Path.{◌≡◌, refl, ap}
+use mathlib.Core.Bool.{Bool, ◌&&◌}
 use mathlib.Core.List.{List}
-use lib.Dec.{eqb, leb, lit<}
-use lib.Ieee.{of_bits, binary32}
+use lib.Dec.{leb, lit<}
 use lib.Ieee.Fits.{sub-fits}
 use lib.ListN.{length, get_or}
-use borrow.Author.Tests.{eqb-true, ne_eqb}
-use Rattle.util.specs.Number.{◌⊖◌}
+use borrow.Author.Tests.{ne_eqb}
 use Rattle.util.proofs.Laws.{float_back}
 use Rattle.tree.specs.declared.layout.OofPositioningArea.{OofPositioningArea}
 use Rattle.records.specs.Records.{whole, record_at, every, wrong, breaks, good, good_records}
 use Rattle.records.proofs.Laws.{word_of_record}
-use Rattle.tree_record.specs.Codes.{edge_of}
-use Rattle.tree_record.specs.Candidate.{candidate_width, layer_word, candidate_kinds, axis_of, candidate_of}
+use Rattle.tree.specs.Codes.{edge_of}
+use Rattle.tree_record.specs.Candidate.{candidate_width, candidate_kinds, axis_of, candidate_of}
 use Rattle.mirror_axis.specs.Image as axis
 use Rattle.mirror_box.specs.Image as box
 use Rattle.mirror_run.specs.Image.{other_edge, reflected_word, image_candidate, image_candidates}
@@ -25,17 +24,11 @@ use Rattle.mirror_run.proofs.Words.{each_length, each_word}
 
 edge_code_lem : (e : ℕ) → leb 3 (other_edge e) ≡ leb 3 e
 unfolding other_edge
-edge_code_lem zero = refl
-edge_code_lem (suc zero) = refl
-edge_code_lem (suc (suc zero)) = refl
-edge_code_lem (suc (suc (suc e))) = rw (ne_eqb (suc (suc (suc e))) 0 (λ p. omega arith), ne_eqb (suc (suc (suc e))) 2 (λ p. omega arith)) refl
+edge_code_lem e = search (rules, ne_eqb)
 
 edge_decoded : (e : ℕ) → e < 3 → edge_of (other_edge e) ≡ axis.other_edge (edge_of e)
 unfolding other_edge edge_of axis.other_edge
-edge_decoded zero h = refl
-edge_decoded (suc zero) h = refl
-edge_decoded (suc (suc zero)) h = refl
-edge_decoded (suc (suc (suc e))) h = absurd (omega arith)
+edge_decoded e h = search rules
 
 -- ---- a record's image
 
@@ -43,15 +36,7 @@ module _ (area : OofPositioningArea) (r : ℕ → ℕ) where
   -- it breaks the rules that the record breaks
   image_wrong : (n k : ℕ) → wrong (get_or (candidate_kinds n) k whole) (image_candidate area r k) ≡ wrong (get_or (candidate_kinds n) k whole) (r k)
   unfolding image_candidate wrong
-  image_wrong n k = go (eqb k 3) (eqb k 4) (eqb k 5) (eqb k 7) refl refl refl refl
-    where
-      go : (a b c d : Bool) → eqb k 3 ≡ a → eqb k 4 ≡ b → eqb k 5 ≡ c → eqb k 7 ≡ d
-          → wrong (get_or (candidate_kinds n) k whole) (image_candidate area r k) ≡ wrong (get_or (candidate_kinds n) k whole) (r k)
-      go true b c d p q s t = rw (eqb-true k 3 p) refl
-      go false true c d p q s t = rw (eqb-true k 4 q) refl
-      go false false true d p q s t = rw (eqb-true k 5 s) (cc (edge_code_lem (r 5)))
-      go false false false true p q s t = rw (eqb-true k 7 t) (cc (edge_code_lem (r 7)))
-      go false false false false p q s t = simp (p, q, s, t)
+  image_wrong n k = search (rules, edge_code_lem)
 
 -- ---- a slice
 
@@ -67,12 +52,7 @@ module _ (area : OofPositioningArea) (ws : List ℕ) where
   same_record : (n i : ℕ) → i < length ws / candidate_width
       → good (candidate_kinds n) (image_candidates area ws) (candidate_width * i) ≡ good (candidate_kinds n) ws (candidate_width * i)
   unfolding good breaks
-  same_record n i h =
-      same_every candidate_width (λ k. not (wrong (get_or (candidate_kinds n) k whole) (get_or (image_candidates area ws) (candidate_width * i + k) 0)))
-      (λ k. not (wrong (get_or (candidate_kinds n) k whole) (get_or ws (candidate_width * i + k) 0)))
-      (λ k l.
-      ap (λ (w : ℕ). not (wrong (get_or (candidate_kinds n) k whole) w)) (each_word candidate_width (image_candidate area) ws i k l h)
-      ∙ ap not (image_wrong area (λ j. get_or ws (candidate_width * i + j) 0) n k))
+  same_record n i h = search (rules, each_word, image_wrong, same_every)
 
   pub same_candidates : (n : ℕ)
       → good_records (candidate_kinds n) (image_candidates area ws) (length (image_candidates area ws) / candidate_width)
@@ -88,42 +68,14 @@ module _ (area : OofPositioningArea) (ws : List ℕ) where
 module _ (area : OofPositioningArea) (r r' : List ℕ) (words : (k : ℕ) → k < candidate_width → get_or r' k 0 ≡ image_candidate area (λ j. get_or r j 0) k) where
   pub decoded_image : get_or r 5 0 < 3 → get_or r 7 0 < 3 → candidate_of r' ≡ box.image_candidate area (candidate_of r)
   unfolding candidate_of axis_of image_candidate reflected_word box.image_candidate axis.reflected_place axis.reflected axis.other_align
-  decoded_image h l =
-      rw (
-        words 0 (lit< tt),
-        words 1 (lit< tt),
-        words 2 (lit< tt),
-        words 3 (lit< tt),
-        words 4 (lit< tt),
-        words 5 (lit< tt),
-        words 6 (lit< tt),
-        words 7 (lit< tt),
-        words 8 (lit< tt),
-        words 9 (lit< tt),
-        words 10 (lit< tt),
-        words 11 (lit< tt),
-        words 12 (lit< tt),
-        words layer_word (lit< tt),
-        float_back (box.edge_sum area ⊖ of_bits binary32 (get_or r 4 0)) (sub-fits binary32 _ _),
-        float_back (box.edge_sum area ⊖ of_bits binary32 (get_or r 3 0)) (sub-fits binary32 _ _),
-        edge_decoded (get_or r 5 0) h,
-        edge_decoded (get_or r 7 0) l,
-      )
-      refl
+  decoded_image h l = search (rules, edge_decoded, float_back, sub-fits)
 
   pub decoded_position : (candidate_of r).position ≡ (candidate_of r').position
   unfolding candidate_of image_candidate
   decoded_position = rw (words 2 (lit< tt)) refl
 
-  pub decoded_node : (candidate_of r).node ≡ (candidate_of r').node
-  unfolding candidate_of image_candidate
-  decoded_node = rw (words 0 (lit< tt)) refl
-
 module _ (area : OofPositioningArea) (ws : List ℕ) (i : ℕ) (h : i < length ws / candidate_width) where
   pub record_words_lem : (k : ℕ) → k < candidate_width
       → get_or (record_at candidate_width (image_candidates area ws) i) k 0 ≡ image_candidate area (λ j. get_or (record_at candidate_width ws i) j 0) k
   unfolding image_candidate
-  record_words_lem k l =
-      word_of_record candidate_width (image_candidates area ws) i k l
-      ∙ each_word candidate_width (image_candidate area) ws i k l h
-      ∙ rw (← word_of_record candidate_width ws i 3 (lit< tt), ← word_of_record candidate_width ws i 4 (lit< tt), ← word_of_record candidate_width ws i k l) refl
+  record_words_lem k l = search (rules, each_word, word_of_record)

@@ -1,7 +1,8 @@
 -- The candidates of an opening and their images: each is ready to be laid out, and goes to the same list. Assumes nothing.
+use borrow.Author.Rules.{rules}
 use Prim.Native.Nat.{ℕ, suc, ◌+◌, ◌*◌, ◌/◌, ◌<◌, ◌≤◌}
 use native.Mathlib.Omega.{arith}
-use mathlib.Core.Path.{◌≡◌, sym, ap, ◌∙◌, subst}
+use mathlib.Core.Path.{◌≡◌, sym, subst}
 use mathlib.Core.Bool.{Bool, true, false}
 use mathlib.Core.List.{List, [], ◌∷◌, map}
 use lib.Dec.{lit<}
@@ -52,9 +53,7 @@ same_positions area ws =
 module _ (n : ℕ) (ws : List ℕ) (g : good_records (candidate_kinds n) ws (length ws / candidate_width) ≡ true) (i : ℕ) (h : i < length ws / candidate_width) where
   word_good : (k : ℕ) → k < candidate_width → wrong (get_or (candidate_kinds n) k whole) (get_or (record_at candidate_width ws i) k 0) ≡ false
   unfolding breaks
-  word_good k l =
-      ap (wrong (get_or (candidate_kinds n) k whole)) (word_of_record candidate_width ws i k l)
-      ∙ ((good_is_unbroken (candidate_kinds n) ws (length ws / candidate_width)).0 g).1 i k h l
+  word_good k l = search (rules, good_is_unbroken, word_of_record)
 
   pub node_there : (candidate_of (record_at candidate_width ws i)).node < n
   unfolding candidate_of wrong

@@ -1,11 +1,13 @@
 -- The word across from another is of the same kind, so a style's image breaks a rule exactly where the style does. Assumes nothing.
-use Prim.Native.Nat.{ℕ, zero, suc, ◌+◌, ◌-◌, ◌*◌, ◌/◌, ◌%◌, ◌<◌, ◌≤◌}
+use borrow.Author.Rules.{rules}
+use Rattle.std.proofs.lemmas.Bool.Decides.{nat_tests}
+use Prim.Native.Nat.{ℕ, ◌+◌, ◌-◌, ◌*◌, ◌/◌, ◌%◌, ◌<◌, ◌≤◌}
 use native.Mathlib.Omega.{arith}
 use mathlib.Core.Path.{◌≡◌, refl, sym, ap, ◌∙◌}
 use mathlib.Core.Bool.{Bool, true, false, cond}
-use lib.Dec.{ltb, leb, eqb}
+use lib.Dec.{ltb, leb}
 use lib.ListN.{get_or}
-use borrow.Author.Tests.{ltb-true, ltb-false, leb-true, leb-false, eqb-true, eqb-false, lt-ltb, le-ltb, le-leb, lt-leb, ne_eqb}
+use borrow.Author.Tests.{ltb-true, ltb-false, leb-false, lt-ltb, le-leb, lt-leb, ne_eqb}
 use Rattle.style.specs.declared.resolve.Field.{Field}
 use Rattle.style_record.specs.Record.{length_words, after_lengths, direction_word, number, length_kinds, length_field, code_kinds, kind_of, style_words}
 use Rattle.style_record.specs.Check.{breaks_as, breaks_rule}
@@ -46,7 +48,7 @@ module _ (k : ℕ) (l : k < box_words) where
 
   on_the_right : length_words ≤ k % sides_words → k % sides_words < 2 * length_words → counterpart k ≡ k - length_words
   unfolding counterpart
-  on_the_right h m = rw (lt-leb box_words k l, le-ltb (k % sides_words) length_words h, lt-ltb (k % sides_words) (2 * length_words) m) refl
+  on_the_right h m = search rules
 
 -- words after the sides stand across from themselves
 itself : (k : ℕ) → box_words ≤ k → counterpart k ≡ k
@@ -71,20 +73,12 @@ counterpart_twice k = go (counterpart k) (place k) refl
 -- ---- kinds
 
 same_test : (l m c : ℕ) → (l < c → m < c) → (m < c → l < c) → ltb l c ≡ ltb m c
-same_test l m c f g = go (ltb m c) refl
-  where
-    go : (b : Bool) → ltb m c ≡ b → ltb l c ≡ b
-    go true e = lt-ltb l c (g (ltb-true m c e))
-    go false e = le-ltb l c (omega (arith, ltb-false m c e, above))
-      where
-        above : l < c → ⊥
-        above p = let q = f p in let r = ltb-false m c e in omega arith
+same_test l m c f g = grind (arith, nat_tests)
 
 -- the four lengths of an inset, a margin, padding or a border are of one field
 same_field : (l m : ℕ) → l / 4 ≡ m / 4 → l < 16 → length_field l ≡ length_field m
 unfolding length_field
-same_field l m e h =
-    rw (same_test l m 8 (λ p. omega arith) (λ p. omega arith), same_test l m 16 (λ p. omega arith) (λ p. omega arith), lt-ltb m 16 (omega arith)) refl
+same_field l m e h = search (rules, same_test)
 
 length_kind : (k : ℕ) → k < box_words → kind_of k ≡ get_or (length_kinds (length_field (k / length_words))) (k % length_words) number
 unfolding kind_of
@@ -109,16 +103,11 @@ counterpart_kind k = go (counterpart k) (place k)
 -- no word of a length is judged by the word before it
 before_free : (f : Field) (j before before' w : ℕ) → breaks_as (get_or (length_kinds f) j number) before w ≡ breaks_as (get_or (length_kinds f) j number) before' w
 unfolding length_kinds breaks_as
-before_free f zero before before' w = refl
-before_free f (suc zero) before before' w = refl
-before_free f (suc (suc zero)) before before' w = refl
-before_free f (suc (suc (suc j))) before before' w = refl
+before_free f j before before' w = search rules
 
 pub direction_code_lem : (d : ℕ) → ltb 1 (other_direction d) ≡ ltb 1 d
 unfolding other_direction
-direction_code_lem zero = refl
-direction_code_lem (suc zero) = refl
-direction_code_lem (suc (suc d)) = rw (ne_eqb (suc (suc d)) 0 (λ e. omega arith), ne_eqb (suc (suc d)) 1 (λ e. omega arith)) refl
+direction_code_lem d = search (rules, ne_eqb)
 
 module _ (r : ℕ → ℕ) where
   -- words but for the direction's
@@ -131,25 +120,11 @@ module _ (r : ℕ → ℕ) where
 
   of_lengths : (k : ℕ) → k < box_words → breaks_rule (image_style r) k ≡ breaks_rule r (counterpart k)
   unfolding breaks_rule
-  of_lengths k l =
-      rw (moved k (λ e. omega arith), counterpart_kind k, length_kind k l)
-      (before_free (length_field (k / length_words)) (k % length_words) (image_style r (k - 1)) (r (counterpart k - 1)) (r (counterpart k)))
+  of_lengths k l = search (rules, before_free, counterpart_kind, length_kind, moved)
 
   after_sides : (k : ℕ) → box_words ≤ k → breaks_rule (image_style r) k ≡ breaks_rule r k
   unfolding breaks_rule breaks_as kind_of length_kinds code_kinds length_field image_style counterpart
-  after_sides k l = go (eqb k box_words) (eqb k direction_word) (eqb k (direction_word + 1)) refl refl refl
-    where
-      go : (a b c : Bool) → eqb k box_words ≡ a → eqb k direction_word ≡ b → eqb k (direction_word + 1) ≡ c → breaks_rule (image_style r) k ≡ breaks_rule r k
-      go true b c p q s = rw (eqb-true k box_words p) refl
-      go false true c p q s = rw (eqb-true k direction_word q) (cc (direction_code_lem (r direction_word)))
-      go false false true p q s = rw (eqb-true k (direction_word + 1) s) refl
-      go false false false p q s =
-          ap (λ (w : ℕ). breaks_as (kind_of k) (image_style r (k - 1)) w) (kept k l (eqb-false k direction_word q))
-          ∙ ap (λ (w : ℕ). breaks_as (kind_of k) w (r k)) (kept (k - 1) (omega (arith, eqb-false k box_words p)) (λ e. eqb-false k (direction_word + 1) s (omega arith)))
+  after_sides k l = search (rules, direction_code_lem, kept)
 
   pub image_breaks : (k : ℕ) → breaks_rule (image_style r) k ≡ breaks_rule r (counterpart k)
-  image_breaks k = go (leb box_words k) refl
-    where
-      go : (b : Bool) → leb box_words k ≡ b → breaks_rule (image_style r) k ≡ breaks_rule r (counterpart k)
-      go true e = after_sides k (leb-true box_words k e) ∙ ap (breaks_rule r) (sym (itself k (leb-true box_words k e)))
-      go false e = of_lengths k (leb-false box_words k e)
+  image_breaks k = search (rules, after_sides, itself, of_lengths)

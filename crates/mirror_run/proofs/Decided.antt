@@ -1,4 +1,5 @@
 -- What demand 3 asks of floats, tables and candidates can be computed. Assumes nothing.
+use Rattle.std.proofs.lemmas.Bool.{and_parts}
 use Prim.Native.Nat.{ℕ, ◌*◌, ◌/◌, ◌%◌}
 use native.Mathlib.Nat.{div-add-mod, mul_comm, add-zero}
 use mathlib.Core.Path.{◌≡◌, refl, sym, ◌∙◌}
@@ -20,10 +21,6 @@ use Rattle.util_exact.specs.Value.{Quarter}
 use Rattle.mirror_box.specs.Quarter.{TagRule, whole_quarters, left_out, free, rule_of, Keeps}
 use Rattle.mirror_run.specs.Quarter.{QuarterItem, QuarterTable, QuarterPlace, QuarterCandidates}
 
-both_true : (a b : Bool) → (a && b) ≡ true → (a ≡ true) × (b ≡ true)
-both_true true b e = (refl, e)
-both_true false b e = no e refl
-
 -- ---- floats
 
 abbrev pub is_quarter : Float → Bool
@@ -35,7 +32,7 @@ pub quarter_decided : (x : Float) → is_quarter x ≡ true → Quarter x
 quarter_decided nan e = no e refl
 quarter_decided (inf s) e = no e refl
 quarter_decided (fin s m e) h =
-    let b = both_true (eqb (m * up e * 4 % down e) 0) (leb (m * up e * 4 / down e) 16384) h in
+    let b = and_parts (eqb (m * up e * 4 % down e) 0) (leb (m * up e * 4 / down e) 16384) h in
     record {
       sign = s;
       k = m * up e * 4 / down e;
@@ -66,8 +63,8 @@ is_item word = every lengths (λ l. is_length (length_at word (tag_word l))) && 
 
 item_decided : (word : ℕ → ℕ) → is_item word ≡ true → QuarterItem word
 item_decided word e =
-    let b = both_true (every lengths (λ l. is_length (length_at word (tag_word l))) && is_quarter (of_bits binary32 (word scrollbar_word))) (not (eqb (word ratio_present_word) 1)) e in
-    let c = both_true (every lengths (λ l. is_length (length_at word (tag_word l)))) (is_quarter (of_bits binary32 (word scrollbar_word))) b.0 in
+    let b = and_parts (every lengths (λ l. is_length (length_at word (tag_word l))) && is_quarter (of_bits binary32 (word scrollbar_word))) (not (eqb (word ratio_present_word) 1)) e in
+    let c = and_parts (every lengths (λ l. is_length (length_at word (tag_word l)))) (is_quarter (of_bits binary32 (word scrollbar_word))) b.0 in
     record {
       each = λ l h. kept_decided (rule_of (length_at word (tag_word l)).tag) (length_at word (tag_word l)).value ((every_is lengths (λ l. is_length (length_at word (tag_word l)))).0 c.0 l h);
       scrollbar = quarter_decided (of_bits binary32 (word scrollbar_word)) c.1;
@@ -90,9 +87,9 @@ place_decided c e = four c.place.x.area.start c.place.x.area.end c.place.y.area.
   where
     four : (a b c d : Float) → (is_quarter a && is_quarter b && is_quarter c && is_quarter d) ≡ true → (Quarter a × Quarter b) × (Quarter c × Quarter d)
     four a b c d e =
-        let x = both_true (is_quarter a && is_quarter b && is_quarter c) (is_quarter d) e in
-        let y = both_true (is_quarter a && is_quarter b) (is_quarter c) x.0 in
-        let z = both_true (is_quarter a) (is_quarter b) y.0 in
+        let x = and_parts (is_quarter a && is_quarter b && is_quarter c) (is_quarter d) e in
+        let y = and_parts (is_quarter a && is_quarter b) (is_quarter c) x.0 in
+        let z = and_parts (is_quarter a) (is_quarter b) y.0 in
         ((quarter_decided a z.0, quarter_decided b z.1), (quarter_decided c y.1, quarter_decided d x.1))
 
 abbrev pub are_places : List ℕ → Bool

@@ -5,6 +5,7 @@ use mathlib.Core.Path.{◌≡◌, refl, sym, ap, subst, ◌∙◌}
 use mathlib.Core.Bool.{true, false}
 use mathlib.Core.List.{List, [], ◌∷◌}
 use lib.Ieee.{eq, of_bits}
+use Rattle.std.specs.Prelude.{Result}
 use Rattle.util.specs.Number.{0f}
 use Rattle.util.proofs.Floats.{no}
 use Rattle.style.specs.declared.available_space.AvailableSpace.{AvailableSpace}
@@ -15,6 +16,7 @@ use Rattle.style_record.specs.Decode.{length_at}
 use Rattle.tree_record.specs.Candidate.{candidate_of, axis_of}
 use Rattle.sweep.specs.Sweep.{first_candidates, candidates_in, claimed, keep}
 use Rattle.oof_box.specs.declared.question.Reply.{Reply}
+use Rattle.refusal.specs.declared.Refusal.{Refusal}
 use Rattle.run.specs.declared.Opening.{Opening}
 use Rattle.run.specs.declared.Answer.{Answer}
 use Rattle.run.specs.declared.State.{State}
@@ -38,7 +40,7 @@ nought = quarter_decided (word 0) refl
 -- ---- one screen meets all that the theorem asks
 
 -- of a reply that is refused with 2 or 6, no more is asked than kind, values and lengths
-unread_fair : {before : State} {a : Answer} (m : Message) → is_unread a ≡ true → Alike before.opened.extents m.turn m.image → Fair before a m
+unread_fair : {before : State} {a : Result Answer Refusal} (m : Message) → is_unread a ≡ true → Alike before.opened.extents m.turn m.image → Fair before a m
 unread_fair {before} {a} m u alike =
     record {
       alike = alike;
@@ -48,7 +50,7 @@ unread_fair {before} {a} m u alike =
     }
 
 -- the same reply to both, with their own slices
-own_fair : {before : State} {a : Answer} (reply : Reply) (surfaced surfaced' : List ℕ) → lent_by reply surfaced ≡ lent_by reply surfaced' → QuarterReply reply
+own_fair : {before : State} {a : Result Answer Refusal} (reply : Reply) (surfaced surfaced' : List ℕ) → lent_by reply surfaced ≡ lent_by reply surfaced' → QuarterReply reply
     → claimed before.opened.claims (candidates_in (lent_by reply surfaced)) ≡ []
     → Fair before a (record { turn = turn reply surfaced own; image = turn reply surfaced' own })
 own_fair reply surfaced surfaced' same quarters unclaimed =
@@ -107,7 +109,7 @@ same_space min_content = refl
 same_space max_content = refl
 
 -- the same answers tell the same number
-same_told : {a a' : Answer} → SameAnswer a a' → told a ≐ told a'
+same_told : {a a' : Result Answer Refusal} → SameAnswer a a' → told a ≐ told a'
 unfolding eq of_bits
 same_told (ask (measure_both m)) = same_space m.space.width
 same_told (ask (measure_width m)) = same_space m.space.width
@@ -197,7 +199,7 @@ unfolding of_bits every items length_at
 image_styles_needed = ((quarter_wide, table_decided ahead refl, quarter_at_start), λ n h. no (same_told h.answer) computed.left_differs)
 
 -- the same answers have the same number
-same_number : {a a' : Answer} → SameAnswer a a' → number a ≡ number a'
+same_number : {a a' : Result Answer Refusal} → SameAnswer a a' → number a ≡ number a'
 same_number (ask q) = refl
 same_number (finish r c) = ap (λ (n : ℕ). 10 + n) c
 same_number refused = refl

@@ -1,4 +1,5 @@
 -- A box laid out in both runs: what is written, and what then holds. Assumes nothing.
+use borrow.Author.Rules.{rules}
 use Prim.Native.Nat.{ℕ, ◌+◌, ◌-◌, ◌*◌, ◌<◌, ◌≤◌}
 use native.Mathlib.Omega.{arith}
 use native.Mathlib.Nat.{add-zero, mul-suc, mul-le-mul_left}
@@ -62,9 +63,7 @@ pub laid_as : (f : Frame) (styles : List ℕ) (s : Shared) (p : Own) (overflow :
     laid_out (state_of f s p) overflow surfaced (slices_of styles p)
     ≡ leaving (proceeding styles p.working (opened_of f s.claims p) (counts_after s.claims s.counts surfaced) after.overflow) after
 unfolding laid_out box_at_hand list_words written
-laid_as f styles s p overflow surfaced e =
-    let at = (placed_of styles p s.counts s.replies overflow).layout.location in
-    rw (none_kept s.claims (Some at) (candidates_in surfaced) e, kept_moved s.claims false (Some at) (candidates_in surfaced), add-zero s.counts.filled.working) refl
+laid_as f styles s p overflow surfaced e = search (rules, add-zero, kept_moved, none_kept)
 
 -- ---- layouts
 

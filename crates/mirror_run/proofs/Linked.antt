@@ -1,10 +1,10 @@
 -- What a run and its image have in common between calls: all of the state but the block and the overflow, and their words as far as the
 -- boxes go. Assumes nothing.
-use Rattle.std.specs.Prelude.{Float}
 use Prim.Native.Nat.{ℕ, ◌<◌}
 use mathlib.Core.Path.{◌≡◌, refl}
 use mathlib.Core.Bool.{false}
 use mathlib.Core.List.{List, map}
+use Rattle.std.specs.Prelude.{Option, Some, Result, Float}
 use Rattle.geometry.specs.declared.Rect.{Rect}
 use Rattle.style.specs.declared.ContainingBlockClaims.{ContainingBlockClaims}
 use Rattle.tree.specs.declared.layout.Layout.{Layout}
@@ -21,8 +21,7 @@ use Rattle.sweep.proofs.Listed.{IsBelow}
 use Rattle.oof_resolve.specs.declared.ContainingBlock.{ContainingBlock}
 use Rattle.oof_box.specs.declared.question.Replies.{Replies}
 use Rattle.oof_box.specs.declared.question.Stage.{Stage}
-use Rattle.run.specs.declared.Progress.{Progress}
-use Rattle.run.specs.declared.Progress.TheVariants.{Asking}
+use Rattle.refusal.specs.declared.Refusal.{Refusal}
 use Rattle.run.specs.declared.Counts.{Counts}
 use Rattle.run.specs.declared.Extents.{Extents}
 use Rattle.run.specs.declared.State.{State}
@@ -54,7 +53,7 @@ pub record QuarterFrame (f : Frame) : Type 0 where
 -- ---- what the two share, and what each has for itself
 
 pub record Shared : Type 0 where
-  pub progress : Progress
+  pub progress : Option Stage
   pub replies : Replies
   pub counts : Counts
   pub claims : ContainingBlockClaims
@@ -76,7 +75,7 @@ state_of f s p =
       opened = record { container = p.container; claims = s.claims; extents = f.extents };
     }
 
-abbrev pub outcome_of : Frame → Shared → Own → Answer → Outcome
+abbrev pub outcome_of : Frame → Shared → Own → Result Answer Refusal → Outcome
 outcome_of f s p a =
     record { step = record { state = state_of f s p; answer = a }; layouts = p.layouts; working = p.working; unclaimed = p.unclaimed }
 
@@ -118,11 +117,11 @@ pub record Links (f : Frame) (s : Shared) (p p' : Own) : Type 0 where
   pub laid : Laid f (laid_count s.progress s.counts.begun) p p'
   pub overflow : SameRect p.overflow p'.overflow
   pub replies : QuarterReplies s.replies
-  pub blocks : (stage : Stage) → s.progress ≡ Asking stage → Blocks f p p'
+  pub blocks : (stage : Stage) → s.progress ≡ Some stage → Blocks f p p'
 
 pub data Linked (f : Frame) : Outcome → Outcome → Type 0 where
   linked :
-      (s : Shared) (p p' : Own) {a a' : Answer} → Links f s p p' → SameAnswer a a' → Linked f (outcome_of f s p a) (outcome_of f s p' a')
+      (s : Shared) (p p' : Own) {a a' : Result Answer Refusal} → Links f s p p' → SameAnswer a a' → Linked f (outcome_of f s p a) (outcome_of f s p' a')
 
 pub both_are : (f : Frame) {o o' r r' : Outcome} → o ≡ r → o' ≡ r' → Linked f r r' → Linked f o o'
 both_are f d e h = rw (d, e) h

@@ -1,8 +1,9 @@
 -- Candidates one by one: of two lists, and of the records of a slice. Assumes nothing.
+use borrow.Author.Rules.{rules}
 use Prim.Native.Nat.{ℕ, zero, suc, ◌<◌}
 use native.Mathlib.Omega.{arith}
 use native.Mathlib.Nat.{not-suc-le-zero, le_of_suc-le-suc}
-use mathlib.Core.Path.{◌≡◌, refl, sym, ap, ◌∙◌}
+use mathlib.Core.Path.{◌≡◌, refl, ap, ◌∙◌}
 use mathlib.Core.Bool.{Bool, true, false, cond}
 use mathlib.Core.List.{List, [], ◌∷◌}
 use lib.ListN.{length, get_or, drop, length-map, get_or-map}
@@ -71,14 +72,12 @@ first_length n ws = length-map (records candidate_width n ws) candidate_of ∙ r
 
 pub first_at : (n : ℕ) (ws : List ℕ) (i : ℕ) → i < n → get_or (first_candidates n ws) i nobody ≡ candidate_of (record_at candidate_width ws i)
 unfolding first_candidates
-first_at n ws i h = get_or-map candidate_of (records candidate_width n ws) i [] ∙ ap candidate_of (record_of_records candidate_width n ws i h)
+first_at n ws i h = search (rules, get_or-map, record_of_records)
 
 module _ {R : OofCandidate → OofCandidate → Type 0} (n : ℕ) (ws ws' : List ℕ) where
   pub first_by : ((i : ℕ) → i < n → R (candidate_of (record_at candidate_width ws i)) (candidate_of (record_at candidate_width ws' i)))
       → Each R (first_candidates n ws) (first_candidates n ws')
-  first_by f =
-      each_by (first_candidates n ws) (first_candidates n ws') (first_length n ws ∙ sym (first_length n ws'))
-      (λ i h. let l : i < n = rw (first_length n ws) at h in rw (first_at n ws i l, first_at n ws' i l) (f i l))
+  first_by f = search (rules, each_by, first_at, first_length)
 
   pub first_each : Each R (first_candidates n ws) (first_candidates n ws') → (i : ℕ) → i < n
       → R (candidate_of (record_at candidate_width ws i)) (candidate_of (record_at candidate_width ws' i))

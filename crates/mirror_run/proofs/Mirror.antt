@@ -4,17 +4,17 @@ use mathlib.Core.Path.{◌≡◌, refl, sym, ap, ◌∙◌, subst}
 use mathlib.Core.Bool.{Bool, true, false}
 use mathlib.Core.List.{List, [], ◌∷◌, ◌++◌, foldl}
 use lib.ListN.{length}
+use Rattle.std.specs.Prelude.{Result, Err, is_err}
 use Rattle.refusal.specs.declared.Refusal.{Refusal}
 use Rattle.sweep.specs.Sweep.{candidates_in, keep}
 use Rattle.oof_box.specs.declared.question.Reply.{Reply}
 use Rattle.run.specs.declared.Answer.{Answer}
-use Rattle.run.specs.declared.Answer.TheVariants.{Refused}
 use Rattle.run.specs.declared.Extents.{Extents}
 use Rattle.run.specs.declared.Opening.{Opening}
 use Rattle.run.specs.Call.{Lent, Outcome}
 use Rattle.run.specs.Refusals.{lent_by}
 use Rattle.run.specs.Run.{extents_of, taken_by, opened, refusing, replied}
-use Rattle.run.specs.Theorems.{is_refused, Heard, next, Loan, own, other, next_with}
+use Rattle.run.specs.Theorems.{Heard, next, Loan, own, other, next_with}
 use Rattle.mirror_run.specs.Image.{image_opening, image_styles, image_candidates}
 use Rattle.mirror_run.specs.Quarter.{QuarterArea, QuarterTable, QuarterCandidates, QuarterReply}
 use Rattle.mirror_run.specs.Runs as runs
@@ -36,7 +36,7 @@ long : (styles : List ℕ) (p : Own) {e : Extents} → extents_of (slices_of sty
 long styles p h own = h
 long styles p h (other lent) = refl
 
-module _ (f : Frame) (s : Shared) (styles : List ℕ) (p : Own) (a : Answer) (h : Heard) where
+module _ (f : Frame) (s : Shared) (styles : List ℕ) (p : Own) (a : Result Answer Refusal) (h : Heard) where
   answered : (l : Loan) → (replied (state_of f s p) h.reply h.surfaced (lent_in styles p l)).step.answer ≡ (next_with styles (outcome_of f s p a) h l).step.answer
   unfolding next
   answered own = refl
@@ -44,13 +44,13 @@ module _ (f : Frame) (s : Shared) (styles : List ℕ) (p : Own) (a : Answer) (h 
 
   -- a refused call leaves a run as it was, whatever it is lent
   stays : (l : Loan) {r : Refusal} → replied (state_of f s p) h.reply h.surfaced (lent_in styles p l) ≡ refusing (state_of f s p) (lent_in styles p l) r
-      → next_with styles (outcome_of f s p a) h l ≡ outcome_of f s p (Refused r)
+      → next_with styles (outcome_of f s p a) h l ≡ outcome_of f s p (Err r)
   unfolding next
   stays own e = e
   stays (other lent) e = ap (λ (o : Outcome). record { step = o.step; layouts = p.layouts; working = p.working; unclaimed = p.unclaimed }) e
 
 module _ (f : Frame) (q : QuarterFrame f) where
-  module _ (s : Shared) (p p' : Own) (a a' : Answer) (links : Links f s p p') (reply : Reply) (surfaced surfaced' : List ℕ) where
+  module _ (s : Shared) (p p' : Own) (a a' : Result Answer Refusal) (links : Links f s p p') (reply : Reply) (surfaced surfaced' : List ℕ) where
     abbrev heard : Heard
     heard = record { reply = reply; surfaced = surfaced }
 
@@ -78,7 +78,7 @@ module _ (f : Frame) (q : QuarterFrame f) where
 
     -- what is asked of an accepted call
     abbrev IfAccepted : Loan → Type 0
-    IfAccepted l = is_refused (leaves l).step.answer ≡ false → QuarterReply reply × (keep s.claims true (candidates_in (lent_by reply surfaced)) ≡ [])
+    IfAccepted l = is_err (leaves l).step.answer ≡ false → QuarterReply reply × (keep s.claims true (candidates_in (lent_by reply surfaced)) ≡ [])
 
     -- both are lent their own slices
     read : lent_by reply surfaced ≡ lent_by reply surfaced' → IfAccepted own → Linked f (leaves own) (leaves' own)

@@ -5,6 +5,7 @@ use mathlib.Core.Path.{◌≡◌, refl, subst}
 use mathlib.Core.Bool.{Bool, true, false, cond}
 use lib.Dec.{ltb}
 use borrow.Author.Tests.{ltb-true}
+use Rattle.std.specs.Prelude.{Some, None, Ok}
 use Rattle.style.specs.declared.ContainingBlockClaims.{ContainingBlockClaims}
 use Rattle.style_record.specs.Record.{items}
 use Rattle.style_record.specs.Decode.{style_at}
@@ -12,7 +13,6 @@ use Rattle.oof_box.specs.Cut.{no_replies, asked_after}
 use Rattle.oof_box.specs.declared.question.Asked.{Asked}
 use Rattle.oof_box.specs.declared.question.Replies.{Replies}
 use Rattle.oof_box.specs.declared.question.Stage.{Stage}
-use Rattle.run.specs.declared.Progress.TheVariants.{Finished, Asking}
 use Rattle.run.specs.declared.Counts.{Counts}
 use Rattle.run.specs.declared.Opened.{Opened}
 use Rattle.run.specs.declared.Step.{Step}
@@ -54,11 +54,11 @@ module _ (f : Frame) (q : QuarterFrame f) (style : bad_style f.styles ≡ false)
       (asked_same f q p p' blocks style b b' (ready_at c lists h l) replies given)
     where
       shared : Stage → Shared
-      shared stage = record { progress = Asking stage; replies = replies; counts = c; claims = by }
+      shared stage = record { progress = Some stage; replies = replies; counts = c; claims = by }
 
-      at : (a a' : Asked) → SameAsked a a' → Linked f (outcome_of f (shared a.stage) p (Ask a.question)) (outcome_of f (shared a'.stage) p' (Ask a'.question))
+      at : (a a' : Asked) → SameAsked a a' → Linked f (outcome_of f (shared a.stage) p (Ok (Ask a.question))) (outcome_of f (shared a'.stage) p' (Ok (Ask a'.question)))
       at a a' e =
-          subst (λ (stage : Stage). Linked f (outcome_of f (shared a.stage) p (Ask a.question)) (outcome_of f (shared stage) p' (Ask a'.question))) e.stage
+          subst (λ (stage : Stage). Linked f (outcome_of f (shared a.stage) p (Ok (Ask a.question))) (outcome_of f (shared stage) p' (Ok (Ask a'.question)))) e.stage
           (linked (shared a.stage) p p' (record { lists = lists; laid = laid; overflow = overflow; replies = given; blocks = λ stage s. blocks }) (ask e.question))
 
   -- both go on to the next box, or both finish
@@ -79,6 +79,6 @@ module _ (f : Frame) (q : QuarterFrame f) (style : bad_style f.styles ≡ false)
           let l = ltb-true c.begun c.filled.working e in
           asks_linked more no_replies lists (λ i h. laid i (omega arith)) (record { keyword = tt; fill = tt }) (omega arith) (omega arith)
       go false e =
-          linked (record { progress = Finished; replies = no_replies; counts = c; claims = by }) p p'
+          linked (record { progress = None; replies = no_replies; counts = c; claims = by }) p p'
           (record { lists = lists; laid = laid; overflow = overflow; replies = record { keyword = tt; fill = tt }; blocks = λ stage s. blocks })
           (finish overflow refl)

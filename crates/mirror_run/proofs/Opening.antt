@@ -8,7 +8,7 @@ use mathlib.Core.List.{List, []}
 use lib.Dec.{lit<}
 use lib.ListN.{length, get_or}
 use borrow.Author.Tests.{ltb-false, le-leb}
-use Rattle.std.specs.Prelude.{Ok, Err, Float}
+use Rattle.std.specs.Prelude.{Ok, Err, None, Float}
 use Rattle.geometry.specs.Geometry.{zero_rect, zero_size, zero_point}
 use Rattle.geometry.specs.declared.Rect.{Rect}
 use Rattle.refusal.specs.declared.Refusal.{Refusal}
@@ -26,20 +26,18 @@ use Rattle.sweep.proofs.Listed.{IsBelow}
 use Rattle.oof_resolve.specs.declared.ContainingBlock.{ContainingBlock}
 use Rattle.oof_box.specs.Cut.{no_replies}
 use Rattle.run.specs.declared.Opening.{Opening}
-use Rattle.run.specs.declared.Progress.TheVariants.{Finished}
 use Rattle.run.specs.declared.Counts.{Counts}
 use Rattle.run.specs.declared.Extents.{Extents}
 use Rattle.run.specs.declared.Opened.{Opened}
 use Rattle.run.specs.declared.Step.{Step}
-use Rattle.run.specs.declared.Answer.TheVariants.{Refused}
 use Rattle.run.specs.Call.{Lent, Outcome, unwritten}
 use Rattle.run.specs.Refusals.{Verdict, accepted, refused, bad_area, bad_style, bad_candidate}
 use Rattle.run.specs.Run.{claims_of, container_of, extents_of, asking, finishing, proceeding, opening_verdict, closed, begun, opened_by, opened}
-use Rattle.run.proofs.Ways.{neither, NextWay, asks, ends, next_way}
-use Rattle.util_exact.proofs.Same.{zero_same, equal}
+use Rattle.std.proofs.lemmas.Bool.{or_parts}
+use Rattle.run.proofs.Ways.{NextWay, asks, ends, next_way}
+use Rattle.mirror_box.proofs.Contribution.{zero_rect_lem}
 use Rattle.mirror_box.specs.Image as box
 use Rattle.mirror_box.specs.Quarter.{QuarterContainer, QuarterStyle}
-use Rattle.mirror_box.specs.Mirrored.{SameRect}
 use Rattle.mirror_run.specs.Image.{image_opening, image_styles, image_candidates}
 use Rattle.mirror_run.specs.Quarter.{QuarterArea, QuarterItem, QuarterTable, QuarterCandidates}
 use Rattle.mirror_run.specs.Runs as runs
@@ -69,9 +67,6 @@ quarter_style styles e i l h =
       max = h.each 20 (lit< tt);
       ratio = no_ratio styles e i l h.ratio;
     }
-
-zero_rect_lem : SameRect zero_rect zero_rect
-zero_rect_lem = record { left = equal {g = 1} {b = 0} zero_same; right = equal {g = 1} {b = 0} zero_same; top = refl; bottom = refl }
 
 opened_as : (o : Opening) (candidates : List ℕ) (lent : Lent) {v : Verdict} → opening_verdict o candidates lent ≡ v → opened o candidates lent ≡ opened_by v o candidates lent
 unfolding opened
@@ -122,7 +117,7 @@ module _ (o : Opening) (candidates : List ℕ) (lent : Lent) (layouts working un
     nobodys = record { area = record { size = zero_size; offset = zero_point }; direction = Ltr; overflow = record { x = Visible; y = Visible } }
 
     abbrev over : Shared
-    over = record { progress = Finished; replies = no_replies; counts = record { filled = record { working = 0; unclaimed = 0 }; begun = 0; answered = 0 }; claims = record { absolute = false; fixed = false } }
+    over = record { progress = None; replies = no_replies; counts = record { filled = record { working = 0; unclaimed = 0 }; begun = 0; answered = 0 }; claims = record { absolute = false; fixed = false } }
 
     abbrev untouched : Lent → Own
     untouched lent = record { container = nobodys; overflow = zero_rect; layouts = lent.layouts; working = lent.working; unclaimed = lent.unclaimed }
@@ -131,12 +126,12 @@ module _ (o : Opening) (candidates : List ℕ) (lent : Lent) (layouts working un
     unfolding bad_candidate good_records every
     no_records styles w = rw (le-leb 0 (length w / candidate_width) (omega arith)) refl
 
-    closed_as : (r : Refusal) → unwritten image_lent (record { state = closed image_lent; answer = Refused r }) ≡ outcome_of frame over (untouched image_lent) (Refused r)
+    closed_as : (r : Refusal) → unwritten image_lent (record { state = closed image_lent; answer = Err r }) ≡ outcome_of frame over (untouched image_lent) (Err r)
     unfolding closed nobodys
-    closed_as r = ap (λ (e : Extents). outcome_of (record { container = container_of o; styles = lent.styles; extents = e; at_opening = unclaimed_at_opening o candidates lent }) over (untouched image_lent) (Refused r)) (sym same)
+    closed_as r = ap (λ (e : Extents). outcome_of (record { container = container_of o; styles = lent.styles; extents = e; at_opening = unclaimed_at_opening o candidates lent }) over (untouched image_lent) (Err r)) (sym same)
 
     turned_down : (r : Refusal) → opening_verdict o candidates lent ≡ refused r
-        → Linked frame (unwritten lent (record { state = closed lent; answer = Refused r })) (unwritten image_lent (record { state = closed image_lent; answer = Refused r }))
+        → Linked frame (unwritten lent (record { state = closed lent; answer = Err r })) (unwritten image_lent (record { state = closed image_lent; answer = Err r }))
     unfolding closed nobodys first_candidates records
     turned_down r d =
         rw (closed_as r)
@@ -207,7 +202,7 @@ module _ (o : Opening) (candidates : List ℕ) (lent : Lent) (layouts working un
       module _ (d : opening_verdict o candidates lent ≡ accepted) (passed : OpeningPassed o candidates lent) (passed' : OpeningPassed (image_opening o) image image_lent) where
         direction_there : o.direction < 2
         unfolding bad_area
-        direction_there = let e = ltb-false 1 o.direction (neither _ _ (neither _ _ (neither _ _ passed.area).0).0).0 in omega arith
+        direction_there = let e = ltb-false 1 o.direction (or_parts _ _ (or_parts _ _ (or_parts _ _ passed.area).0).0).0 in omega arith
 
         image_block : container_of (image_opening o) ≡ box.image_container (container_of o)
         unfolding box.image_container

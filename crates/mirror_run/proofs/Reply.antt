@@ -1,11 +1,10 @@
 -- One reply to both runs. Assumes nothing.
-use Rattle.std.specs.Prelude.{Option, None, Some, is_none, Float}
+use Rattle.std.specs.Prelude.{Option, None, Some, is_none, Ok, Err, is_err, Float}
 use Prim.Native.Nat.{ℕ, ◌+◌, ◌-◌, ◌*◌}
 use mathlib.Core.Path.{◌≡◌, refl, sym, ap, ◌∙◌, subst}
 use mathlib.Core.Bool.{true, false}
 use mathlib.Core.List.{List, [], map}
 use lib.ListN.{length}
-use Rattle.std.specs.Prelude.{Some, Ok, Err}
 use Rattle.geometry.specs.declared.Rect.{Rect}
 use Rattle.refusal.specs.declared.Refusal.{Refusal}
 use Rattle.refusal.specs.declared.Refusal.TheVariants.{WrongReply}
@@ -20,12 +19,10 @@ use Rattle.oof_box.specs.declared.question.Replies.{Replies}
 use Rattle.oof_box.specs.declared.question.Stage.{Stage}
 use Rattle.oof_box.specs.declared.question.Taken.{Taken}
 use Rattle.oof_box.specs.declared.question.Taken.TheVariants.{Kept, Laid}
-use Rattle.run.specs.declared.Progress.{Progress}
-use Rattle.run.specs.declared.Progress.TheVariants.{Asking}
 use Rattle.run.specs.Call.{Lent, Outcome}
 use Rattle.run.specs.Refusals.{Verdict, lent_by}
 use Rattle.run.specs.Run.{extents_of, taken_in, taken_by, reply_verdict, measured_on, laid_out, refusing, replied}
-use Rattle.run.specs.Theorems.{is_refused, laid_count}
+use Rattle.run.specs.Theorems.{laid_count}
 use Rattle.run.proofs.Refusals.{measured_accepts, laid_accepts}
 use Rattle.mirror_box.specs.Quarter.{QuarterReplies, QuarterOverflow}
 use Rattle.mirror_box.specs.Mirrored.{MirroredBox}
@@ -63,9 +60,9 @@ module _ (f : Frame) (q : QuarterFrame f) (s : Shared) (p p' : Own) (links : Lin
   refuses : (r : Refusal) → Linked f (refusing (state_of f s p) lent r) (refusing (state_of f s p') lent' r)
   refuses r = linked s p p' links runs.refused
 
-  module _ (stage : Stage) (asked : s.progress ≡ Asking stage) (passed : ReplyPassed (state_of f s p) reply surfaced lent) where
+  module _ (stage : Stage) (asked : s.progress ≡ Some stage) (passed : ReplyPassed (state_of f s p) reply surfaced lent) where
     before : link.Laid f (s.counts.begun - 1) p p'
-    before = subst (λ (at : Progress). link.Laid f (laid_count at s.counts.begun) p p') asked links.laid
+    before = subst (λ (at : Option Stage). link.Laid f (laid_count at s.counts.begun) p p') asked links.laid
 
     -- a size was replied
     measures : (replies : Replies) → QuarterReplies replies → Linked f (measured_on (state_of f s p) replies lent) (measured_on (state_of f s p') replies lent')
@@ -142,7 +139,7 @@ module _ (f : Frame) (q : QuarterFrame f) (s : Shared) (p p' : Own) (links : Lin
 
   abbrev Fair : Type 0
   Fair =
-      is_refused (replied (state_of f s p) reply surfaced lent).step.answer ≡ false
+      is_err (replied (state_of f s p) reply surfaced lent).step.answer ≡ false
       → QuarterReply reply × (keep s.claims true (candidates_in (lent_by reply surfaced)) ≡ [])
 
   pub replied_linked : Fair → Linked f (replied (state_of f s p) reply surfaced lent) (replied (state_of f s p') reply surfaced lent')
@@ -155,14 +152,14 @@ module _ (f : Frame) (q : QuarterFrame f) (s : Shared) (p p' : Own) (links : Lin
       go (Ok tt) None d e = both_are f (replied_as _ reply surfaced lent d e) (replied_as _ reply surfaced lent' (sym same_verdict ∙ d) e) (refuses WrongReply)
       go (Ok tt) (Some (Kept replies)) d e =
           let r = replied_as (state_of f s p) reply surfaced lent d e in
-          let h = fair (ap (λ (o : Outcome). is_refused o.step.answer) r ∙ measured_accepts (state_of f s p) replies lent) in
+          let h = fair (ap (λ (o : Outcome). is_err o.step.answer) r ∙ measured_accepts (state_of f s p) replies lent) in
           let at = was_asking s.progress s.replies reply (ap is_none e) in
           both_are f r (replied_as _ reply surfaced lent' (sym same_verdict ∙ d) e)
           (measures at.0 at.1 (reply_passed (state_of f s p) reply surfaced lent d) replies
           (subst QuarterTaken e (quarter_taken s.replies links.replies s.progress reply h.0)))
       go (Ok tt) (Some (Laid overflow)) d e =
           let r = replied_as (state_of f s p) reply surfaced lent d e in
-          let h = fair (ap (λ (o : Outcome). is_refused o.step.answer) r ∙ laid_accepts (state_of f s p) overflow surfaced lent) in
+          let h = fair (ap (λ (o : Outcome). is_err o.step.answer) r ∙ laid_accepts (state_of f s p) overflow surfaced lent) in
           let at = was_asking s.progress s.replies reply (ap is_none e) in
           let all = taken_all (state_of f s p) reply surfaced e in
           both_are f r (replied_as _ reply surfaced lent' (sym same_verdict ∙ d) e)

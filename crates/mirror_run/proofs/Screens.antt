@@ -5,6 +5,7 @@ use mathlib.Core.Bool.{true, false}
 use mathlib.Core.List.{List, [], ◌∷◌, ◌++◌, foldl, map}
 use lib.ListN.{replicate}
 use lib.Ieee.{Float, add, sub, mul, div, neg, lt, le, eq, is_nan, sum, round, units, odd, size, span, climb, of_bits, to_bits, of_fields, nan_bits, binary32}
+use Rattle.std.specs.Prelude.{Result, Ok, Err}
 use Rattle.util.specs.Order as util-order
 use Rattle.util.specs.Maybe as util-maybe
 use Rattle.geometry.specs.Geometry as geometry-geometry
@@ -16,8 +17,8 @@ use Rattle.style_record.specs.Record as style-record-record
 use Rattle.style_record.specs.Check as style-record-check
 use Rattle.style_record.specs.Decode as style-record-decode
 use Rattle.records.specs.Records as records-records
+use Rattle.tree.specs.Codes as tree-codes
 use Rattle.tree.specs.Static as tree-static
-use Rattle.tree_record.specs.Codes as tree-record-codes
 use Rattle.tree_record.specs.Candidate.{candidate_width}
 use Rattle.tree_record.specs.Candidate as tree-record-candidate
 use Rattle.tree_record.specs.Layout.{layout_width}
@@ -34,6 +35,7 @@ use Rattle.oof_box.specs.Cut as oof-box-cut
 use Rattle.run.specs.Refusals as run-refusals
 use Rattle.run.specs.Run as run-run
 use Rattle.mirror_box.specs.Image as mirror-box-image
+use Rattle.refusal.specs.declared.Refusal.{Refusal}
 use Rattle.refusal.specs.Refusal as refusal
 use Rattle.run.specs.Theorems as theorems
 use Rattle.style.specs.declared.available_space.AvailableSpace.{AvailableSpace}
@@ -45,7 +47,7 @@ use Rattle.oof_box.specs.declared.question.Reply.{Reply}
 use Rattle.oof_box.specs.declared.question.Reply.TheVariants.{Width, LaidOut}
 use Rattle.run.specs.declared.Opening.{Opening}
 use Rattle.run.specs.declared.Answer.{Answer}
-use Rattle.run.specs.declared.Answer.TheVariants.{Ask, Finish, Refused}
+use Rattle.run.specs.declared.Answer.TheVariants.{Ask, Finish}
 use Rattle.run.specs.Call.{Lent, Outcome}
 use Rattle.run.specs.Run.{opened}
 use Rattle.run.specs.Theorems.{Loan, own, other, Turn, laid_so_far, claimed_so_far}
@@ -180,10 +182,10 @@ abbrev pub image_after : List Message → Outcome
 image_after messages = foldl (image_next (image_styles table)) (opened (image_opening panel) (image_candidates panel.area four) lent') messages
 
 -- what a run answered, in numbers: a question 0, a finish 10 and its count, a refusal 20 and its number
-abbrev pub number : Answer → ℕ
-number (Ask q) = 0
-number (Finish f) = 10 + f.count
-number (Refused r) = 20 + refusal.number_of r
+abbrev pub number : Result Answer Refusal → ℕ
+number (Ok (Ask q)) = 0
+number (Ok (Finish f)) = 10 + f.count
+number (Err r) = 20 + refusal.number_of r
 
 abbrev pub number_after : Outcome → ℕ
 number_after o = number o.step.answer
@@ -284,10 +286,10 @@ definite_in (Definite x) = x
 definite_in MinContent = word 0
 definite_in MaxContent = word 0
 
-abbrev pub told : Answer → Float
-told (Ask q) = definite_in (space_in q)
-told (Finish f) = f.overflow.left
-told (Refused r) = word 0
+abbrev pub told : Result Answer Refusal → Float
+told (Ok (Ask q)) = definite_in (space_in q)
+told (Ok (Finish f)) = f.overflow.left
+told (Err r) = word 0
 
 -- the run tells x and its image x', by their bits, and these are different numbers
 pub record Differ (o : Opening) (styles candidates : List ℕ) (messages : List Message) (x x' : ℕ) : Type 0 where
@@ -345,7 +347,7 @@ pub record Computed : Type 0 where
   pub image_at_hand : place_words (image_after []) 0 ≡ 7 ∷ 7 ∷ []
 
 pub computed : Computed
-unfolding add sub mul div neg lt le eq is_nan sum round units odd size span climb of_bits to_bits of_fields nan_bits util-order.zero_of util-order.before util-order.larger util-order.smaller util-order.magnitude util-maybe.map_add util-maybe.map_larger util-maybe.at_most util-maybe.at_least util-maybe.clamped util-maybe.map_clamped geometry-geometry.rect_or_zero geometry-geometry.sum_x geometry-geometry.sum_y geometry-geometry.sums geometry-geometry.rect_sum geometry-geometry.union_of geometry-geometry.smaller_size geometry-geometry.definite geometry-geometry.both_present geometry-geometry.first_size geometry-geometry.filled_size geometry-geometry.added_size geometry-geometry.raised_size geometry-geometry.clamped_size geometry-geometry.clamped_floats geometry-geometry.completed geometry-geometry.with_ratio style-resolve.by_tag style-resolve.resolved style-resolve.takes style-resolve.maybe_resolved style-resolve.resolved_rect style-resolve.resolved_size style-values.self_relative style-values.clamped_space style-values.clamped_spaces style-values.definite_spaces style-codes.sizing_code style-codes.overflow_code style-codes.direction_code style-codes.safety_code style-codes.keyword_code style-codes.bits_code style-codes.sizing_of style-codes.overflow_of style-codes.direction_of style-codes.safety_of style-codes.keyword_of style-codes.alignment_of style-codes.contain_of style-record-record.length_field style-record-record.length_kinds style-record-record.code_kinds style-record-record.kind_of style-record-record.items style-record-check.safety_breaks style-record-check.breaks_as style-record-check.breaks_rule style-record-check.breaks style-record-check.first_from style-record-check.first_broken style-record-check.or_rest style-record-check.checked_from style-record-check.checked style-record-decode.length_at style-record-decode.rect_at style-record-decode.size_at style-record-decode.align_at style-record-decode.ratio_at style-record-decode.overflow_at style-record-decode.style_of style-record-decode.style_at records-records.record_at records-records.records records-records.room records-records.written records-records.wrong records-records.every records-records.breaks records-records.good records-records.good_records tree-static.shifted_axis tree-static.translated tree-record-codes.position_code tree-record-codes.position_of tree-record-codes.edge_code tree-record-codes.edge_of tree-record-candidate.axis_of tree-record-candidate.candidate_of tree-record-candidate.candidate_words tree-record-layout.rect_of tree-record-layout.layout_of tree-record-layout.layout_words sweep-sweep.first_candidates sweep-sweep.candidates_in sweep-sweep.moved sweep-sweep.side sweep-sweep.keep sweep-sweep.list_words oof-axis-axis.from_resolved oof-axis-axis.align_in oof-axis-axis.centered_block oof-axis-axis.static_block oof-axis-axis.inset_block oof-axis-axis.start_is_weaker oof-axis-axis.repaired oof-axis-axis.block oof-axis-axis.both_insets oof-axis-axis.stretch_fit oof-axis-axis.stretching oof-axis-axis.stretches oof-axis-axis.is_stretch oof-axis-axis.halves oof-axis-axis.filled_margins oof-axis-axis.margins oof-axis-axis.is_normal oof-axis-axis.align_edge oof-axis-axis.limit oof-axis-axis.kept_within oof-axis-axis.self_aligned oof-axis-axis.static_aligned oof-axis-axis.position_in oof-axis-axis.position oof-axis-axis.placement common-sizingkeyword.by_keyword common-sizingkeyword.of_resolved common-sizingkeyword.keyword_of common-sizingkeyword.absolute_stretch common-sizingkeyword.if_absent common-sizingkeyword.keywords_of common-scrollableoverflow.propagates common-scrollableoverflow.reach common-scrollableoverflow.placed_at common-scrollableoverflow.contribution oof-resolve-resolved.of_width oof-resolve-resolved.of_each_axis oof-resolve-resolved.less_offset oof-resolve-resolved.horizontal oof-resolve-resolved.vertical oof-resolve-resolved.padding_or_border oof-resolve-resolved.style_size oof-resolve-resolved.min_size oof-resolve-resolved.less_margins oof-resolve-resolved.space_for oof-resolve-resolved.resolved_box oof-place-placing.scrollbar_of oof-place-placing.layout_of oof-place-placing.from_origin oof-place-placing.box_layout oof-box-box.keyword_stretch oof-box-box.size_keywords oof-box-box.settled oof-box-box.ignores_ratio oof-box-box.stretch_ratio oof-box-box.widened oof-box-box.heightened oof-box-box.raised_min oof-box-box.stretched oof-box-box.final_size oof-box-cut.taken oof-box-cut.known_by oof-box-cut.stretched_by oof-box-cut.size_by oof-box-cut.keyword_asked oof-box-cut.size_asked oof-box-cut.asked_of oof-box-cut.asked_after oof-box-cut.layout_after run-refusals.◌when◌else◌ run-refusals.bad_area run-refusals.bad_table run-refusals.bad_list run-refusals.bad_slices run-refusals.other_lengths run-refusals.bad_style run-refusals.bad_candidate run-refusals.list_full run-refusals.wrong_counts run-run.box_at_hand run-run.asking run-run.finishing run-run.proceeding run-run.opening_verdict run-run.closed run-run.begun run-run.opened run-run.taken_by run-run.reply_verdict run-run.measured_on run-run.laid_out run-run.replied mirror-box-image.edge_sum other_direction other_edge counterpart image_style reflected_word image_candidate listed each_record theorems.next
+unfolding add sub mul div neg lt le eq is_nan sum round units odd size span climb of_bits to_bits of_fields nan_bits util-order.zero_of util-order.before util-order.larger util-order.smaller util-order.magnitude util-maybe.map_add util-maybe.map_larger util-maybe.at_most util-maybe.at_least util-maybe.clamped util-maybe.map_clamped geometry-geometry.rect_or_zero geometry-geometry.sum_x geometry-geometry.sum_y geometry-geometry.sums geometry-geometry.rect_sum geometry-geometry.union_of geometry-geometry.smaller_size geometry-geometry.definite geometry-geometry.both_present geometry-geometry.first_size geometry-geometry.filled_size geometry-geometry.added_size geometry-geometry.raised_size geometry-geometry.clamped_size geometry-geometry.clamped_floats geometry-geometry.completed geometry-geometry.with_ratio style-resolve.by_tag style-resolve.resolved style-resolve.takes style-resolve.maybe_resolved style-resolve.resolved_rect style-resolve.resolved_size style-values.self_relative style-values.clamped_space style-values.clamped_spaces style-values.definite_spaces style-codes.sizing_code style-codes.overflow_code style-codes.direction_code style-codes.safety_code style-codes.keyword_code style-codes.bits_code style-codes.sizing_of style-codes.overflow_of style-codes.direction_of style-codes.safety_of style-codes.keyword_of style-codes.alignment_of style-codes.contain_of style-record-record.length_field style-record-record.length_kinds style-record-record.code_kinds style-record-record.kind_of style-record-record.items style-record-check.safety_breaks style-record-check.breaks_as style-record-check.breaks_rule style-record-check.breaks style-record-check.first_from style-record-check.first_broken style-record-check.or_rest style-record-check.checked_from style-record-check.checked style-record-decode.length_at style-record-decode.rect_at style-record-decode.size_at style-record-decode.align_at style-record-decode.ratio_at style-record-decode.overflow_at style-record-decode.style_of style-record-decode.style_at records-records.record_at records-records.records records-records.room records-records.written records-records.wrong records-records.every records-records.breaks records-records.good records-records.good_records tree-static.shifted_axis tree-static.translated style-codes.position_code style-codes.position_of tree-codes.edge_code tree-codes.edge_of tree-record-candidate.axis_of tree-record-candidate.candidate_of tree-record-candidate.candidate_words tree-record-layout.rect_of tree-record-layout.layout_of tree-record-layout.layout_words sweep-sweep.first_candidates sweep-sweep.candidates_in sweep-sweep.moved sweep-sweep.side sweep-sweep.keep sweep-sweep.list_words oof-axis-axis.from_resolved oof-axis-axis.align_in oof-axis-axis.centered_block oof-axis-axis.static_block oof-axis-axis.inset_block oof-axis-axis.start_is_weaker oof-axis-axis.repaired oof-axis-axis.block oof-axis-axis.both_insets oof-axis-axis.stretch_fit oof-axis-axis.stretching oof-axis-axis.stretches oof-axis-axis.is_stretch oof-axis-axis.halves oof-axis-axis.filled_margins oof-axis-axis.margins oof-axis-axis.is_normal oof-axis-axis.align_edge oof-axis-axis.limit oof-axis-axis.kept_within oof-axis-axis.self_aligned oof-axis-axis.static_aligned oof-axis-axis.position_in oof-axis-axis.position oof-axis-axis.placement common-sizingkeyword.by_keyword common-sizingkeyword.of_resolved common-sizingkeyword.keyword_of common-sizingkeyword.absolute_stretch common-sizingkeyword.if_absent common-sizingkeyword.keywords_of common-scrollableoverflow.propagates common-scrollableoverflow.reach common-scrollableoverflow.placed_at common-scrollableoverflow.contribution oof-resolve-resolved.of_width oof-resolve-resolved.of_each_axis oof-resolve-resolved.less_offset oof-resolve-resolved.horizontal oof-resolve-resolved.vertical oof-resolve-resolved.padding_or_border oof-resolve-resolved.style_size oof-resolve-resolved.min_size oof-resolve-resolved.less_margins oof-resolve-resolved.space_for oof-resolve-resolved.resolved_box oof-place-placing.scrollbar_of oof-place-placing.layout_of oof-place-placing.from_origin oof-place-placing.box_layout oof-box-box.keyword_stretch oof-box-box.size_keywords oof-box-box.settled oof-box-box.ignores_ratio oof-box-box.stretch_ratio oof-box-box.widened oof-box-box.heightened oof-box-box.raised_min oof-box-box.stretched oof-box-box.final_size oof-box-cut.taken oof-box-cut.known_by oof-box-cut.stretched_by oof-box-cut.size_by oof-box-cut.keyword_asked oof-box-cut.size_asked oof-box-cut.asked_of oof-box-cut.asked_after oof-box-cut.layout_after run-refusals.◌when◌else◌ run-refusals.bad_area run-refusals.bad_table run-refusals.bad_list run-refusals.bad_slices run-refusals.other_lengths run-refusals.bad_style run-refusals.bad_candidate run-refusals.list_full run-refusals.wrong_counts run-run.box_at_hand run-run.asking run-run.finishing run-run.proceeding run-run.opening_verdict run-run.closed run-run.begun run-run.opened run-run.taken_by run-run.reply_verdict run-run.measured_on run-run.laid_out run-run.replied mirror-box-image.edge_sum other_direction other_edge counterpart image_style reflected_word image_candidate listed each_record theorems.next
 computed =
     record {
       kind = refl;

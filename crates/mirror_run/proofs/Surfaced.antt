@@ -1,4 +1,5 @@
 -- Surfaced candidates that nobody claims: moved by different locations they differ in x alone. Assumes nothing.
+use borrow.Author.Rules.{rules}
 use Prim.Native.Nat.{ℕ, ◌+◌, ◌*◌, ◌≤◌}
 use native.Mathlib.Omega.{arith}
 use mathlib.Core.Path.{◌≡◌, refl, sym, ap, ◌∙◌}
@@ -59,6 +60,4 @@ module _ (by : ContainingBlockClaims) (words : List ℕ) where
       → Unclaimed area n (first_candidates held u) (first_candidates held u')
       → Unclaimed area n (first_candidates (held + count) (appended u held (keep by false (map (moved (Some a)) (candidates_in words)))))
       (first_candidates (held + count) (appended u' held (keep by false (map (moved (Some b)) (candidates_in words)))))
-  surfaced_unclaimed u u' held r r' a b e h =
-      rw (unclaimed_back u held r a, unclaimed_back u' held r' b)
-      (more_unclaimed h (each_kept by false (λ c c' s. s.position) (each_moved a b e (candidates_in words))))
+  surfaced_unclaimed u u' held r r' a b e h = search (rules, each_kept, each_moved, more_unclaimed, unclaimed_back)

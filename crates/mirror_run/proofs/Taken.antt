@@ -8,8 +8,6 @@ use Rattle.oof_box.specs.declared.question.Stage.{Stage}
 use Rattle.oof_box.specs.declared.question.Stage.TheVariants as stage
 use Rattle.oof_box.specs.declared.question.Taken.{Taken}
 use Rattle.oof_box.specs.declared.question.Taken.TheVariants.{Kept, Laid}
-use Rattle.run.specs.declared.Progress.{Progress}
-use Rattle.run.specs.declared.Progress.TheVariants.{Finished, Asking}
 use Rattle.run.specs.Run.{taken_in}
 use Rattle.mirror_box.specs.Quarter.{QuarterReplies, QuarterOverflow}
 use Rattle.mirror_run.specs.Quarter.{QuarterReply}
@@ -30,6 +28,6 @@ module _ (r : Replies) (q : QuarterReplies r) where
   taken_lem stage.LayOut (LaidOut o) h = record { left = h.0; right = h.1 }
   taken_lem _ _ h = tt
 
-  pub quarter_taken : (at : Progress) (reply : Reply) → QuarterReply reply → QuarterTaken (taken_in at r reply)
-  quarter_taken Finished reply h = tt
-  quarter_taken (Asking at) reply h = taken_lem at reply h
+  pub quarter_taken : (at : Option Stage) (reply : Reply) → QuarterReply reply → QuarterTaken (taken_in at r reply)
+  quarter_taken None reply h = tt
+  quarter_taken (Some at) reply h = taken_lem at reply h

@@ -1,12 +1,11 @@
 -- What a call doesn't look at: the surfaced slice of a measure reply; and, if it is refused with 2 or 6, the words of any slice.
 -- Assumes nothing.
-use Rattle.std.specs.Prelude.{Option, None, Some, is_none}
+use Rattle.std.specs.Prelude.{Option, None, Some, is_none, Ok, Err, Result, is_err}
 use Prim.Native.Nat.{ℕ}
 use mathlib.Core.Path.{◌≡◌, refl, sym, ap, ◌∙◌, subst}
 use mathlib.Core.Bool.{Bool, true, false, ◌||◌}
 use mathlib.Core.List.{List}
 use lib.ListN.{length}
-use Rattle.std.specs.Prelude.{Ok, Err}
 use Rattle.util.proofs.Floats.{no}
 use Rattle.refusal.specs.declared.Refusal.{Refusal}
 use Rattle.refusal.specs.declared.Refusal.TheVariants.{BadExtent, BadStyle, BadCandidate, ListFull, WrongReply}
@@ -16,25 +15,23 @@ use Rattle.oof_box.specs.declared.question.Replies.{Replies}
 use Rattle.oof_box.specs.declared.question.Stage.{Stage}
 use Rattle.oof_box.specs.declared.question.Taken.{Taken}
 use Rattle.oof_box.specs.declared.question.Taken.TheVariants.{Kept, Laid}
-use Rattle.run.specs.declared.Progress.{Progress}
-use Rattle.run.specs.declared.Progress.TheVariants.{Finished, Asking}
 use Rattle.run.specs.declared.State.{State}
 use Rattle.run.specs.declared.Answer.{Answer}
-use Rattle.run.specs.declared.Answer.TheVariants.{Ask, Finish, Refused}
+use Rattle.run.specs.declared.Answer.TheVariants.{Ask, Finish}
 use Rattle.run.specs.Call.{Lent}
 use Rattle.run.specs.Refusals.{Verdict, accepted, ◌when◌else◌, ragged, bad_slices, other_lengths, lent_by, bad_style, bad_candidate, bad_candidates, list_full, wrong_counts}
 use Rattle.run.specs.Run.{extents_of, taken_in, taken_by, reply_verdict, measured_on, laid_out, refusing, replied_by, replied}
-use Rattle.run.specs.Theorems.{is_refused}
-use Rattle.run.proofs.Ways.{lent_all, neither}
+use Rattle.std.proofs.lemmas.Bool.{or_parts}
+use Rattle.run.proofs.Ways.{lent_all}
 use Rattle.run.proofs.Refusals.{measured_accepts, laid_accepts}
 use Rattle.mirror_run.specs.Runs.{is_unread}
 use Rattle.mirror_run.proofs.Verdicts.{same_slices, same_others, same_wrong}
 
 -- ---- a reply by its verdict
 
-pub was_asking : (at : Progress) (r : Replies) (reply : Reply) → is_none (taken_in at r reply) ≡ false → (stage : Stage) × (at ≡ Asking stage)
-was_asking Finished r reply e = no refl e
-was_asking (Asking stage) r reply e = (stage, refl)
+pub was_asking : (at : Option Stage) (r : Replies) (reply : Reply) → is_none (taken_in at r reply) ≡ false → (stage : Stage) × (at ≡ Some stage)
+was_asking None r reply e = no refl e
+was_asking (Some stage) r reply e = (stage, refl)
 
 pub replied_as : (s : State) (reply : Reply) (surfaced : List ℕ) (lent : Lent) {v : Verdict} {t : Option Taken} → reply_verdict s reply surfaced lent ≡ v → taken_by s reply ≡ t
     → replied s reply surfaced lent ≡ replied_by v t s surfaced lent
@@ -46,7 +43,7 @@ pub taken_all : (s : State) (reply : Reply) (surfaced : List ℕ) {overflow : _}
 unfolding taken_by
 taken_all s reply surfaced {overflow} e =
     let at = was_asking s.progress s.replies reply (ap is_none e) in
-    lent_all s.replies at.0 reply surfaced (subst (λ (a : Progress). taken_in a s.replies reply ≡ Some (Laid overflow)) at.1 e)
+    lent_all s.replies at.0 reply surfaced (subst (λ (a : Option Stage). taken_in a s.replies reply ≡ Some (Laid overflow)) at.1 e)
 
 -- ---- a surfaced slice that isn't looked at
 
@@ -70,10 +67,10 @@ module _ (s : State) (reply : Reply) (surfaced surfaced' : List ℕ) (lent : Len
 
 -- ---- words that aren't looked at
 
-pub accepted_read : (a : Answer) → is_refused a ≡ false → is_unread a ≡ false
-accepted_read (Ask q) e = refl
-accepted_read (Finish f) e = refl
-accepted_read (Refused r) e = no refl e
+pub accepted_read : (a : Result Answer Refusal) → is_err a ≡ false → is_unread a ≡ false
+accepted_read (Ok (Ask q)) e = refl
+accepted_read (Ok (Finish f)) e = refl
+accepted_read (Err r) e = no refl e
 
 -- what passes tests 2 and 6 is not refused with either
 passed_read : (s : State) (surfaced : List ℕ) (lent : Lent) (style candidate full : Bool) (t : Option Taken) → is_none t ≡ false
@@ -109,7 +106,7 @@ module _ (s : State) (reply : Reply) (surfaced : List ℕ) (lent : Lent) where
       (passed_read s surfaced lent (bad_style lent.styles)
       (bad_candidate lent.styles lent.working s.counts.filled.working || bad_candidates lent.styles (lent_by reply surfaced))
       (list_full s.opened.claims lent s.counts.filled (lent_by reply surfaced)) (taken_by s reply)
-      (neither (is_none (taken_by s reply)) (wrong_counts lent s.counts) d).0)
+      (or_parts (is_none (taken_by s reply)) (wrong_counts lent s.counts) d).0)
 
 -- two calls of one reply with slices of the same lengths, from states that share lengths, counts and question: if one is refused with 2
 -- or 6, so is the other

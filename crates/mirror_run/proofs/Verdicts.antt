@@ -27,7 +27,8 @@ use Rattle.run.specs.declared.State.{State}
 use Rattle.run.specs.Call.{Lent}
 use Rattle.run.specs.Refusals.{accepted, ◌when◌else◌, bad_area, ragged, bad_table, bad_list, bad_slices, other_lengths, lent_by, bad_style, bad_candidate, bad_candidates, list_full, wrong_counts}
 use Rattle.run.specs.Run.{extents_of, claims_of, none_filled, opening_verdict, taken_by, reply_verdict}
-use Rattle.run.proofs.Ways.{passed, neither}
+use Rattle.std.proofs.lemmas.Bool.{or_parts}
+use Rattle.run.proofs.Ways.{passed}
 use Rattle.mirror_run.specs.Image.{image_opening, image_styles, image_candidates, image_candidate}
 use Rattle.mirror_run.proofs.Words as words
 use Rattle.mirror_run.proofs.Counterpart.{direction_code_lem}
@@ -148,7 +149,7 @@ Room by lent filled cs =
 room_passed : (by : ContainingBlockClaims) (lent : Lent) (filled : Filled) (cs : List ℕ) → list_full by lent filled cs ≡ false → Room by lent filled cs
 unfolding list_full
 room_passed by lent filled cs e =
-    let b = neither _ _ e in
+    let b = or_parts _ _ e in
     (room_words candidate_width (length lent.working) filled.working _ (not-false _ b.0), room_words candidate_width (length lent.unclaimed) filled.unclaimed _ (not-false _ b.1))
 
 pub record OpeningPassed (o : Opening) (candidates : List ℕ) (lent : Lent) : Type 0 where
@@ -167,7 +168,7 @@ opening_passed o candidates lent e =
     let candidate = passed BadCandidate _ _ style.1 in
     record {
       area = area.0;
-      layouts = slices_passed lent (neither _ _ extent.0).0;
+      layouts = slices_passed lent (or_parts _ _ extent.0).0;
       style = style.0;
       candidate = not-false _ candidate.0;
       room = room_passed (claims_of o) lent none_filled candidates (passed ListFull _ _ candidate.1).0;
@@ -205,7 +206,7 @@ reply_passed s reply surfaced lent e =
     let extent = passed BadExtent _ _ e in
     let wrong = passed WrongReply _ _ extent.1 in
     let style = passed BadStyle _ _ wrong.1 in
-    let counts = counts_passed lent s.counts (neither (is_none (taken_by s reply)) (wrong_counts lent s.counts) wrong.0).1 in
+    let counts = counts_passed lent s.counts (or_parts (is_none (taken_by s reply)) (wrong_counts lent s.counts) wrong.0).1 in
     record {
       layouts =
           slices_passed lent (first (bad_slices lent) (other_lengths s.opened.extents lent) (ragged candidate_width (lent_by reply surfaced)) extent.0);

@@ -1,6 +1,6 @@
 -- A run and its mirror image, given one list of replies: what is asked of each reply, and what the two then have in common.
 -- Assumes nothing.
-use Rattle.std.specs.Prelude.{ℕ, suc, ◌<◌, ◌≡◌, Bool, false, ◌||◌, List, [], ◌∷◌, eqb, length}
+use Rattle.std.specs.Prelude.{ℕ, suc, ◌<◌, ◌≡◌, Bool, false, ◌||◌, List, [], ◌∷◌, eqb, length, Result, Ok, Err, is_err}
 use Rattle.refusal.specs.Refusal.{number_of}
 use Rattle.refusal.specs.declared.Refusal.{Refusal}
 use Rattle.tree.specs.declared.layout.Layout.{Layout}
@@ -11,13 +11,13 @@ use Rattle.oof_box.specs.declared.question.Question.{Question}
 use Rattle.run.specs.declared.Extents.{Extents}
 use Rattle.run.specs.declared.Finish as ending
 use Rattle.run.specs.declared.Answer.{Answer}
-use Rattle.run.specs.declared.Answer.TheVariants.{Ask, Finish, Refused}
+use Rattle.run.specs.declared.Answer.TheVariants.{Ask, Finish}
 use Rattle.run.specs.Call.{Lent, Outcome}
 use Rattle.run.specs.declared.Opening.{Opening}
 use Rattle.run.specs.declared.State.{State}
 use Rattle.run.specs.Refusals.{lent_by}
 use Rattle.run.specs.Run.{layout_at, extents_of, opened}
-use Rattle.run.specs.Theorems.{is_refused, Loan, own, other, Turn, turned, laid_so_far, claimed_so_far, hoisted}
+use Rattle.run.specs.Theorems.{Loan, own, other, Turn, turned, laid_so_far, claimed_so_far, hoisted}
 use Rattle.mirror_box.specs.Mirrored.{CandidateImage, SameQuestion, MirroredLayout, SameRect}
 use Rattle.mirror_run.specs.Quarter.{QuarterReply}
 
@@ -58,19 +58,19 @@ pub record SameWords (t t' : Turn) : Type 0 where
   pub surfaced : surfaced_in t ≡ surfaced_in t'
 
 -- refused with 2 or 6, which go by lengths, the reply's kind and the state: so it would be with any words in the slices
-abbrev pub is_unread : Answer → Bool
-is_unread (Ask q) = false
-is_unread (Finish f) = false
-is_unread (Refused r) = eqb (number_of r) 2 || eqb (number_of r) 6
+abbrev pub is_unread : Result Answer Refusal → Bool
+is_unread (Ok (Ask q)) = false
+is_unread (Ok (Finish f)) = false
+is_unread (Err r) = eqb (number_of r) 2 || eqb (number_of r) 6
 
 -- by the state that the run's last call returned, and the run's answer to this one
-pub record Fair (before : State) (answer : Answer) (m : Message) : Type 0 where
+pub record Fair (before : State) (answer : Result Answer Refusal) (m : Message) : Type 0 where
   pub alike : Alike before.opened.extents m.turn m.image
   -- unless no word was read
   pub words : is_unread answer ≡ false → SameWords m.turn m.image
   -- an accepted reply: its values are whole quarter pixels, and no box that it surfaces is claimed
-  pub quarters : is_refused answer ≡ false → QuarterReply m.turn.heard.reply
-  pub surfaces_none : is_refused answer ≡ false → claimed before.opened.claims (candidates_in (surfaced_in m.turn)) ≡ []
+  pub quarters : is_err answer ≡ false → QuarterReply m.turn.heard.reply
+  pub surfaces_none : is_err answer ≡ false → claimed before.opened.claims (candidates_in (surfaced_in m.turn)) ≡ []
 
 -- each reply of a list, o being what the run's last call left
 abbrev pub AllFair : List ℕ → Outcome → List Message → Type 0
@@ -80,10 +80,10 @@ AllFair styles o (m ∷ ms) = Fair o.step.state (run_next styles o m).step.answe
 -- ---- what they have in common
 
 -- the same question, finish or refusal
-pub data SameAnswer : Answer → Answer → Type 0 where
-  ask : {q q' : Question} → SameQuestion q q' → SameAnswer (Ask q) (Ask q')
-  finish : {f f' : ending.Finish} → SameRect f.overflow f'.overflow → f.count ≡ f'.count → SameAnswer (Finish f) (Finish f')
-  refused : {r : Refusal} → SameAnswer (Refused r) (Refused r)
+pub data SameAnswer : Result Answer Refusal → Result Answer Refusal → Type 0 where
+  ask : {q q' : Question} → SameQuestion q q' → SameAnswer (Ok (Ask q)) (Ok (Ask q'))
+  finish : {f f' : ending.Finish} → SameRect f.overflow f'.overflow → f.count ≡ f'.count → SameAnswer (Ok (Finish f)) (Ok (Finish f'))
+  refused : {r : Refusal} → SameAnswer (Err r) (Err r)
 
 -- one by one, in turn
 pub data Each (R : OofCandidate → OofCandidate → Type 0) : List OofCandidate → List OofCandidate → Type 0 where

@@ -2,12 +2,15 @@
 use Rattle.std.specs.Prelude.{Float, None, Option, Some, is_some}
 use mathlib.Core.Path.{◌≡◌, refl, subst}
 use mathlib.Core.Bool.{Bool, true, false, false≢true, cond, ◌&&◌, ◌||◌}
+use lib.Dec.{not_T}
 use lib.Ieee.{Float, inf, lt, le, is_nan, of_bits}
+use lib.Ieee.Bits.{is_false}
+use Rattle.std.proofs.lemmas.Float.{lt_irrefl}
 use Rattle.util.specs.Number.{◌⊕◌, ◌⊖◌, 0f}
 use Rattle.util.specs.Order.{before, larger, smaller}
 use Rattle.util.specs.Maybe.{or_zero}
 use Rattle.util.proofs.Laws.{larger_bounds}
-use Rattle.util.proofs.Order.{one_way, not_above_lem, le_self}
+use Rattle.util.proofs.Order.{not_above_lem, le_self}
 use Rattle.geometry.specs.Geometry.{◌to◌, span}
 use Rattle.geometry.specs.declared.Line.{Line}
 use Rattle.style.specs.declared.alignment.AlignmentSafety.{AlignmentSafety}
@@ -64,20 +67,13 @@ block_to_static_end a n k =
 
 -- ---- the block, in order
 
-not_below_itself : (x : Float) → lt x x ≡ false
-not_below_itself x = go (lt x x) refl
-  where
-    go : (b : Bool) → lt x x ≡ b → b ≡ false
-    go true e = absurd (one_way x x e e)
-    go false e = refl
-
 repaired_in_order : (w : Bool) (l : Line Float) → lt (repaired w l).end (repaired w l).start ≡ false
 unfolding repaired
 repaired_in_order w l = go (lt l.end l.start) refl w
   where
     go : (b : Bool) → lt l.end l.start ≡ b → (w : Bool) → let m = cond b (cond w (l.end to l.end) (l.start to l.start)) l in lt m.end m.start ≡ false
-    go true e true = not_below_itself l.end
-    go true e false = not_below_itself l.start
+    go true e true = is_false _ (not_T _ (lt_irrefl l.end))
+    go true e false = is_false _ (not_T _ (lt_irrefl l.start))
     go false e w = e
 
 pub block_in_order : BlockInOrder

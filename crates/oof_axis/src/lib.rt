@@ -1,7 +1,7 @@
 // compute/oof.rs: the absolute positioning layout model in one axis.
 #![tactic(auto, unfolding(crate::specs::Axis::from_resolved, crate::specs::Axis::align_in, crate::specs::Axis::centered_block, crate::specs::Axis::static_block, crate::specs::Axis::inset_block, crate::specs::Axis::start_is_weaker, crate::specs::Axis::repaired, crate::specs::Axis::block, crate::specs::Axis::both_insets, crate::specs::Axis::stretch_fit, crate::specs::Axis::stretching, crate::specs::Axis::stretches, crate::specs::Axis::is_stretch, crate::specs::Axis::halves, crate::specs::Axis::filled_margins, crate::specs::Axis::margins, crate::specs::Axis::is_normal, crate::specs::Axis::align_edge, crate::specs::Axis::limit, crate::specs::Axis::kept_within, crate::specs::Axis::self_aligned, crate::specs::Axis::static_aligned, crate::specs::Axis::position_in, crate::specs::Axis::position, crate::specs::Axis::placement, crate::specs::StaticOffset::offset_edge, crate::specs::StaticOffset::axis_offset, crate::specs::StaticOffset::static_offset))]
 
-ghost use Rattle.std.specs.Prelude.{◌≡◌, not, ◌&&◌, is_some};
+ghost use Rattle.std.specs.Prelude.{◌≡◌, not, ◌&&◌};
 ghost use Rattle.std.specs.Float.Ieee.{lt};
 ghost use Rattle.util.specs.Number.{0f};
 ghost use Rattle.geometry.specs.Geometry.{span};
@@ -49,6 +49,7 @@ pub struct AxisPlacement {
 // ---- static offsets
 
 // Where the border box of a size stands by its static position alone, given its margins.
+// A line for each axis: a point, a size and a rectangle have no zip of three.
 pub fn resolve_static_offset(
     place: Point<AxisStaticPosition>,
     size: Size<f32>,
@@ -94,6 +95,7 @@ pub fn align_in_line(container: Line<f32>, size: f32, edge: AxisStaticEdge) -> f
 
 impl OofAlignment {
     // Of an alignment whose self-start and self-end are already resolved; an unresolved one counts as start or end.
+    // The Rust's name: `from` wouldn't say that they must be.
     pub fn from_resolved(alignment: AlignItems) -> OofAlignment
         ensures { result ≡ from_resolved alignment.keyword }
     {
@@ -253,7 +255,7 @@ impl OofAxis {
     pub fn both_insets(self) -> bool
         ensures { result ≡ both_insets self }
     {
-        self.inset.start.is_some() && self.inset.end.is_some()
+        self.inset.both_ends_defined()
     }
 
     // The size of a border box that fills the block, but for the margins that aren't auto.
@@ -275,7 +277,7 @@ impl OofAxis {
     pub fn is_stretch(self) -> bool
         ensures { result ≡ is_stretch self }
     {
-        self.alignment.stretches(false)
+        self.alignment == OofAlignment::Stretch
     }
 
     // ---- margins
@@ -334,10 +336,7 @@ impl OofAxis {
         if self.both_insets() {
             self.filled_margins(self.inset_modified_containing_block_size() - size)
         } else {
-            Line {
-                start: self.margin.start.unwrap_or(0.0),
-                end: self.margin.end.unwrap_or(0.0),
-            }
+            self.margin.map(|margin| margin.unwrap_or(0.0))
         }
     }
 
@@ -364,6 +363,7 @@ impl OofAxis {
     }
 
     // The start of a margin box that doesn't fit the block, kept within the limit.
+    // Block and margin box's size are parameters, here and below: `position` works both out once, and a struct of them would have no other use.
     fn kept_within(self, limit: Line<f32>, imcb: Line<f32>, outer: f32, edge: AxisStaticEdge) -> f32
         ensures { result ≡ kept_within limit self imcb outer edge }
     {
@@ -408,12 +408,6 @@ impl OofAxis {
         }
     }
 
-    fn no_auto_margin(self) -> bool
-        ensures { result ≡ is_some self.margin.start && is_some self.margin.end }
-    {
-        self.margin.start.is_some() && self.margin.end.is_some()
-    }
-
     // Where the border box of a final size begins.
     pub fn position(self, size: f32, margin: Line<f32>) -> f32
         ensures { result ≡ position self size margin }
@@ -423,7 +417,7 @@ impl OofAxis {
         match (self.inset.start, self.inset.end) {
             (None, None) => self.static_aligned(imcb, outer) + margin.start,
             (None, Some(_)) => imcb.end - size - margin.end,
-            (Some(_), Some(_)) if self.no_auto_margin() => {
+            (Some(_), Some(_)) if self.margin.both_ends_defined() => {
                 let edge = self.alignment.physical_edge(self);
                 self.self_aligned(imcb, outer, edge) + margin.start
             }

@@ -1,8 +1,9 @@
 -- The laws of `specs/Laws.antt`, by the integers of an axis. Assumes nothing.
+use borrow.Author.Rules.{rules}
 use Rattle.std.specs.Prelude.{Float, None, Option, Some, is_some}
 use mathlib.Core.Path.{◌≡◌, refl, sym, ap, subst, ◌∙◌}
 use mathlib.Core.List.{List, [], ◌∷◌}
-use mathlib.Core.Bool.{Bool, true, false, cond, not, ◌&&◌}
+use mathlib.Core.Bool.{Bool, true, false, not, ◌&&◌}
 use Prim.Native.Nat.{ℕ, ◌+◌, ◌*◌, ◌<◌}
 use native.Mathlib.Omega.{arith}
 use lib.Dec.{ltb→lt}
@@ -19,7 +20,7 @@ use Rattle.oof_axis.specs.declared.OofAlignment.TheVariants as align
 use Rattle.oof_axis.specs.declared.OofAxis.{OofAxis}
 use Rattle.oof_axis.specs.Axis.{block, stretch_fit, placement}
 use Rattle.util_exact.specs.Integer.{N, zero_n, add_n, EqN}
-use Rattle.util_exact.proofs.Integers.{Multiple, sub_n, lt_n, le_n, add_mult, sub_mult, even_of, half_twice}
+use Rattle.util_exact.proofs.Integers.{Multiple, sub_n, le_n, add_mult, sub_mult, even_of, half_twice}
 use mathlib.Core.Logic.{◌⊎◌, inl, inr}
 use borrow.Author.Tests.{le-leb}
 use Rattle.util_exact.specs.Value.{◌≐◌, Total}
@@ -223,9 +224,7 @@ module _ (L A S : ℕ) (room : 10 * L + 6 * A + S < 16777216) (a : OofAxis) (α 
 
   module _ (o : Overflows a size) where
     place_is : self_n a.safety (shape a) α.size ℓ (box_n u μ) told ≡ limited_n a.scrolls a.reversed α.size ℓ (box_n u μ) told
-    place_is =
-        ap (λ (s : AlignmentSafety). self_n s (shape a) α.size ℓ (box_n u μ) told) o.safety
-        ∙ overflow_self (shape a) α.size ℓ (box_n u μ) told (over o.over) (not_normal a.alignment o.alignment)
+    place_is = search (rules, not_normal, over, overflow_self)
 
     covers_at : BeginsBy a size (block a).start × EndsFrom a size (block a).end
     covers_at =
@@ -246,15 +245,7 @@ module _ (L A S : ℕ) (room : 10 * L + 6 * A + S < 16777216) (a : OofAxis) (α 
 
   -- the same box, unsafe: its place is as told
   unsafe_exact : ExactAxis L A (with_safety Unsafe a) α
-  unsafe_exact =
-      record {
-        size = h.size;
-        inset_start = h.inset_start;
-        inset_end = h.inset_end;
-        margin_start = h.margin_start;
-        margin_end = h.margin_end;
-        area = h.area;
-      }
+  unsafe_exact = search rules
 
   -- ---- margins and insets
 
@@ -271,11 +262,7 @@ module _ (L A S : ℕ) (room : 10 * L + 6 * A + S < 16777216) (a : OofAxis) (α 
 
   -- one inset, at the end: the block ends there
   far_end : is_some a.inset.start ≡ false → is_some a.inset.end ≡ true → ℓ.end ≡ sub_n α.size α.inset.end
-  far_end p q = rw (p, q) (go (lt_n (sub_n α.size α.inset.end) zero_n))
-    where
-      go : (t : Bool) → (cond t (sub_n α.size α.inset.end toN sub_n α.size α.inset.end) (zero_n toN sub_n α.size α.inset.end)).end ≡ sub_n α.size α.inset.end
-      go true = refl
-      go false = refl
+  far_end p q = search (rules, inset)
 
   end_inset_at : (y : Float) → a.inset.start ≡ None → a.inset.end ≡ Some y → (placement a size).position ∷ size ∷ (placement a size).margin.end ∷ y ∷ [] =Σ a.size ∷ []
   end_inset_at y p q =

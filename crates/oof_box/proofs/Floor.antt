@@ -1,12 +1,12 @@
 -- The law of the final size: never below padding plus border, where that is a number. Assumes nothing.
-use Rattle.std.specs.Prelude.{Float, None, Option, Some, option_map, unwrap_or}
+use Rattle.std.specs.Prelude.{Float, None, Option, Some}
 use Rattle.std.specs.Option.{option_or}
 use mathlib.Core.Bool.{Bool, true, false, cond}
 use lib.Ieee.{Float}
 use Rattle.util.specs.Laws.{AtOrAbove}
 use Rattle.util.specs.Order.{larger}
 use Rattle.util.specs.Maybe.{map_larger, clamped}
-use Rattle.util.proofs.Laws.{at_most_is_transitive, larger_bounds, min_wins}
+use Rattle.util.proofs.Laws.{onwards, larger_bounds, min_wins}
 use Rattle.geometry.specs.Geometry.{sums, rect_sum, definite, first_size, raised_size, clamped_floats}
 use Rattle.geometry.specs.declared.Size.{Size}
 use Rattle.style.specs.declared.Style.{Style}
@@ -17,10 +17,6 @@ use Rattle.oof_box.specs.Box.{size_keywords, raised_min, stretched, final_size}
 use Rattle.oof_box.specs.Cut.{known_by, stretched_by, size_by, layout_after}
 use Rattle.oof_box.specs.Theorems.{SizeLaw}
 use Rattle.oof_box.specs.declared.sizing.Stretched.{Stretched}
-
--- what is at least a number that is at least e, is at least e
-pub onwards : (e low x : Float) → AtOrAbove e low → AtOrAbove low x → AtOrAbove e x
-onwards e low x h k p = let a = h p in let b = k a.0 in (b.0, at_most_is_transitive e low x a.1 b.1)
 
 -- a bound that is present and at least e
 data Floor (e : Float) : Option Float → Type 0 where

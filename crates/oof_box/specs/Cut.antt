@@ -76,15 +76,26 @@ known_by style box keywords reply =
     by side_by keywords.height box.size.height (measured_sides reply).height))
     box.size
 
-abbrev pub sizing : Style → ResolvedBox → Size (Option SizingKeywordResolution) → Replies → Sizing
+-- what a size is worked out from
+pub record SizedBy : Type 0 where
+  pub style : Style
+  pub resolved : ResolvedBox
+  pub keywords : Size (Option SizingKeywordResolution)
+  pub replies : Replies
+
+abbrev pub sizing : Style → ResolvedBox → Size (Option SizingKeywordResolution) → Replies → SizedBy
 sizing style box keywords replies = record { style = style; resolved = box; keywords = keywords; replies = replies }
 
+-- the code has style and resolved box by reference
+abbrev pub sized_by : Sizing → SizedBy
+sized_by s = sizing s.style.now s.resolved.now s.keywords s.replies
+
 -- step 5
-unfoldable pub stretched_by : Sizing → Stretched
+unfoldable pub stretched_by : SizedBy → Stretched
 stretched_by s = stretched s.style s.resolved (known_by s.style s.resolved s.keywords s.replies.keyword)
 
 -- step 6; before a reply, nothing was measured
-unfoldable pub size_by : Sizing → Size Float
+unfoldable pub size_by : SizedBy → Size Float
 size_by s = final_size s.resolved (stretched_by s) (unwrap_or s.replies.fill zero_size)
 
 -- ---- questions
@@ -117,7 +128,7 @@ abbrev pub lay_out_asked : ℕ → Size Float → Size AvailableSpace → Asked
 lay_out_asked node size space = record { stage = LayOut; question = question.LayOut (lay_out_input node size space) }
 
 -- steps 5 and 6: measure what is still absent, once; else lay out
-unfoldable pub size_asked : ℕ → Sizing → Asked
+unfoldable pub size_asked : ℕ → SizedBy → Asked
 size_asked node s =
     let known = (stretched_by s).known in
     cond (is_some s.replies.fill || both_present known) (lay_out_asked node (size_by s) s.resolved.space)
@@ -128,7 +139,7 @@ abbrev pub is_first : Replies → Bool
 is_first r = is_none r.fill && is_none r.keyword
 
 -- the question after the replies kept, of a box that is resolved
-unfoldable pub asked_of : ℕ → Sizing → Asked
+unfoldable pub asked_of : ℕ → SizedBy → Asked
 asked_of node s =
     let later = size_asked node s in
     cond (is_first s.replies)

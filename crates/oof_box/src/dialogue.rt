@@ -2,24 +2,26 @@
 #![tactic(auto, unfolding(crate::specs::Cut::size_by, crate::specs::Cut::keyword_asked, crate::specs::Cut::size_asked, crate::specs::Cut::asked_of, crate::specs::Cut::asked_after, crate::specs::Cut::layout_after))]
 
 ghost use Rattle.std.specs.Prelude.{◌≡◌};
-ghost use Rattle.oof_box.specs.Cut.{both_asked, width_asked, height_asked, keyword_asked, fill_asked, lay_out_asked, is_first, size_asked, asked_of, asked_after, layout_after};
+ghost use Rattle.oof_box.specs.Box.{keyword_stretch};
+ghost use Rattle.oof_box.specs.Cut.{sized_by, both_asked, width_asked, height_asked, keyword_asked, fill_asked, lay_out_asked, is_first, size_asked, asked_of, asked_after, layout_after};
 
 use crate::question::{Asked, LayoutInput, MeasureInput, Question, Replies, Stage};
 use crate::sizing;
 use crate::sizing::Sizing;
 use geometry::{Rect, Size};
-use oof_common::sizing_keyword::SizingKeywordResolution;
 use oof_common::sizing_keyword::SizingKeywordResolution::{Exact, Measure};
 use oof_place;
 use oof_place::OofBoxLayout;
 use oof_resolve;
-use oof_resolve::{ContainingBlock, ResolvedBox};
+use oof_resolve::ContainingBlock;
 use style::Style;
 use style::available_space::AvailableSpace;
 use tree::layout::OofCandidate;
 
 // ---- step 4
 
+// Five questions, here and below, each by a function: each has another stage and input, and a definition that names it.
+// The node stands beside what a size is worked out from: it goes into the question alone.
 fn both_asked(node: u32, spacex: AvailableSpace, spacey: AvailableSpace) -> Asked
     ensures { result ≡ both_asked node spacex spacey }
 {
@@ -86,15 +88,12 @@ fn height_asked(
 
 // The question for size keywords, if a side is to be measured. Two measured sides are one question. An exact width is filled in
 // before the height is measured.
-fn keyword_asked(
-    node: u32,
-    keywords: Size<Option<SizingKeywordResolution>>,
-    known: Size<Option<f32>>,
-    stretch: Size<f32>,
-) -> Option<Asked>
-    ensures { result ≡ keyword_asked node keywords.width keywords.height known stretch }
+fn keyword_asked(node: u32, sizing: &Sizing) -> Option<Asked>
+    ensures { result ≡ keyword_asked node sizing.now.keywords.width sizing.now.keywords.height sizing.now.resolved.now.size (keyword_stretch sizing.now.resolved.now) }
 {
-    match (keywords.width, keywords.height) {
+    let known = sizing.resolved.size;
+    let stretch = sizing::keyword_stretch(sizing.resolved);
+    match (sizing.keywords.width, sizing.keywords.height) {
         (Some(Measure(spacex)), Some(Measure(spacey))) => Some(both_asked(node, spacex, spacey)),
         (Some(Measure(spacex)), _) => Some(width_asked(node, spacex, known, stretch)),
         (Some(Exact(w)), Some(Measure(spacey))) => {
@@ -131,7 +130,7 @@ fn lay_out_asked(node: u32, size: Size<f32>, space: Size<AvailableSpace>) -> Ask
 
 // What is still absent is measured, once; else the box is laid out.
 fn size_asked(node: u32, sizing: &Sizing) -> Asked
-    ensures { result ≡ size_asked node sizing.now }
+    ensures { result ≡ size_asked node (sized_by sizing.now) }
 {
     let space = sizing.resolved.space;
     let at = sizing.stretched();
@@ -150,12 +149,10 @@ fn is_first(replies: Replies) -> bool
 }
 
 fn asked_of(node: u32, sizing: &Sizing) -> Asked
-    ensures { result ≡ asked_of node sizing.now }
+    ensures { result ≡ asked_of node (sized_by sizing.now) }
 {
     if is_first(sizing.replies) {
-        let resolved = sizing.resolved;
-        let stretch = sizing::keyword_stretch(resolved);
-        if let Some(first) = keyword_asked(node, sizing.keywords, resolved.size, stretch) {
+        if let Some(first) = keyword_asked(node, sizing) {
             return first;
         }
     }
@@ -163,29 +160,32 @@ fn asked_of(node: u32, sizing: &Sizing) -> Asked
 }
 
 // What a box asks, by the replies so far.
+// A call of its own, as is the next: put into its callers, it would leave its stack to what they call besides.
+#[inline(never)]
 pub fn next_question(
-    container: ContainingBlock,
-    style: Style,
-    candidate: OofCandidate,
+    container: &ContainingBlock,
+    style: &Style,
+    candidate: &OofCandidate,
     replies: Replies,
 ) -> Asked
-    ensures { result ≡ asked_after container style candidate replies }
+    ensures { result ≡ asked_after container.now style.now candidate.now replies }
 {
     let resolved = oof_resolve::resolve_box(container, style, candidate);
-    asked_of(candidate.node, &Sizing::new(style, resolved, replies))
+    asked_of(candidate.node, &Sizing::new(style, &resolved, replies))
 }
 
 // The layout of a box that the host has laid out, with its overflow.
+#[inline(never)]
 pub fn layout_oof_box(
-    container: ContainingBlock,
-    style: Style,
-    candidate: OofCandidate,
+    container: &ContainingBlock,
+    style: &Style,
+    candidate: &OofCandidate,
     replies: Replies,
     overflow: Rect<f32>,
 ) -> OofBoxLayout
-    ensures { result ≡ layout_after container style candidate replies overflow }
+    ensures { result ≡ layout_after container.now style.now candidate.now replies overflow }
 {
     let resolved = oof_resolve::resolve_box(container, style, candidate);
-    let size = Sizing::new(style, resolved, replies).final_size();
-    oof_place::place(container, style, candidate, resolved, size, overflow)
+    let size = Sizing::new(style, &resolved, replies).final_size();
+    oof_place::place(container, style, candidate, &resolved, size, overflow)
 }

@@ -16,6 +16,7 @@ pub struct MeasureInput {
 }
 
 // What is to be laid out: a node, its final size and its available space.
+// Two types, as known and final size are two words of document 01: the one field of a generic type would have neither name.
 #[derive(Clone, Copy)]
 pub struct LayoutInput {
     pub node: u32,
@@ -59,6 +60,7 @@ pub struct Asked {
 }
 
 // The reply to the question for size keywords.
+// A type of its own beside `Reply`: so no reader of what is kept has a case for `LaidOut`.
 #[derive(Clone, Copy)]
 pub enum KeywordReply {
     Both(Size<f32>),
@@ -67,7 +69,7 @@ pub enum KeywordReply {
 }
 
 // The replies to a box's measure questions so far; `fill` is that to the question of step 6.
-#[derive(Clone, Copy)]
+#[derive(Clone, Copy, Default)]
 pub struct Replies {
     pub keyword: Option<KeywordReply>,
     pub fill: Option<Size<f32>>,
@@ -81,11 +83,7 @@ pub enum Taken {
 }
 
 impl Replies {
-    pub const NONE: Replies = Replies {
-        keyword: None,
-        fill: None,
-    };
-
+    // These two differ in the field that they write, which no argument can name.
     fn with_keyword(self, keyword: KeywordReply) -> Taken
         ensures { result ≡ with_keyword self keyword }
     {

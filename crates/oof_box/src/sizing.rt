@@ -5,7 +5,7 @@ ghost use Rattle.std.specs.Prelude.{◌≡◌, not, ◌&&◌, unwrap_or, is_some
 ghost use Rattle.geometry.specs.Geometry.{zero_size};
 ghost use Rattle.oof_axis.specs.Axis.{stretches};
 ghost use Rattle.oof_box.specs.Box.{keyword_stretch, size_keywords, has_keyword, settled, widened, heightened, ignores_ratio, stretch_ratio, raised_min, stretched, final_size};
-ghost use Rattle.oof_box.specs.Cut.{measured_sides, side_by, sizing, known_by, stretched_by, size_by};
+ghost use Rattle.oof_box.specs.Cut.{measured_sides, side_by, sizing, sized_by, known_by, stretched_by, size_by};
 
 use crate::question::{KeywordReply, Replies};
 use geometry::Size;
@@ -18,9 +18,9 @@ use util::sys;
 
 // What the size of a box is worked out from: its style, what is resolved of it, its size keywords, and the replies so far.
 #[derive(Clone, Copy)]
-pub struct Sizing {
-    pub style: Style,
-    pub resolved: ResolvedBox,
+pub struct Sizing<'a> {
+    pub style: &'a Style,
+    pub resolved: &'a ResolvedBox,
     pub keywords: Size<Option<SizingKeywordResolution>>,
     pub replies: Replies,
 }
@@ -35,11 +35,11 @@ pub struct Stretched {
 // ---- step 4
 
 // The stretch size of each side's size keyword.
-pub fn keyword_stretch(resolved: ResolvedBox) -> Size<f32>
-    ensures { result ≡ keyword_stretch resolved }
+// A line for each axis, here and below: a resolved box has its two axes by name, and a closure over both would be told which.
+pub fn keyword_stretch(resolved: &ResolvedBox) -> Size<f32>
+    ensures { result ≡ keyword_stretch resolved.now }
 {
-    let x = resolved.horizontal;
-    let y = resolved.vertical;
+    let (x, y) = (&resolved.horizontal, &resolved.vertical);
     Size {
         width: sizing_keyword::absolute_stretch_size(x.size, x.inset, x.margin),
         height: sizing_keyword::absolute_stretch_size(y.size, y.inset, y.margin),
@@ -47,8 +47,8 @@ pub fn keyword_stretch(resolved: ResolvedBox) -> Size<f32>
 }
 
 // The size keywords of the absent sides.
-pub fn size_keywords(style: Style, resolved: ResolvedBox) -> Size<Option<SizingKeywordResolution>>
-    ensures { result ≡ size_keywords style resolved }
+pub fn size_keywords(style: &Style, resolved: &ResolvedBox) -> Size<Option<SizingKeywordResolution>>
+    ensures { result ≡ size_keywords style.now resolved.now }
 {
     let area = Size {
         width: resolved.horizontal.size,
@@ -91,86 +91,14 @@ fn side_by(
     }
 }
 
+// Two make one bool, which no map of a size does.
 fn has_keyword(keywords: Size<Option<SizingKeywordResolution>>) -> bool
     ensures { result ≡ has_keyword keywords }
 {
     keywords.width.is_some() || keywords.height.is_some()
 }
 
-// Ratio, then clamp.
-fn settle(size: Size<Option<f32>>, ratio: Option<f32>, resolved: ResolvedBox) -> Size<Option<f32>>
-    ensures { result ≡ settled ratio resolved size }
-{
-    size.maybe_apply_aspect_ratio(ratio)
-        .maybe_clamp(resolved.min, resolved.max)
-}
-
 // ---- step 5
-
-// Whether an absent side takes the stretch-fit size.
-fn is_stretched(known: Option<f32>, axis: OofAxis, style: Style) -> bool
-    ensures { result ≡ (not (is_some known) && stretches axis (not style.replaced && not style.table)) }
-{
-    known.is_none() && axis.is_stretch_sized(style.replaced, style.table)
-}
-
-// Whether stretch is said of both axes, and both are stretched.
-fn ignores_ratio(resolved: ResolvedBox, stretchx: bool, stretchy: bool) -> bool
-    ensures { result ≡ ignores_ratio resolved stretchx stretchy }
-{
-    stretchx && stretchy && resolved.horizontal.is_stretch() && resolved.vertical.is_stretch()
-}
-
-// The ratio of step 5.
-fn stretch_ratio(style: Style, resolved: ResolvedBox, stretchx: bool, stretchy: bool) -> Option<f32>
-    ensures { result ≡ stretch_ratio style resolved stretchx stretchy }
-{
-    if ignores_ratio(resolved, stretchx, stretchy) {
-        None
-    } else {
-        style.ratio
-    }
-}
-
-// `widen` and `heighten` stay two functions: one of both would be given the width or the height to write, and the test.
-fn widen(
-    known: Size<Option<f32>>,
-    ratio: Option<f32>,
-    resolved: ResolvedBox,
-    stretchx: bool,
-) -> Size<Option<f32>>
-    ensures { result ≡ widened ratio resolved stretchx known }
-{
-    if stretchx {
-        let size = Size {
-            width: Some(resolved.fit.width),
-            ..known
-        };
-        settle(size, ratio, resolved)
-    } else {
-        known
-    }
-}
-
-// Only a height that is still absent: a stretched width may have given it by the ratio.
-fn heighten(
-    known: Size<Option<f32>>,
-    ratio: Option<f32>,
-    resolved: ResolvedBox,
-    stretchy: bool,
-) -> Size<Option<f32>>
-    ensures { result ≡ heightened ratio resolved stretchy known }
-{
-    if stretchy && known.height.is_none() {
-        let size = Size {
-            height: Some(resolved.fit.height),
-            ..known
-        };
-        settle(size, ratio, resolved)
-    } else {
-        known
-    }
-}
 
 // A table's min, raised to the stretch-fit size.
 fn raised_min(stretches: bool, min: Option<f32>, fit: f32) -> Option<f32>
@@ -183,36 +111,11 @@ fn raised_min(stretches: bool, min: Option<f32>, fit: f32) -> Option<f32>
     }
 }
 
-// Width, then height; a table raises its min instead.
-fn stretch(style: Style, resolved: ResolvedBox, known: Size<Option<f32>>) -> Stretched
-    ensures { result ≡ stretched style resolved known }
-{
-    let min = resolved.min;
-    let fit = resolved.fit;
-    let stretchx = is_stretched(known.width, resolved.horizontal, style);
-    let stretchy = is_stretched(known.height, resolved.vertical, style);
-    if style.table {
-        let raised = Size {
-            width: raised_min(stretchx, min.width, fit.width),
-            height: raised_min(stretchy, min.height, fit.height),
-        };
-        return Stretched { known, min: raised };
-    }
-    let ratio = stretch_ratio(style, resolved, stretchx, stretchy);
-    let wide = widen(known, ratio, resolved, stretchx);
-    Stretched {
-        known: heighten(wide, ratio, resolved, stretchy),
-        min,
-    }
-}
+// ---- steps 4 to 6, of a box
 
-// ---- the whole
-
-impl Sizing {
-    // Inlined: as a call it copies style and resolved box once more, which makes a run of one box 4% slower.
-    #[inline(always)]
-    pub fn new(style: Style, resolved: ResolvedBox, replies: Replies) -> Sizing
-        ensures { result ≡ sizing style resolved (size_keywords style resolved) replies }
+impl<'a> Sizing<'a> {
+    pub fn new(style: &'a Style, resolved: &'a ResolvedBox, replies: Replies) -> Sizing<'a>
+        ensures { sized_by result ≡ sizing style.now resolved.now (size_keywords style.now resolved.now) replies }
     {
         Sizing {
             style,
@@ -222,10 +125,20 @@ impl Sizing {
         }
     }
 
+    // Ratio, then clamp.
+    fn settle(&self, size: Size<Option<f32>>, ratio: Option<f32>) -> Size<Option<f32>>
+        ensures { result ≡ settled ratio self.now.resolved.now size }
+    {
+        size.maybe_apply_aspect_ratio(ratio)
+            .maybe_clamp(self.resolved.min, self.resolved.max)
+    }
+
+    // ---- step 4
+
     // Known sizes, once the question for size keywords is answered. Of the Rust's `resolve_absolute_sizing_keywords` this is the
-    // part after it measured.
+    // part after it measured. A line for each axis: it takes three sizes, and `zip_map` two.
     fn known(&self) -> Size<Option<f32>>
-        ensures { result ≡ known_by self.now.style self.now.resolved self.now.keywords self.now.replies.keyword }
+        ensures { result ≡ known_by self.now.style.now self.now.resolved.now self.now.keywords self.now.replies.keyword }
     {
         let known = self.resolved.size;
         if has_keyword(self.keywords) {
@@ -234,22 +147,118 @@ impl Sizing {
                 width: side_by(self.keywords.width, known.width, measured.width),
                 height: side_by(self.keywords.height, known.height, measured.height),
             };
-            settle(size, self.style.ratio, self.resolved)
+            self.settle(size, self.style.ratio)
         } else {
             known
         }
     }
 
+    // ---- step 5
+
+    // Whether an absent side takes the stretch-fit size.
+    fn is_stretched(&self, known: Option<f32>, axis: &OofAxis) -> bool
+        ensures { result ≡ (not (is_some known) && stretches axis.now (not self.now.style.now.replaced && not self.now.style.now.table)) }
+    {
+        known.is_none() && axis.is_stretch_sized(self.style.replaced, self.style.table)
+    }
+
+    // Whether stretch is said of both axes, and both are stretched.
+    // Two flags, here and below, and no `Size` of them: `widen` and `heighten` take one each.
+    fn ignores_ratio(&self, stretchx: bool, stretchy: bool) -> bool
+        ensures { result ≡ ignores_ratio self.now.resolved.now stretchx stretchy }
+    {
+        stretchx
+            && stretchy
+            && self.resolved.horizontal.is_stretch()
+            && self.resolved.vertical.is_stretch()
+    }
+
+    // The ratio of step 5.
+    fn stretch_ratio(&self, stretchx: bool, stretchy: bool) -> Option<f32>
+        ensures { result ≡ stretch_ratio self.now.style.now self.now.resolved.now stretchx stretchy }
+    {
+        if self.ignores_ratio(stretchx, stretchy) {
+            None
+        } else {
+            self.style.ratio
+        }
+    }
+
+    // `widen` and `heighten` stay two functions: one of both would be given the width or the height to write, and the test.
+    fn widen(
+        &self,
+        known: Size<Option<f32>>,
+        ratio: Option<f32>,
+        stretchx: bool,
+    ) -> Size<Option<f32>>
+        ensures { result ≡ widened ratio self.now.resolved.now stretchx known }
+    {
+        if stretchx {
+            let size = Size {
+                width: Some(self.resolved.fit.width),
+                ..known
+            };
+            self.settle(size, ratio)
+        } else {
+            known
+        }
+    }
+
+    // Only a height that is still absent: a stretched width may have given it by the ratio.
+    fn heighten(
+        &self,
+        known: Size<Option<f32>>,
+        ratio: Option<f32>,
+        stretchy: bool,
+    ) -> Size<Option<f32>>
+        ensures { result ≡ heightened ratio self.now.resolved.now stretchy known }
+    {
+        if stretchy && known.height.is_none() {
+            let size = Size {
+                height: Some(self.resolved.fit.height),
+                ..known
+            };
+            self.settle(size, ratio)
+        } else {
+            known
+        }
+    }
+
+    // Width, then height; a table raises its min instead.
+    fn stretch(&self, known: Size<Option<f32>>) -> Stretched
+        ensures { result ≡ stretched self.now.style.now self.now.resolved.now known }
+    {
+        let min = self.resolved.min;
+        let fit = self.resolved.fit;
+        let stretchx = self.is_stretched(known.width, &self.resolved.horizontal);
+        let stretchy = self.is_stretched(known.height, &self.resolved.vertical);
+        if self.style.table {
+            let raised = Size {
+                width: raised_min(stretchx, min.width, fit.width),
+                height: raised_min(stretchy, min.height, fit.height),
+            };
+            return Stretched { known, min: raised };
+        }
+        let ratio = self.stretch_ratio(stretchx, stretchy);
+        let wide = self.widen(known, ratio, stretchx);
+        Stretched {
+            known: self.heighten(wide, ratio, stretchy),
+            min,
+        }
+    }
+
     // Known sizes and min, by the reply for size keywords.
     pub fn stretched(&self) -> Stretched
-        ensures { result ≡ stretched_by self.now }
+        ensures { result ≡ stretched_by (sized_by self.now) }
     {
-        stretch(self.style, self.resolved, self.known())
+        self.stretch(self.known())
     }
+
+    // ---- step 6
 
     // Only an absent side takes what was measured; then the clamp. Before a reply, nothing was measured.
     pub fn fill(&self, at: Stretched) -> Size<f32>
-        ensures { result ≡ final_size self.now.resolved at (unwrap_or self.now.replies.fill zero_size) }
+        ensures { result ≡ final_size self.now.resolved.now at (unwrap_or self.now.replies.fill zero_size) }
     {
         let measured = self.replies.fill.unwrap_or(Size::ZERO);
         at.known
@@ -259,7 +268,7 @@ impl Sizing {
 
     // The final size, by the replies.
     pub fn final_size(&self) -> Size<f32>
-        ensures { result ≡ size_by self.now }
+        ensures { result ≡ size_by (sized_by self.now) }
     {
         self.fill(self.stretched())
     }

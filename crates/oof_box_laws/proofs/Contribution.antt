@@ -1,4 +1,5 @@
 -- What a box adds to the scrollable overflow. Assumes nothing.
+use Rattle.std.proofs.lemmas.Bool.{or_from}
 use Rattle.std.specs.Prelude.{Float}
 use mathlib.Core.Path.{◌≡◌, refl, sym, ap, ap₂, subst, ◌∙◌}
 use mathlib.Core.Logic.{◌⊎◌, inl, inr}
@@ -323,9 +324,6 @@ at_most_false v w f = go (le_n v w) refl
     go true e = absurd (f (at_most v w e))
     go false e = refl
 
-neither : (a b : Bool) → a ≡ false → b ≡ false → a || b ≡ false
-neither a b e f = rw (e, f) refl
-
 where_scrolling : (s b : Bool) → (s ≡ true → b ≡ false) → s && b ≡ false
 where_scrolling true b f = f refl
 where_scrolling false b f = refl
@@ -373,7 +371,7 @@ module _ (container : ContainingBlock) (style : Style) (l : Layout) (h : Fine co
 
   past : PastTheStart container l → le (placed_at (origin container style l h).x (x_line container style l h)).end 0f || le (placed_at (origin container style l h).y (y_line container style l h)).end 0f ≡ false
   unfolding from_origin placed_at
-  past p = neither _ _ (go container.direction refl) (downwards p.2)
+  past p = or_from _ _ (go container.direction refl) (downwards p.2)
     where
       go : (d : Direction) → container.direction ≡ d
           → le (cond (is_rtl d) (container.area.size.width ⊖ (l.location.x ⊖ container.area.offset.x) ⊖ l.size.width) (l.location.x ⊖ container.area.offset.x) ⊕ (x_line container style l h).end) 0f ≡ false
@@ -384,7 +382,7 @@ module _ (container : ContainingBlock) (style : Style) (l : Layout) (h : Fine co
   counts w t p =
       subst (HoldsTheBox container l)
       (sym
-      (not_zeros (origin container style l h) l.size l.overflow style.overflow style.contain (any_scroll_container container.overflow) (neither _ _ (wide w) (tall t))
+      (not_zeros (origin container style l h) l.size l.overflow style.overflow style.contain (any_scroll_container container.overflow) (or_from _ _ (wide w) (tall t))
       (where_scrolling (any_scroll_container container.overflow) _ (λ s. past (p (scroller container.overflow s))))))
       (box_held container style l h)
 
@@ -478,7 +476,7 @@ unreachable_zeros at scrolls x y s o = rw (s, or_true (le (placed_at at.x x).end
 
 not_before : (scrolls a b : Bool) → (scrolls ≡ false) ⊎ ((a ≡ false) × (b ≡ false)) → scrolls && (a || b) ≡ false
 not_before scrolls a b (inl e) = rw e refl
-not_before true a b (inr (e, f)) = neither a b e f
+not_before true a b (inr (e, f)) = or_from a b e f
 not_before false a b (inr h) = refl
 
 either_way : (o : Point Overflow) (A : Type 0) → NoScroller o ⊎ A → (any_scroll_container o ≡ false) ⊎ A
@@ -508,7 +506,7 @@ counted container style l =
       empty = empty_zeros at scrolls x y;
       unreachable = λ s. unreachable_zeros at scrolls x y (is_scroller container.overflow s);
       counts =
-          λ e f o. not_zeros at l.size l.overflow style.overflow style.contain scrolls (neither _ _ e f)
+          λ e f o. not_zeros at l.size l.overflow style.overflow style.contain scrolls (or_from _ _ e f)
           (not_before scrolls _ _ (either_way container.overflow _ o));
     }
 

@@ -1,8 +1,10 @@
 -- A stretched box fills its block. Assumes nothing.
+use borrow.Author.Rules.{rules}
+use Rattle.std.proofs.lemmas.Bool.{and_right, and_parts}
 use Rattle.std.specs.Prelude.{Float, None, Option, Some, is_some}
 use mathlib.Core.Path.{◌≡◌, refl, ap, ◌∙◌}
 use mathlib.Core.List.{List, [], ◌∷◌}
-use mathlib.Core.Bool.{Bool, true, false, false≢true, cond, ◌&&◌}
+use mathlib.Core.Bool.{Bool, true, false, false≢true, cond}
 use Prim.Native.Nat.{ℕ, ◌+◌, ◌-◌, ◌*◌, ◌<◌}
 use native.Mathlib.Omega.{arith}
 use lib.Dec.{lit<}
@@ -48,14 +50,6 @@ always_both P Q (ask q next) (later f) (later g) = later (λ r. always_both P Q 
 
 -- ---- min and max that change nothing
 
-and_false : (a b : Bool) → b ≡ false → a && b ≡ false
-and_false true b e = e
-and_false false b e = refl
-
-both_true : (a b : Bool) → a && b ≡ true → (a ≡ true) × (b ≡ true)
-both_true true b e = (refl, e)
-both_true false b e = absurd (false≢true e)
-
 zero : zero_of false 0f ≡ true
 unfolding zero_of of_bits
 zero = refl
@@ -81,18 +75,11 @@ module _ (x : Float) (positive : lt 0f x ≡ true) where
 
   below_max : (high : Float) → lt high x ≡ false → smaller x high ≡ x
   unfolding smaller before
-  below_max high e = rw (number, e, and_false (zero_of true high) (zero_of false x) (no_zero false)) (go (is_nan high))
-    where
-      go : (b : Bool) → cond b x x ≡ x
-      go true = refl
-      go false = refl
+  below_max high e = search (rules, and_right, no_zero, number)
 
   unchanged : (min max : Option Float) → ((low : Float) → min ≡ Some low → lt x low ≡ false) → ((high : Float) → max ≡ Some high → lt high x ≡ false) → clamped x min max ≡ x
   unfolding clamped at_most at_least
-  unchanged None None f g = refl
-  unchanged (Some low) None f g = above_min low (f low refl)
-  unchanged None (Some high) f g = below_max high (g high refl)
-  unchanged (Some low) (Some high) f g = rw (below_max high (g high refl)) (above_min low (f low refl))
+  unchanged min max h k = search (rules, above_min, below_max)
 
 -- ---- exact numbers
 
@@ -185,9 +172,7 @@ module _ (a : OofAxis) (i : TwoInsets a) where
 
   same_position_in : (s t : Option Float) → is_some s ≡ true → is_some t ≡ true → (l : Line Float) (size : Float) (m : Line Float) → position_in s t (without_static a) l size m ≡ position_in s t a l size m
   unfolding position_in
-  same_position_in None t e f l size m = absurd (false≢true e)
-  same_position_in (Some x) None e f l size m = refl
-  same_position_in (Some x) (Some y) e f l size m = rw (same_edge a.alignment a, same_aligned a.safety a l (size ⊕ m.start ⊕ m.end) (align_edge a.alignment a)) refl
+  same_position_in s t h k l size m = search (rules, same_aligned, same_edge)
 
   same_placement : (size : Float) → placement (without_static a) size ≡ placement a size
   unfolding placement position
@@ -219,7 +204,7 @@ fills : (a : OofAxis) (plain : Bool) (offset : Float) → stretches a plain ≡ 
     → MarginBoxIs (block a) offset ((placement a (stretch_fit a)).position ⊕ offset) (stretch_fit a) (placement a (stretch_fit a)).margin
 unfolding stretches both_insets
 fills a plain offset s positive q =
-    let i = both_true _ _ (both_true _ _ s).0 in
+    let i = and_parts _ _ (and_parts _ _ s).0 in
     let two : TwoInsets a = record { start = i.0; end = i.1 } in
     let none = quarters_of 0 zero_exact in
     rw (same_fit a two, same_placement a two (stretch_fit a), same_block a two) at

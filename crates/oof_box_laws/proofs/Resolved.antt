@@ -1,5 +1,5 @@
 -- What a style comes to before the host is asked. Assumes nothing.
-use Rattle.std.specs.Prelude.{Float, None, Option, Some, option_map, unwrap_or}
+use Rattle.std.specs.Prelude.{Float, None, Option, Some}
 use Rattle.std.specs.Option.{option_or}
 use mathlib.Core.Path.{◌≡◌, refl, sym, ap, ap₂, ◌∙◌}
 use mathlib.Core.Logic.{◌⊎◌, inl, inr}

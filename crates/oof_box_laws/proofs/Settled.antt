@@ -1,5 +1,5 @@
 -- The size that step 2 resolved: ratio and clamp change nothing. Assumes nothing.
-use Rattle.std.specs.Prelude.{Float, None, Option, Some, option_map}
+use Rattle.std.specs.Prelude.{Float, None, Option, Some}
 use mathlib.Core.Path.{◌≡◌, refl, ap, ap₂}
 use Rattle.util.specs.Maybe.{map_add, map_clamped}
 use Rattle.geometry.specs.Geometry.{added_size, clamped_size, completed, with_ratio}

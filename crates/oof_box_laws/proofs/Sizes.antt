@@ -1,15 +1,17 @@
 -- The laws of a box's size. Assumes nothing.
+use borrow.Author.Rules.{rules}
+use Rattle.std.proofs.lemmas.Bool.{and_right}
 use mathlib.Core.Path.{◌≡◌, refl, ap, subst, ◌∙◌}
 use mathlib.Core.Logic.{◌⊎◌, inl, inr}
 use mathlib.Core.Bool.{Bool, true, false, false≢true, cond, not, ◌&&◌}
 use Prim.Native.Nat.{ℕ}
 use lib.Ieee.{Float, lt}
-use Rattle.std.specs.Prelude.{Option, Float, None, Some, is_some, option_map, unwrap_or}
+use Rattle.std.specs.Prelude.{Option, Float, None, Some, is_some, unwrap_or}
 use Rattle.std.specs.declared.option.Option.TheVariants as option
 use Rattle.util.specs.Order.{larger}
 use Rattle.util.specs.Maybe.{map_clamped, clamped}
 use Rattle.util.specs.Laws.{AtOrAbove, AtOrBelow}
-use Rattle.util.proofs.Laws.{larger_bounds, larger_is_one, min_wins, max_binds}
+use Rattle.util.proofs.Laws.{onwards, larger_bounds, larger_is_one, min_wins, max_binds}
 use Rattle.geometry.specs.Geometry.{both_present, filled_size, clamped_size, clamped_floats, with_ratio}
 use Rattle.geometry.specs.declared.Size.{Size}
 use Rattle.style.specs.Resolve.{by_tag, resolved}
@@ -26,12 +28,11 @@ use Rattle.oof_common.specs.declared.sizing_keyword.SizingKeywordResolution.{Siz
 use Rattle.oof_common.specs.declared.sizing_keyword.SizingKeywordResolution.TheVariants.{Exact, Measure}
 use Rattle.oof_place.specs.Placing.{layout_of, box_layout}
 use Rattle.oof_box.specs.Talk.{Talk, done, ask, ◌>>=◌}
-use Rattle.oof_box.specs.Box.{placed, width_as, height_as, in_turn, by_keywords, raised_min, stretched, final_size, measured, keyword_sizes, size_keywords, stretch_ratio, ignores_ratio, widened, heightened, settled, ◌by◌}
+use Rattle.oof_box.specs.Box.{placed, width_as, height_as, in_turn, by_keywords, raised_min, stretched, final_size, measured, keyword_sizes, size_keywords, stretch_ratio, widened, heightened, settled, ◌by◌}
 use Rattle.oof_box.specs.declared.question.MeasureInput.{MeasureInput}
 use Rattle.oof_box.specs.declared.question.Question.TheVariants.{MeasureBoth}
 use Rattle.oof_box.specs.declared.sizing.Stretched.{Stretched}
 use Rattle.oof_box_laws.specs.Laws.{Always, now, later, SizeAlways, Measures, measures, MinHolds, MaxHolds, GivenSizeStays, NoSizeKeyword, Plain, stretchable, StretchFills, MeasuredIsTheReply, table_min, TableIsMeasured}
-use Rattle.oof_box.proofs.Floor.{onwards}
 use Rattle.oof_box_laws.proofs.Always.{always_map, always_any, size_from, size_always}
 use Rattle.oof_box_laws.proofs.Resolved.{ratio_width, ratio_height, auto_is_no_size}
 use Rattle.oof_box_laws.proofs.Clamp.{clamp_is_settled}
@@ -138,10 +139,6 @@ pub no_keyword : (m : Option Float) (k : Option SizingKeywordResolution) (x : Fl
 unfolding if_absent
 no_keyword m k x e = rw e refl
 
--- step 5
-is_present : (m : Option Float) (x : Float) → m ≡ Some x → is_some m ≡ true
-is_present m x e = rw e refl
-
 tall_width : (ratio : Option Float) (box : ResolvedBox) (down : Bool) (known : Size (Option Float)) (x : Float) → clamped x box.min.width box.max.width ≡ x → known.width ≡ Some x → (heightened ratio box down known).width ≡ Some x
 unfolding heightened
 tall_width ratio box down known x c e = go (down && not (is_some known.height))
@@ -164,7 +161,7 @@ unfolding heightened
 not_heightened ratio box down known d = rw d refl
 
 present_and : (m : Option Float) (x : Float) (b : Bool) → m ≡ Some x → not (is_some m) && b ≡ false
-present_and m x b e = rw (is_present m x e) refl
+present_and m x b e = rw e refl
 
 unraised : (b : Bool) (min : Option Float) (fit : Float) → b ≡ false → raised_min b min fit ≡ min
 unfolding raised_min
@@ -240,14 +237,10 @@ given_size_stays container style candidate x = (
 known_or_absent : (m : Option Float) (known : Size (Option Float) → Option Float) (talk : Talk (Size (Option Float))) → ((x : Float) → m ≡ Some x → Always (λ (k : Size (Option Float)). known k ≡ Some x) talk)
     → Always (λ (k : Size (Option Float)). (m ≡ None) ⊎ (is_some (known k) ≡ true)) talk
 known_or_absent None known talk f = always_map (λ (k : Size (Option Float)). Unit {0}) _ talk (λ k u. inl refl) (always_any talk)
-known_or_absent (Some x) known talk f = always_map (λ (k : Size (Option Float)). known k ≡ Some x) _ talk (λ k e. inr (is_present (known k) x e)) (f x refl)
-
-and_false : (b c : Bool) → c ≡ false → b && c ≡ false
-and_false true c e = e
-and_false false c e = refl
+known_or_absent (Some x) known talk f = always_map (λ (k : Size (Option Float)). known k ≡ Some x) _ talk (λ k e. inr (rw e refl)) (f x refl)
 
 not_stretchable : (style : Style) → style.table ≡ true → stretchable style ≡ false
-not_stretchable style t = and_false (not style.replaced) (not style.table) (ap not t)
+not_stretchable style t = and_right (not style.replaced) (not style.table) (ap not t)
 
 -- a table's min is raised where its side is absent and stretches
 raised_where : (m k : Option Float) (a : OofAxis) (plain : Bool) → (m ≡ None) ⊎ (is_some k ≡ true) → plain ≡ false → not (is_some k) && stretches a plain ≡ true → (m ≡ None) × (stretches a false ≡ true)
@@ -282,13 +275,9 @@ no_keywords : (node : ℕ) (style : Style) (box : ResolvedBox) (keywords : Size 
 unfolding keyword_sizes
 no_keywords node style box keywords p q = rw (p, q) refl
 
-or_none : (b : Bool) (ratio : Option Float) → ratio ≡ None → cond b None ratio ≡ None
-or_none true ratio e = refl
-or_none false ratio e = e
-
 no_ratio : (style : Style) (box : ResolvedBox) (across down : Bool) → style.ratio ≡ None → stretch_ratio style box across down ≡ None
 unfolding stretch_ratio
-no_ratio style box across down e = or_none (ignores_ratio box across down) style.ratio e
+no_ratio style box across down e = search rules
 
 absent_and : (m : Option Float) (b c : Bool) → m ≡ None → b ≡ c → not (is_some m) && b ≡ c
 absent_and m b c e f = rw e f
@@ -404,7 +393,7 @@ not_both_width a e = rw e refl
 
 not_both_height : (a : Size (Option Float)) → a.height ≡ None → both_present a ≡ false
 unfolding both_present
-not_both_height a e = and_false (is_some a.width) (is_some a.height) (ap is_some e)
+not_both_height a e = and_right (is_some a.width) (is_some a.height) (ap is_some e)
 
 asks : (node : ℕ) (box : ResolvedBox) (at : Stretched) → both_present at.known ≡ false
     → measured node box at ≡ ask (MeasureBoth (record { node = node; known = at.known; space = box.space })) (λ r. done (final_size box at r))

@@ -20,11 +20,12 @@ use oof_c_words::state::STATE_WORDS;
 use pixels::lent::EDGES;
 use reach::lent::VERDICT;
 use refusal::Refusal;
-use run::Opening;
+use run::{Lent, Opening};
 use tree::layout::OofPositioningArea;
 use tree_record::layout::LAYOUT_WORDS;
 
-// Opens a run.
+// Opens a run. The C interface passes floats, codes and slices one by one, here and below.
+#[tactic(auto, unfolding(oof_c_words::specs::Entry::opened_in_words))]
 pub fn oof_open(
     width: f32,
     height: f32,
@@ -49,9 +50,9 @@ pub fn oof_open(
         offset: Point { x, y },
     };
     let opening = Opening {
-        area: area,
-        direction: direction,
-        claims: claims,
+        area,
+        direction,
+        claims,
         overflowx: overflow_x,
         overflowy: overflow_y,
     };
@@ -61,6 +62,7 @@ pub fn oof_open(
 }
 
 // A reply to the open question.
+#[tactic(auto, unfolding(oof_c_words::specs::Entry::replied_in_words))]
 fn respond(
     reply: Reply,
     surfaced: &[u32],
@@ -193,6 +195,7 @@ pub fn oof_pixels(layout: &[u32; LAYOUT_WORDS], x: f32, y: f32, edges: &mut [i32
 }
 
 // Whether scrolling brings up the box at a place of a finished run.
+#[tactic(auto, unfolding(crate::specs::ReachWords::reach_in_words))]
 pub fn oof_reach(
     place: usize,
     styles: &[u32],
@@ -205,21 +208,24 @@ pub fn oof_reach(
     ensures { reach_returned result verdict.new ≡ reach_in_words place (lent styles.now layouts.now working.now unclaimed.now) state.now verdict.old }
 {
     let s = oof_c_words::state::state_of(state);
-    let reached = reach::reach(place, s, styles, layouts, working, unclaimed);
-    reach::lent::tell(reached, verdict)
+    let lent = Lent {
+        styles,
+        layouts,
+        working,
+        unclaimed,
+    };
+    reach::lent::tell(reach::reach(place, s, &lent), verdict)
 }
 
-// 0, or the refusal's number.
+// 0, or the refusal's number: the C interface has no other verdict.
 fn number(verdict: Result<(), Refusal>) -> u32
     ensures { result ≡ verdict_number verdict }
 {
-    match verdict {
-        Ok(()) => 0,
-        Err(refusal) => u32::from(refusal),
-    }
+    verdict.err().map_or(0, u32::from)
 }
 
 // In which order the boxes of a finished run are drawn, as places in the hoisted order.
+#[tactic(auto, unfolding(crate::specs::DrawingWords::drawing_in_words))]
 pub fn oof_drawing_order(
     styles: &[u32],
     layouts: &[u32],
@@ -231,10 +237,17 @@ pub fn oof_drawing_order(
     ensures { drawing_returned result order.new ≡ drawing_in_words (lent styles.now layouts.now working.now unclaimed.now) state.now order.old }
 {
     let s = oof_c_words::state::state_of(state);
-    number(drawing::drawing_order(s, styles, layouts, working, unclaimed, order))
+    let lent = Lent {
+        styles,
+        layouts,
+        working,
+        unclaimed,
+    };
+    number(drawing::drawing_order(s, &lent, order))
 }
 
 // The first word of a table of styles that breaks a code rule.
+#[tactic(auto, unfolding(oof_c_words::specs::CheckWords::check_in_words))]
 pub fn oof_first_bad_word(styles: &[u32], found: &mut [u32; FOUND]) -> u32
     ensures { check_returned result found.new ≡ check_in_words styles.now found.old }
 {

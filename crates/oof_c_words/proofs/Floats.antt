@@ -37,10 +37,8 @@ use Rattle.oof_box.specs.declared.question.KeywordReply.TheVariants as keyword
 use Rattle.oof_box.specs.declared.question.Taken.{Taken}
 use Rattle.oof_box.specs.declared.question.Taken.TheVariants.{Kept, Laid}
 use Rattle.run.specs.Run.{taken_in, taken_by}
-use Rattle.run.specs.declared.Progress.{Progress}
-use Rattle.run.specs.declared.Progress.TheVariants.{Finished, Asking}
 use Rattle.run.specs.declared.State.{State}
-use Rattle.oof_c_words.specs.StateWords.{at, keyword_reply_of, keyword_width, keyword_height, fill_reply_of, replies_in, overflow_in, container_in, opened_in, state_of}
+use Rattle.oof_c_words.specs.StateWords.{at, keyword_reply_of, keyword_width, keyword_height, fill_reply_of, replies_in, overflow_in, opening_in, opened_in, state_of}
 use Rattle.oof_c_words.specs.Laws.{Floats, FitsReply}
 
 pub zero_fits : T (fits binary32 0f)
@@ -80,7 +78,7 @@ fill_fits kind x y f g = go (eqb kind 1)
 
 -- what words mean
 pub words_fit : (w : List ℕ) → Floats (state_of w)
-unfolding state_of replies_in overflow_in layout.rect_of opened_in container_in
+unfolding state_of replies_in overflow_in layout.rect_of opened_in opening_in
 words_fit w =
     let f : (k : ℕ) → T (fits binary32 (float_at w k)) = λ k. of_bits-fits binary32 (at w k) in
     let both = keyword_fits (at w 1) (float_at w 2) (float_at w 3) (f 2) (f 3) in
@@ -112,9 +110,9 @@ pub kept_fit : (s : State) (given : Reply) (replies : Replies) → FitsReplies s
 unfolding taken_by
 kept_fit s given replies f g e = rw (ap (kept_or s.replies) e) at (go s.progress)
   where
-    go : (p : Progress) → FitsReplies (kept_or s.replies (taken_in p s.replies given))
-    go Finished = f
-    go (Asking stage) = taken_fits s.replies stage given f g
+    go : (p : Option Stage) → FitsReplies (kept_or s.replies (taken_in p s.replies given))
+    go None = f
+    go (Some stage) = taken_fits s.replies stage given f g
 
 -- ---- the overflow
 

@@ -1,5 +1,5 @@
 -- A run by C calls is the run of the definition: the words that a call leaves mean the state that the definition returns. Assumes nothing.
-use Rattle.std.specs.Prelude.{Some, is_none, Float}
+use Rattle.std.specs.Prelude.{Some, is_none, is_err, Float}
 use Prim.Native.Nat.{ℕ, ◌+◌, ◌*◌, ◌/◌, ◌<◌, ◌≤◌}
 use native.Mathlib.Nat.{lt-mul-div-succ}
 use native.Mathlib.Omega.{arith}
@@ -9,7 +9,7 @@ use mathlib.Core.Path.{◌≡◌, refl, sym, ap, subst, ◌∙◌}
 use lib.Dec.{ltb, eqb, lit<}
 use lib.ListN.{length}
 use borrow.Author.Tests.{ltb-false, eqb-true, leb-true, not-false}
-use Rattle.std.specs.Prelude.{Some}
+use Rattle.std.proofs.lemmas.Bool.{or_parts}
 use Rattle.geometry.specs.declared.Rect.{Rect}
 use Rattle.style.specs.declared.ContainingBlockClaims.{ContainingBlockClaims}
 use Rattle.records.specs.Records.{room}
@@ -29,13 +29,13 @@ use Rattle.oof_box.specs.declared.question.Taken.TheVariants.{Kept}
 use Rattle.run.specs.Call.{Lent, Outcome}
 use Rattle.run.specs.Refusals.{accepted, ragged, bad_table, bad_list, bad_slices, other_lengths, list_full, lent_by, wrong_counts}
 use Rattle.run.specs.Run.{asking, finishing, proceeding, claims_of, none_filled, opening_verdict, closed, begun, opened, box_at_hand, taken_by, reply_verdict, measured_on, laid_out, replied}
-use Rattle.run.specs.Theorems.{is_refused, Asked, asked_at_opening, asked_with}
+use Rattle.run.specs.Theorems.{Asked, asked_at_opening, asked_with}
 use Rattle.run.specs.declared.Counts.{Counts}
 use Rattle.run.specs.declared.Extents.{Extents}
 use Rattle.run.specs.declared.Opened.{Opened}
 use Rattle.run.specs.declared.Opening.{Opening}
 use Rattle.run.specs.declared.State.{State}
-use Rattle.run.proofs.Ways.{NextWay, asks, ends, next_way, OpeningWay, begins, opening_way, ReplyWay, measures, lays_out, reply_way, passed, neither, counted, laid_is}
+use Rattle.run.proofs.Ways.{NextWay, asks, ends, next_way, OpeningWay, begins, opening_way, ReplyWay, measures, lays_out, reply_way, passed, few_records, counted, laid_is}
 use Rattle.run.proofs.Refusals.{measured_accepts, laid_accepts}
 use Rattle.oof_c_words.specs.StateWords.{state_of}
 use Rattle.oof_c_words.specs.Entry.{result_of, state_left, lent_in, opened_in_words, replied_in_words}
@@ -44,11 +44,6 @@ use Rattle.oof_c_words.proofs.Floats.{FitsReplies, zero_fits, none_fit, words_fi
 use Rattle.oof_c_words.proofs.Laws.{state_back, refused_is_not}
 
 -- ---- lengths that passed
-
--- a list is of no more than 4,096 records
-few_records : (list : List ℕ) → bad_list list ≡ false → length list / candidate_width ≤ 4096
-unfolding bad_list
-few_records list e = ltb-false 4096 (length list / candidate_width) (neither (ragged candidate_width list) (ltb 4096 (length list / candidate_width)) e).1
 
 -- so many records of so many words fit in a count of one word
 records_in_a_word : (n : ℕ) → n / candidate_width ≤ 4096 → InAWord n
@@ -66,10 +61,10 @@ record Small (l : Lent) : Type 0 where
 small : (l : Lent) → bad_slices l ≡ false → Small l
 unfolding bad_slices bad_table items
 small l e =
-    let lists = neither (bad_table l.styles l.layouts || bad_list l.working) (bad_list l.unclaimed) e in
-    let first = neither (bad_table l.styles l.layouts) (bad_list l.working) lists.0 in
-    let laid = neither (ragged style_words l.styles || ltb 1024 (items l.styles)) (not (eqb (length l.layouts) (layout_width * items l.styles))) first.0 in
-    let few = ltb-false 1024 (items l.styles) (neither (ragged style_words l.styles) (ltb 1024 (items l.styles)) laid.0).1 in
+    let lists = or_parts (bad_table l.styles l.layouts || bad_list l.working) (bad_list l.unclaimed) e in
+    let first = or_parts (bad_table l.styles l.layouts) (bad_list l.working) lists.0 in
+    let laid = or_parts (ragged style_words l.styles || ltb 1024 (items l.styles)) (not (eqb (length l.layouts) (layout_width * items l.styles))) first.0 in
+    let few = ltb-false 1024 (items l.styles) (or_parts (ragged style_words l.styles) (ltb 1024 (items l.styles)) laid.0).1 in
     let same = eqb-true (length l.layouts) (layout_width * items l.styles) (not-false _ laid.1) in
     record {
       styles = items_in_a_word (length l.styles) few;
@@ -83,9 +78,9 @@ same_lengths : (e : Extents) (l : Lent) → other_lengths e l ≡ false
     → (length l.styles ≡ e.styles) × (length l.layouts ≡ e.layouts) × (length l.working ≡ e.working) × (length l.unclaimed ≡ e.unclaimed)
 unfolding other_lengths
 same_lengths e l f =
-    let last = neither (not (eqb (length l.styles) e.styles) || not (eqb (length l.layouts) e.layouts) || not (eqb (length l.working) e.working)) (not (eqb (length l.unclaimed) e.unclaimed)) f in
-    let third = neither (not (eqb (length l.styles) e.styles) || not (eqb (length l.layouts) e.layouts)) (not (eqb (length l.working) e.working)) last.0 in
-    let second = neither (not (eqb (length l.styles) e.styles)) (not (eqb (length l.layouts) e.layouts)) third.0 in (
+    let last = or_parts (not (eqb (length l.styles) e.styles) || not (eqb (length l.layouts) e.layouts) || not (eqb (length l.working) e.working)) (not (eqb (length l.unclaimed) e.unclaimed)) f in
+    let third = or_parts (not (eqb (length l.styles) e.styles) || not (eqb (length l.layouts) e.layouts)) (not (eqb (length l.working) e.working)) last.0 in
+    let second = or_parts (not (eqb (length l.styles) e.styles)) (not (eqb (length l.layouts) e.layouts)) third.0 in (
       eqb-true (length l.styles) e.styles (not-false _ second.0),
       eqb-true (length l.layouts) e.layouts (not-false _ second.1),
       eqb-true (length l.working) e.working (not-false _ third.1),
@@ -181,7 +176,7 @@ unfolding list_full room
 found by l f cs e =
     let inside = f.working + length (keep by true (candidates_in cs)) in
     let outside = f.unclaimed + length (keep by false (candidates_in cs)) in
-    let both = neither _ _ e in (
+    let both = or_parts _ _ e in (
       leb-true inside (length l.working / candidate_width) (not-false _ both.0),
       leb-true outside (length l.unclaimed / candidate_width) (not-false _ both.1),
     )
@@ -195,7 +190,7 @@ unfolding begun opening_verdict
 begun_whole o candidates l f g e =
     let extent = passed _ _ _ (passed _ _ _ e).1 in
     let full = (passed _ _ _ (passed _ _ _ (passed _ _ _ extent.1).1).1).0 in
-    let n = small l (neither (bad_slices l) _ extent.0).0 in
+    let n = small l (or_parts (bad_slices l) _ extent.0).0 in
     let held = found (claims_of o) l none_filled candidates full in
     proceeding_whole _ _ _ _ _
     (record {
@@ -223,12 +218,12 @@ past s reply surfaced l e =
     let extent = passed _ _ _ e in
     let answer = passed _ _ _ extent.1 in
     let full = (passed _ _ _ (passed _ _ _ (passed _ _ _ answer.1).1).1).0 in
-    let slices = neither (bad_slices l) (other_lengths s.opened.extents l) (neither (bad_slices l || other_lengths s.opened.extents l) _ extent.0).0 in
+    let slices = or_parts (bad_slices l) (other_lengths s.opened.extents l) (or_parts (bad_slices l || other_lengths s.opened.extents l) _ extent.0).0 in
     let n = small l slices.0 in
     record {
       lent = n;
       lengths = lengths_of_lem l s.opened.extents n (same_lengths s.opened.extents l slices.1);
-      counts = (neither (is_none (taken_by s reply)) (wrong_counts l s.counts) answer.0).1;
+      counts = (or_parts (is_none (taken_by s reply)) (wrong_counts l s.counts) answer.0).1;
       room = full;
     }
 
@@ -309,7 +304,7 @@ opening_is_kept o candidates styles before k = let w = go (opening_way o candida
 -- ---- a reply
 
 -- an accepted one writes its state, and these words mean it
-means : (before : List ℕ) {o p : Outcome} → o ≡ p → is_refused p.step.answer ≡ false → Whole p.step.state
+means : (before : List ℕ) {o p : Outcome} → o ≡ p → is_err p.step.answer ≡ false → Whole p.step.state
     → state_of (state_left o.step before) ≡ o.step.state
 unfolding state_left
 means before {p = p} e f w =

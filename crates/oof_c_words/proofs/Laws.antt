@@ -1,5 +1,5 @@
 -- The laws of `specs/Laws.antt`. Assumes nothing.
-use Rattle.std.specs.Prelude.{Option, None, Some, unwrap_or, Float}
+use Rattle.std.specs.Prelude.{Option, None, Some, unwrap_or, Result, Ok, Err, is_err, Float}
 use Prim.Native.Nat.{ℕ}
 use native.Mathlib.Nat.{mod-eq_of_lt}
 use native.Mathlib.Omega.{arith}
@@ -15,25 +15,23 @@ use Rattle.geometry.specs.declared.Size.{Size}
 use Rattle.refusal.specs.Refusal.{number_of}
 use Rattle.refusal.specs.declared.Refusal.{Refusal}
 use Rattle.refusal.specs.declared.Refusal.TheVariants.{BadArea, BadExtent, BadStyle, BadCandidate, ListFull, WrongReply, UnresolvedSide, BadScreenLine, NotInEighths}
-use Rattle.style.specs.Codes.{direction_of, overflow_of}
+use Rattle.style.specs.Codes.{claims_in, direction_of, overflow_of}
 use Rattle.style.proofs.Laws.{direction_codes, overflow_codes, bits_codes}
 use Rattle.style.specs.declared.ContainingBlockClaims.{ContainingBlockClaims}
 use Rattle.tree_record.specs.Layout.{rect_of}
 use Rattle.tree_record.specs.Laws.{FitsSize}
+use Rattle.oof_box.specs.declared.question.Stage.{Stage}
 use Rattle.oof_box.specs.declared.question.Stage.TheVariants.{KeywordBoth, KeywordWidth, KeywordHeight, Fill, LayOut}
 use Rattle.oof_box.specs.declared.question.KeywordReply.{KeywordReply}
 use Rattle.oof_box.specs.declared.question.KeywordReply.TheVariants as keyword
 use Rattle.run.specs.Call.{Lent, Outcome}
-use Rattle.run.specs.Run.{claims_in, closed}
-use Rattle.run.specs.Theorems.{is_refused}
+use Rattle.run.specs.Run.{closed}
 use Rattle.run.proofs.Refusals.{begun_accepts, measured_accepts, laid_accepts, finished_refuses}
 use Rattle.run.proofs.Ways.{OpeningWay, begins, opening_way, ReplyWay, measures, lays_out, reply_way}
 use Rattle.run.specs.declared.State.{State}
 use Rattle.run.specs.declared.Answer.{Answer}
-use Rattle.run.specs.declared.Answer.TheVariants.{Ask, Finish, Refused}
-use Rattle.run.specs.declared.Progress.{Progress}
-use Rattle.run.specs.declared.Progress.TheVariants.{Finished, Asking}
-use Rattle.oof_c_words.specs.StateWords.{count_word, progress_of, stage_code, progress_code, keyword_reply_of, keyword_kind, keyword_width, keyword_height, fill_reply_of, fill_kind, claims_code, replies_in, counts_in, overflow_in, container_in, extents_in, opened_in, state_of, opening_codes, state_words}
+use Rattle.run.specs.declared.Answer.TheVariants.{Ask, Finish}
+use Rattle.oof_c_words.specs.StateWords.{count_word, progress_of, stage_code, progress_code, keyword_reply_of, keyword_kind, keyword_width, keyword_height, fill_reply_of, fill_kind, claims_code, replies_in, counts_in, overflow_in, opening_in, extents_in, opened_in, state_of, opening_codes, state_words}
 use Rattle.oof_c_words.specs.Entry.{result_of, state_left, answer_left, Words, words, in_words, lent_in, opened_in_words, replied_in_words}
 use Rattle.oof_c_words.specs.Laws.{InAWord, StateBack, ZeroState, RefusedOpeningCloses, NoReplyAfterRefusedOpening, RefusedReplyWritesNothing}
 
@@ -42,14 +40,14 @@ use Rattle.oof_c_words.specs.Laws.{InAWord, StateBack, ZeroState, RefusedOpening
 count_back : (n : ℕ) → InAWord n → count_word n ≡ n
 count_back n h = mod-eq_of_lt h
 
-progress_back : (p : Progress) → progress_of (progress_code p) ≡ p
+progress_back : (p : Option Stage) → progress_of (progress_code p) ≡ p
 unfolding progress_of progress_code stage_code
-progress_back Finished = refl
-progress_back (Asking KeywordBoth) = refl
-progress_back (Asking KeywordWidth) = refl
-progress_back (Asking KeywordHeight) = refl
-progress_back (Asking Fill) = refl
-progress_back (Asking LayOut) = refl
+progress_back None = refl
+progress_back (Some KeywordBoth) = refl
+progress_back (Some KeywordWidth) = refl
+progress_back (Some KeywordHeight) = refl
+progress_back (Some Fill) = refl
+progress_back (Some LayOut) = refl
 
 -- a float, written and read
 abbrev again : Float → Float
@@ -78,7 +76,7 @@ claims_back c =
     λ j. record { absolute = both.0 j; fixed = both.1 j }
 
 pub state_back : StateBack
-unfolding state_of state_words replies_in counts_in overflow_in rect_of opened_in container_in extents_in opening_codes
+unfolding state_of state_words replies_in counts_in overflow_in rect_of opened_in opening_in extents_in opening_codes
 state_back s f n =
     let area = s.opened.container.area in
     λ j. record {
@@ -124,17 +122,17 @@ state_back s f n =
     }
 
 pub zero_state : ZeroState
-unfolding state_of replies_in counts_in overflow_in rect_of opened_in container_in extents_in progress_of keyword_reply_of fill_reply_of direction_of overflow_of closed
+unfolding state_of replies_in counts_in overflow_in rect_of opened_in opening_in extents_in progress_of keyword_reply_of fill_reply_of direction_of overflow_of closed
 zero_state = refl
 
 -- ---- a refusal
 
 -- the result is 0 just where the answer is no refusal
-pub accepted_is_zero : (a : Answer) → is_refused a ≡ false → result_of a ≡ 0
+pub accepted_is_zero : (a : Result Answer Refusal) → is_err a ≡ false → result_of a ≡ 0
 unfolding result_of
-accepted_is_zero (Ask q) e = refl
-accepted_is_zero (Finish f) e = refl
-accepted_is_zero (Refused r) e = no {b = true} refl e
+accepted_is_zero (Ok (Ask q)) e = refl
+accepted_is_zero (Ok (Finish f)) e = refl
+accepted_is_zero (Err r) e = no {b = true} refl e
 
 pub refused_is_not : (r : Refusal) → number_of r ≡ 0 → ⊥
 refused_is_not BadArea e = absurd (omega (arith, e))
@@ -148,7 +146,7 @@ refused_is_not BadScreenLine e = absurd (omega (arith, e))
 refused_is_not NotInEighths e = absurd (omega (arith, e))
 
 -- an outcome that isn't refused
-zero_of : {o p : Outcome} → o ≡ p → is_refused p.step.answer ≡ false → result_of o.step.answer ≡ 0
+zero_of : {o p : Outcome} → o ≡ p → is_err p.step.answer ≡ false → result_of o.step.answer ≡ 0
 zero_of {p = p} e f = ap (λ (o : Outcome). result_of o.step.answer) e ∙ accepted_is_zero p.step.answer f
 
 pub refused_opening_closes : RefusedOpeningCloses
@@ -161,13 +159,13 @@ refused_opening_closes o candidates styles before h = go (opening_way o candidat
     go (OpeningWay.turned_down r e) = ap (λ (left : Outcome). (in_words left (state_words left.step.state) before.answer).words) e
     go (begins v e) = absurd (h (zero_of e (begun_accepts o candidates (lent_in styles before))))
 
-refused_not_zero : (a : Answer) → is_refused a ≡ true → result_of a ≡ 0 → ⊥
+refused_not_zero : (a : Result Answer Refusal) → is_err a ≡ true → result_of a ≡ 0 → ⊥
 unfolding result_of
-refused_not_zero (Ask q) e z = no {b = false} e refl
-refused_not_zero (Finish f) e z = no {b = false} e refl
-refused_not_zero (Refused r) e z = refused_is_not r z
+refused_not_zero (Ok (Ask q)) e z = no {b = false} e refl
+refused_not_zero (Ok (Finish f)) e z = no {b = false} e refl
+refused_not_zero (Err r) e z = refused_is_not r z
 
-closed_is_finished : (lent : Lent) → (state_of (state_words (closed lent))).progress ≡ Finished
+closed_is_finished : (lent : Lent) → (state_of (state_words (closed lent))).progress ≡ None
 unfolding state_of state_words progress_of progress_code closed
 closed_is_finished lent = refl
 

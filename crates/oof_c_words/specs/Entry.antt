@@ -1,13 +1,13 @@
 -- What a C call leaves, of an outcome of run/specs/Run.antt. Read `opened_in_words` and `replied_in_words` first. Assumes nothing.
-use Rattle.std.specs.Prelude.{ℕ, cond, List, Float}
+use Rattle.std.specs.Prelude.{ℕ, cond, List, Float, Result, Ok, Err, is_err}
+use Rattle.refusal.specs.declared.Refusal.{Refusal}
 use Rattle.refusal.specs.Refusal.{number_of}
 use Rattle.oof_box.specs.declared.question.Reply.{Reply}
 use Rattle.run.specs.Call.{Lent, Outcome}
 use Rattle.run.specs.Run.{opened, replied}
-use Rattle.run.specs.Theorems.{is_refused}
 use Rattle.run.specs.declared.Opening.{Opening}
 use Rattle.run.specs.declared.Answer.{Answer}
-use Rattle.run.specs.declared.Answer.TheVariants.{Ask, Finish, Refused}
+use Rattle.run.specs.declared.Answer.TheVariants.{Ask, Finish}
 use Rattle.run.specs.declared.Step.{Step}
 use Rattle.oof_c_words.specs.StateWords.{state_of, state_words}
 use Rattle.oof_c_words.specs.AnswerWords.{question_words, finish_words}
@@ -35,20 +35,20 @@ lent_in styles before =
     record { styles = styles; layouts = before.layouts; working = before.working; unclaimed = before.unclaimed }
 
 -- 0, or the number of the refusal
-unfoldable pub result_of : Answer → ℕ
-result_of (Ask question) = 0
-result_of (Finish finish) = 0
-result_of (Refused refusal) = number_of refusal
+unfoldable pub result_of : Result Answer Refusal → ℕ
+result_of (Ok (Ask question)) = 0
+result_of (Ok (Finish finish)) = 0
+result_of (Err refusal) = number_of refusal
 
 -- the answer's words: where the call is refused, as they came
-unfoldable pub answer_left : Answer → List ℕ → List ℕ
-answer_left (Ask question) before = question_words question
-answer_left (Finish finish) before = finish_words finish
-answer_left (Refused refusal) before = before
+unfoldable pub answer_left : Result Answer Refusal → List ℕ → List ℕ
+answer_left (Ok (Ask question)) before = question_words question
+answer_left (Ok (Finish finish)) before = finish_words finish
+answer_left (Err refusal) before = before
 
 -- the state's words after a reply: where it is refused, as they came, also if they are not how a state is written
 unfoldable pub state_left : Step → List ℕ → List ℕ
-state_left step before = cond (is_refused step.answer) before (state_words step.state)
+state_left step before = cond (is_err step.answer) before (state_words step.state)
 
 -- a result, with the answer's words
 abbrev pub told : ℕ → List ℕ → ℕ × List ℕ

@@ -9,18 +9,16 @@ use Rattle.geometry.specs.declared.Rect.{Rect}
 use Rattle.geometry.specs.declared.Size.{Size}
 use Rattle.records.specs.Records.{float_at}
 use Rattle.tree_record.specs.Layout.{rect_of, area_of, rect_words}
-use Rattle.style.specs.Codes.{direction_of, direction_code, overflow_of, overflow_code, bits_code}
+use Rattle.style.specs.Codes.{direction_code, overflow_code, bits_code}
 use Rattle.style.specs.declared.ContainingBlockClaims.{ContainingBlockClaims}
 use Rattle.tree.specs.declared.layout.OofPositioningArea.{OofPositioningArea}
-use Rattle.oof_resolve.specs.declared.ContainingBlock.{ContainingBlock}
 use Rattle.oof_box.specs.declared.question.Stage.{Stage}
 use Rattle.oof_box.specs.declared.question.Stage.TheVariants.{KeywordBoth, KeywordWidth, KeywordHeight, Fill, LayOut}
 use Rattle.oof_box.specs.declared.question.KeywordReply.{KeywordReply}
 use Rattle.oof_box.specs.declared.question.KeywordReply.TheVariants as keyword
 use Rattle.oof_box.specs.declared.question.Replies.{Replies}
-use Rattle.run.specs.Run.{claims_in}
-use Rattle.run.specs.declared.Progress.{Progress}
-use Rattle.run.specs.declared.Progress.TheVariants.{Finished, Asking}
+use Rattle.run.specs.Run.{claims_of, container_of}
+use Rattle.run.specs.declared.Opening.{Opening}
 use Rattle.run.specs.declared.Counts.{Counts}
 use Rattle.run.specs.declared.Extents.{Extents}
 use Rattle.run.specs.declared.Opened.{Opened}
@@ -42,13 +40,13 @@ count_word n = n % 4294967296
 
 -- ---- which question is open; any other code is a finished run
 
-unfoldable pub progress_of : ℕ → Progress
+unfoldable pub progress_of : ℕ → Option Stage
 progress_of n =
-    cond (eqb n 1) (Asking KeywordBoth)
-    (cond (eqb n 2) (Asking KeywordWidth)
-    (cond (eqb n 3) (Asking KeywordHeight)
-    (cond (eqb n 4) (Asking Fill)
-    (cond (eqb n 5) (Asking LayOut) Finished))))
+    cond (eqb n 1) (Some KeywordBoth)
+    (cond (eqb n 2) (Some KeywordWidth)
+    (cond (eqb n 3) (Some KeywordHeight)
+    (cond (eqb n 4) (Some Fill)
+    (cond (eqb n 5) (Some LayOut) None))))
 
 unfoldable pub stage_code : Stage → ℕ
 stage_code KeywordBoth = 1
@@ -57,9 +55,9 @@ stage_code KeywordHeight = 3
 stage_code Fill = 4
 stage_code LayOut = 5
 
-unfoldable pub progress_code : Progress → ℕ
-progress_code Finished = 0
-progress_code (Asking stage) = stage_code stage
+unfoldable pub progress_code : Option Stage → ℕ
+progress_code None = 0
+progress_code (Some stage) = stage_code stage
 
 -- ---- the keyword reply: 1 both, 2 a width, 3 a height; any other code is none, and a size that isn't used is 0
 
@@ -96,7 +94,7 @@ unfoldable pub fill_kind : Option (Size Float) → ℕ
 fill_kind None = 0
 fill_kind (Some size) = 1
 
--- ---- claims; `claims_in` of run/specs/Run.antt reads their code
+-- ---- claims; `claims_in` of style/specs/Codes.antt reads their code
 
 unfoldable pub claims_code : ContainingBlockClaims → ℕ
 claims_code claims = bits_code claims.absolute claims.fixed
@@ -113,19 +111,16 @@ counts_in w = record { filled = record { working = at w 7; unclaimed = at w 8 };
 unfoldable pub overflow_in : List ℕ → Rect Float
 overflow_in w = rect_of w 11
 
-unfoldable pub container_in : List ℕ → ContainingBlock
-container_in w =
-    record {
-      area = area_of w 15;
-      direction = direction_of (at w 19);
-      overflow = record { x = overflow_of (at w 21); y = overflow_of (at w 22) };
-    }
+-- words 15 to 22 say what a run is opened with
+unfoldable pub opening_in : List ℕ → Opening
+opening_in w =
+    record { area = area_of w 15; direction = at w 19; claims = at w 20; overflowx = at w 21; overflowy = at w 22 }
 
 unfoldable pub extents_in : List ℕ → Extents
 extents_in w = record { styles = at w 23; layouts = at w 24; working = at w 25; unclaimed = at w 26 }
 
 unfoldable pub opened_in : List ℕ → Opened
-opened_in w = record { container = container_in w; claims = claims_in (at w 20); extents = extents_in w }
+opened_in w = record { container = container_of (opening_in w); claims = claims_of (opening_in w); extents = extents_in w }
 
 unfoldable pub state_of : List ℕ → State
 state_of w =

@@ -10,15 +10,12 @@ use util::bits;
 
 pub const ANSWER_WORDS: usize = 10;
 
-// 1 for a size that is known, else 0.
+// 1 for a size that is known, else 0: of the C interface, as the kinds and floats below.
 #[tactic(auto, unfolding(crate::specs::AnswerWords::given))]
 fn given(size: Option<f32>) -> u32
     ensures { result ≡ given size }
 {
-    match size {
-        None => 0,
-        Some(_) => 1,
-    }
+    u32::from(size.is_some())
 }
 
 #[tactic(auto, unfolding(crate::specs::AnswerWords::space_kind))]

@@ -7,7 +7,7 @@ use style_record::check::BadWord;
 
 pub const FOUND: usize = 2;
 
-// 1, and item and word are written, if a word breaks a rule; else 0, and nothing is.
+// As the C interface has it: 1, and item and word are written, if a word breaks a rule; else 0, and nothing is.
 #[tactic(auto, unfolding(crate::specs::CheckWords::check_told))]
 pub fn tell(check: Result<(), BadWord>, found: &mut [u32; FOUND]) -> u32
     ensures { record { result = result; found = found.new } ≡ check_told check found.old }

@@ -3,51 +3,41 @@
 #![tactic(auto)]
 
 ghost use Rattle.std.specs.Prelude.{◌≡◌};
-ghost use Rattle.run.specs.Theorems.{is_refused};
 ghost use Rattle.oof_c_words.specs.Entry.{result_of, answer_left, state_left, told};
 
+use refusal::Refusal;
 use run::{Answer, Step};
 
 pub mod answer;
 pub mod check;
 pub mod state;
 
-// The result of a call. Unless it was refused, its answer is written.
-pub fn tell(a: Answer, answer: &mut [u32; answer::ANSWER_WORDS]) -> u32
+// The result of a call, as the C interface has it: a number. Unless it was refused, its answer is written.
+// As `pixels::lent::tell`, but for what is written: one of all three would be given each value's words by a closure, whose promise each contract
+// would repeat.
+#[tactic(auto, unfolding(crate::specs::Entry::result_of, crate::specs::Entry::answer_left))]
+pub fn tell(a: Result<Answer, Refusal>, answer: &mut [u32; answer::ANSWER_WORDS]) -> u32
     ensures { told result answer.new ≡ told (result_of a) (answer_left a answer.old) }
 {
     match a {
-        Answer::Refused(refusal) => u32::from(refusal),
-        Answer::Ask(question) => {
+        Err(refusal) => u32::from(refusal),
+        Ok(Answer::Ask(question)) => {
             *answer = answer::question_words(question);
             0
         }
-        Answer::Finish(finish) => {
+        Ok(Answer::Finish(finish)) => {
             *answer = answer::finish_words(finish);
             0
         }
     }
 }
 
-fn is_refused(a: Answer) -> bool
-    ensures { result ≡ is_refused a }
-{
-    match a {
-        Answer::Ask(_) => false,
-        Answer::Finish(_) => false,
-        Answer::Refused(_) => true,
-    }
-}
-
 // The state's words after a reply: those of a refused one stay as they came, whatever they are.
+#[tactic(auto, unfolding(crate::specs::Entry::state_left))]
 pub fn keep(step: Step, state: &mut [u32; state::STATE_WORDS])
     ensures { state.new ≡ state_left step state.old }
 {
-    let s = step.state;
-    let a = step.answer;
-    let words = state::state_words(s);
-    if is_refused(a) {
-        return;
+    if step.answer.is_ok() {
+        *state = state::state_words(step.state);
     }
-    *state = words;
 }

@@ -1,70 +1,48 @@
 // The state of a run in 27 lent words, by the table of specs/StateWords.antt.
 ghost use Rattle.std.specs.Prelude.{◌≡◌};
-ghost use Rattle.run.specs.Run.{claims_in};
-ghost use Rattle.oof_c_words.specs.StateWords.{count_word, progress_of, stage_code, progress_code, keyword_reply_of, keyword_kind, keyword_width, keyword_height, fill_reply_of, fill_kind, replies_in, counts_in, overflow_in, container_in, claims_code, extents_in, opened_in, opening_codes, state_of, state_words};
-ghost use Rattle.style.specs.Codes.{direction_code, overflow_code};
+ghost use Rattle.oof_c_words.specs.StateWords.{count_word, progress_of, progress_code, keyword_reply_of, keyword_kind, keyword_width, keyword_height, fill_reply_of, fill_kind, replies_in, counts_in, overflow_in, opening_in, claims_code, extents_in, opened_in, opening_codes, state_of, state_words};
 
 use geometry::{Point, Rect, Size};
 use oof_box::question::{KeywordReply, Replies, Stage};
 use oof_resolve::ContainingBlock;
-use run::{Counts, Extents, Opened, Progress, State};
-use style::{ContainingBlockClaims, Direction, Overflow, bits as low};
+use run::{Counts, Extents, Opened, Opening, State};
+use style::ContainingBlockClaims;
 use sweep::Filled;
 use tree::layout::OofPositioningArea;
+use tree_record::layout;
 use util::bits;
 
 pub const STATE_WORDS: usize = 27;
 
 // ---- codes and counts
 
-// A count as a word, modulo 2 ^ 32.
+// A count as a word, modulo 2 ^ 32. By `%`, since no cast of Rattle's wraps and no conversion of std's takes the low word of a count.
 pub fn count_word(n: usize) -> u32
     ensures { result ≡ count_word n }
 {
     (n % 4294967296) as u32
 }
 
-fn progress_of(code: u32) -> Progress
+// The codes of the C interface, here and below: a table of its own, in which any other word means the last row (docs/DECISIONS.md).
+#[tactic(auto, unfolding(crate::specs::StateWords::progress_of))]
+fn progress_of(code: u32) -> Option<Stage>
     ensures { result ≡ progress_of code }
 {
     match code {
-        1 => Progress::Asking(Stage::KeywordBoth),
-        2 => Progress::Asking(Stage::KeywordWidth),
-        3 => Progress::Asking(Stage::KeywordHeight),
-        4 => Progress::Asking(Stage::Fill),
-        5 => Progress::Asking(Stage::LayOut),
-        _ => Progress::Finished,
+        1 => Some(Stage::KeywordBoth),
+        2 => Some(Stage::KeywordWidth),
+        3 => Some(Stage::KeywordHeight),
+        4 => Some(Stage::Fill),
+        5 => Some(Stage::LayOut),
+        _ => None,
     }
 }
 
-#[tactic(auto, unfolding(crate::specs::StateWords::stage_code))]
-fn stage_code(stage: Stage) -> u32
-    ensures { result ≡ stage_code stage }
-{
-    stage as u32 + 1
-}
-
-fn progress_code(progress: Progress) -> u32
+#[tactic(auto, unfolding(crate::specs::StateWords::progress_code, crate::specs::StateWords::stage_code))]
+fn progress_code(progress: Option<Stage>) -> u32
     ensures { result ≡ progress_code progress }
 {
-    match progress {
-        Progress::Finished => 0,
-        Progress::Asking(stage) => stage_code(stage),
-    }
-}
-
-#[tactic(auto, unfolding(style::specs::Codes::direction_code))]
-fn direction_code(direction: Direction) -> u32
-    ensures { result ≡ direction_code direction }
-{
-    direction as u32
-}
-
-#[tactic(auto, unfolding(style::specs::Codes::overflow_code))]
-fn overflow_code(overflow: Overflow) -> u32
-    ensures { result ≡ overflow_code overflow }
-{
-    overflow as u32
+    progress.map_or(0, |stage| stage as u32 + 1)
 }
 
 #[tactic(auto, unfolding(crate::specs::StateWords::claims_code, style::specs::Codes::bits_code))]
@@ -76,6 +54,7 @@ fn claims_code(claims: ContainingBlockClaims) -> u32
 
 // ---- replies kept
 
+// Of the C interface: a kind, then two floats, and a float that the kind doesn't use is 0. No conversion stands for three words at once.
 #[tactic(auto, unfolding(crate::specs::StateWords::keyword_reply_of))]
 fn keyword_reply_of(kind: u32, width: f32, height: f32) -> Option<KeywordReply>
     ensures { result ≡ keyword_reply_of kind width height }
@@ -100,27 +79,22 @@ fn keyword_kind(reply: Option<KeywordReply>) -> u32
     }
 }
 
-#[tactic(auto, unfolding(crate::specs::StateWords::keyword_width))]
-fn keyword_width(reply: Option<KeywordReply>) -> f32
-    ensures { result ≡ keyword_width reply }
+#[tactic(auto, unfolding(crate::specs::StateWords::keyword_width, crate::specs::StateWords::keyword_height))]
+fn keyword_size(reply: Option<KeywordReply>) -> Size<f32>
+    ensures width { result.width ≡ keyword_width reply }
+    ensures height { result.height ≡ keyword_height reply }
 {
     match reply {
-        None => 0.0,
-        Some(KeywordReply::Both(size)) => size.width,
-        Some(KeywordReply::Width(width)) => width,
-        Some(KeywordReply::Height(_)) => 0.0,
-    }
-}
-
-#[tactic(auto, unfolding(crate::specs::StateWords::keyword_height))]
-fn keyword_height(reply: Option<KeywordReply>) -> f32
-    ensures { result ≡ keyword_height reply }
-{
-    match reply {
-        None => 0.0,
-        Some(KeywordReply::Both(size)) => size.height,
-        Some(KeywordReply::Width(_)) => 0.0,
-        Some(KeywordReply::Height(height)) => height,
+        None => Size::ZERO,
+        Some(KeywordReply::Both(size)) => size,
+        Some(KeywordReply::Width(width)) => Size {
+            width,
+            ..Size::ZERO
+        },
+        Some(KeywordReply::Height(height)) => Size {
+            height,
+            ..Size::ZERO
+        },
     }
 }
 
@@ -134,18 +108,10 @@ fn fill_reply_of(kind: u32, width: f32, height: f32) -> Option<Size<f32>>
     }
 }
 
-#[tactic(auto, unfolding(crate::specs::StateWords::fill_kind))]
-fn fill_kind(reply: Option<Size<f32>>) -> u32
-    ensures { result ≡ fill_kind reply }
-{
-    match reply {
-        None => 0,
-        Some(_) => 1,
-    }
-}
-
 // ---- reading
 
+// Word by word, here and below: the C interface's 27 words, each at its place in the table, and no `From`, since neither type is this crate's.
+#[tactic(auto, unfolding(crate::specs::StateWords::replies_in))]
 fn replies_in(w: &[u32; STATE_WORDS]) -> Replies
     ensures { result ≡ replies_in w.now }
 {
@@ -169,23 +135,20 @@ fn counts_in(w: &[u32; STATE_WORDS]) -> Counts
     }
 }
 
-#[tactic(auto, unfolding(crate::specs::StateWords::overflow_in, tree_record::specs::Layout::rect_of))]
+#[tactic(auto, unfolding(crate::specs::StateWords::overflow_in))]
 fn overflow_in(w: &[u32; STATE_WORDS]) -> Rect<f32>
     ensures { result ≡ overflow_in w.now }
 {
-    Rect {
-        left: bits::from_word(w[11]),
-        right: bits::from_word(w[12]),
-        top: bits::from_word(w[13]),
-        bottom: bits::from_word(w[14]),
-    }
+    layout::rect_at(w, 11)
 }
 
-#[tactic(auto, unfolding(crate::specs::StateWords::container_in))]
-fn container_in(w: &[u32; STATE_WORDS]) -> ContainingBlock
-    ensures { result ≡ container_in w.now }
+// What the run was opened with.
+// A screen's first line has these eight words first of ten (boxlist_print): one reader for both would take a slice and a place, and ask for room.
+#[tactic(auto, unfolding(crate::specs::StateWords::opening_in))]
+fn opening_in(w: &[u32; STATE_WORDS]) -> Opening
+    ensures { result ≡ opening_in w.now }
 {
-    ContainingBlock {
+    Opening {
         area: OofPositioningArea {
             size: Size {
                 width: bits::from_word(w[15]),
@@ -196,20 +159,10 @@ fn container_in(w: &[u32; STATE_WORDS]) -> ContainingBlock
                 y: bits::from_word(w[18]),
             },
         },
-        direction: Direction::from(w[19]),
-        overflow: Point {
-            x: Overflow::from(w[21]),
-            y: Overflow::from(w[22]),
-        },
-    }
-}
-
-fn claims_in(code: u32) -> ContainingBlockClaims
-    ensures { result ≡ claims_in code }
-{
-    ContainingBlockClaims {
-        absolute: low::bit0(code),
-        fixed: low::bit1(code),
+        direction: w[19],
+        claims: w[20],
+        overflowx: w[21],
+        overflowy: w[22],
     }
 }
 
@@ -229,9 +182,10 @@ fn extents_in(w: &[u32; STATE_WORDS]) -> Extents
 fn opened_in(w: &[u32; STATE_WORDS]) -> Opened
     ensures { result ≡ opened_in w.now }
 {
+    let opening = opening_in(w);
     Opened {
-        container: container_in(w),
-        claims: claims_in(w[20]),
+        container: ContainingBlock::from(opening),
+        claims: ContainingBlockClaims::from(opening.claims),
         extents: extents_in(w),
     }
 }
@@ -252,20 +206,20 @@ pub fn state_of(w: &[u32; STATE_WORDS]) -> State
 
 // ---- writing
 
-// The codes of an opening: direction, claims, overflow x, overflow y.
+// The codes of an opening, in the order of the C interface: direction, claims, overflow x, overflow y.
 #[tactic(auto, unfolding(crate::specs::StateWords::opening_codes))]
 fn opening_codes(run: Opened) -> [u32; 4]
     ensures { result ≡ opening_codes run }
 {
     [
-        direction_code(run.container.direction),
+        u32::from(run.container.direction),
         claims_code(run.claims),
-        overflow_code(run.container.overflow.x),
-        overflow_code(run.container.overflow.y),
+        u32::from(run.container.overflow.x),
+        u32::from(run.container.overflow.y),
     ]
 }
 
-// The words of a state.
+// The words of a state, in the C interface's order.
 pub fn state_words(s: State) -> [u32; STATE_WORDS]
     ensures { result ≡ state_words s }
 {
@@ -273,15 +227,16 @@ pub fn state_words(s: State) -> [u32; STATE_WORDS]
     let replies = s.replies;
     let keyword = replies.keyword;
     let fill = replies.fill;
+    let asked = keyword_size(keyword);
     let size = fill.unwrap_or(Size::ZERO);
     let run = s.opened;
     let codes = opening_codes(run);
     [
         progress_code(progress),
         keyword_kind(keyword),
-        bits::to_word(keyword_width(keyword)),
-        bits::to_word(keyword_height(keyword)),
-        fill_kind(fill),
+        bits::to_word(asked.width),
+        bits::to_word(asked.height),
+        u32::from(fill.is_some()),
         bits::to_word(size.width),
         bits::to_word(size.height),
         count_word(s.counts.filled.working),

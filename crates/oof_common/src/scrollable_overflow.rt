@@ -37,13 +37,11 @@ fn reach(shows: bool, size: f32, own: Line<f32>) -> Line<f32>
 }
 
 // A line that counts from a box's edge, from where that edge stands.
+// Not `translate`: the Rust has the sum in this order.
 fn placed_at(at: f32, line: Line<f32>) -> Line<f32>
     ensures { result ≡ placed_at at line }
 {
-    Line {
-        start: at + line.start,
-        end: at + line.end,
-    }
+    line.map(|end| at + end)
 }
 
 // Whether one of two edges is at most 0.
@@ -62,6 +60,7 @@ fn is_unreachable(scrolls: bool, x: Line<f32>, y: Line<f32>) -> bool
 
 // `location` and `own` count from the scroll origin and from the box's start edge. A box with nothing to show adds nothing,
 // nor does one wholly before the scroll origin of a parent that scrolls.
+// A line for each axis: each reads a point, a size, two sides and an overflow, which have no zip.
 pub fn compute_scrollable_overflow_contribution(
     location: Point<f32>,
     size: Size<f32>,

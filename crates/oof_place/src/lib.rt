@@ -29,15 +29,17 @@ fn scrollbar_of(overflow: Overflow, width: f32) -> f32
 }
 
 // The bar of a vertical scroll takes width, that of a horizontal one height. The location includes the offset.
+// A line for each axis: each reads its own axis of the box, and the scrollbar the other's overflow.
+// Six parameters, here and in `place`: a struct of them would be made once, for one call.
 fn layout_of(
-    container: ContainingBlock,
-    style: Style,
-    candidate: OofCandidate,
-    resolved: ResolvedBox,
+    container: &ContainingBlock,
+    style: &Style,
+    candidate: &OofCandidate,
+    resolved: &ResolvedBox,
     size: Size<f32>,
     overflow: Rect<f32>,
 ) -> Layout
-    ensures { result ≡ layout_of container style candidate resolved size overflow }
+    ensures { result ≡ layout_of container.now style.now candidate.now resolved.now size overflow }
 {
     let offset = container.area.offset;
     let x = resolved.horizontal.placement(size.width);
@@ -60,9 +62,9 @@ fn layout_of(
     }
 }
 
-// The location from the scroll origin: the area's top, and its start edge by direction.
-fn from_origin(container: ContainingBlock, location: Point<f32>, size: Size<f32>) -> Point<f32>
-    ensures { result ≡ from_origin container location size }
+// The location from the scroll origin: the area's top, and its start edge by direction. A line for each axis: x alone is turned round.
+fn from_origin(container: &ContainingBlock, location: Point<f32>, size: Size<f32>) -> Point<f32>
+    ensures { result ≡ from_origin container.now location size }
 {
     let offset = container.area.offset;
     let x = location.x - offset.x;
@@ -78,14 +80,14 @@ fn from_origin(container: ContainingBlock, location: Point<f32>, size: Size<f32>
 }
 
 pub fn place(
-    container: ContainingBlock,
-    style: Style,
-    candidate: OofCandidate,
-    resolved: ResolvedBox,
+    container: &ContainingBlock,
+    style: &Style,
+    candidate: &OofCandidate,
+    resolved: &ResolvedBox,
     size: Size<f32>,
     overflow: Rect<f32>,
 ) -> OofBoxLayout
-    ensures { result ≡ box_layout container style candidate resolved size overflow }
+    ensures { result ≡ box_layout container.now style.now candidate.now resolved.now size overflow }
 {
     let layout = layout_of(container, style, candidate, resolved, size, overflow);
     let contribution = scrollable_overflow::compute_scrollable_overflow_contribution(

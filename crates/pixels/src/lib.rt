@@ -22,6 +22,7 @@ pub fn is_accepted(x: f32) -> bool
 }
 
 // The integer of a count.
+// Its bound is a clause, here and where counts are added (`reach`): a type would need another one after each sum, and no const argument is worked out.
 fn integer(count: Count) -> i64
     requires { count.size ≤ 9999999 }
     ensures { result ≡ signed count.negative count.size }
@@ -30,7 +31,8 @@ fn integer(count: Count) -> i64
     if count.negative { -size } else { size }
 }
 
-// A number in eighths: 0 where it isn't accepted.
+// A number in eighths: 0 where it isn't accepted, as the law `ElseZero` has it. Who adds these has tested them all before (`are_accepted`), and
+// would open an `Option` at each sum.
 #[tactic(auto, using(util::proofs::Laws::count_is_small), unfolding(crate::specs::Accepted::in_eighths))]
 pub fn in_eighths(x: f32) -> i64
     ensures value { result ≡ in_eighths x }
@@ -98,6 +100,7 @@ pub fn pixel_edges(layout: Layout, offset: Point<f32>) -> Result<Rect<i32>, Refu
     ]) {
         return Err(Refusal::NotInEighths);
     }
+    // a line for each axis: `Size` has its fields by other names than `Point`
     let x = line(location.x, size.width, offset.x);
     let y = line(location.y, size.height, offset.y);
     Ok(Rect::from_components(x, y))

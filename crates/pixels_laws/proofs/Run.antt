@@ -9,7 +9,7 @@ use native.Mathlib.Nat.{not-suc-le-zero, le_of_suc-le-suc}
 use lib.Dec.{eqb, lit<}
 use lib.ListN.{length, get_or}
 use borrow.Author.Tests.{eqb-true, eqb-false}
-use Rattle.std.specs.Prelude.{Some}
+use Rattle.std.specs.Prelude.{Some, is_err, All}
 use Rattle.util.proofs.Floats.{no}
 use Rattle.style.specs.declared.ContainingBlockClaims.{ContainingBlockClaims}
 use Rattle.tree.specs.declared.layout.Layout.{Layout}
@@ -30,15 +30,14 @@ use Rattle.oof_box.specs.declared.question.Question.TheVariants as question
 use Rattle.oof_box.specs.declared.question.Reply.{Reply}
 use Rattle.oof_box.specs.declared.question.Reply.TheVariants as reply
 use Rattle.run.specs.declared.Opening.{Opening}
-use Rattle.run.specs.Call.{Lent}
+use Rattle.run.specs.Call.{Lent, Outcome}
 use Rattle.run.specs.Refusals.{bad_style}
 use Rattle.run.specs.Run.{claims_of, container_of, opened}
 use Rattle.run.specs.Straight.{World, Box, at_opening, after_box, Course, ended, asks, during, boxes, straight}
-use Rattle.run.specs.Theorems.{is_refused, Heard, Turn, AllLend, or_stay, hearing, so_far, laid_into, laid_so_far, claimed_in, called, heeded_in, course_of}
+use Rattle.run.specs.Theorems.{Heard, Turn, AllLend, or_stay, hearing, so_far, laid_into, laid_so_far, claimed_in, called, heeded_in, course_of}
 use Rattle.run.proofs.Straight.{straight_run}
 use Rattle.run.proofs.Ways.{OpeningWay, begins, turned_down, opening_way}
 use Rattle.run.proofs.Worlds.{claimed_after, claimed_count}
-use Rattle.run.specs.Call.{Outcome}
 use Rattle.mirror_run.specs.Quarter.{AreaInQuarters, QuarterItem, QuarterTable, QuarterCandidates, QuarterPlace, QuarterReply}
 use Rattle.mirror_run.specs.Runs.{Each, one, layout_of_box}
 use Rattle.mirror_run.proofs.Again.{again_exact, again_same}
@@ -49,7 +48,6 @@ use Rattle.mirror_run.proofs.Styles as styles
 use Rattle.mirror_run.proofs.Surfaced.{none_kept}
 use Rattle.mirror_run.proofs.Verdicts.{OpeningPassed, opening_passed}
 use Rattle.pixels_laws.specs.Quarter.{StyleInQuarters, QuarterTo, AnsweredInQuarters, now, later}
-use Rattle.std.specs.Prelude.{All}
 use Rattle.std.proofs.lemmas.List.Elements.{All-nil, All-head, All-tail, All-push}
 use Rattle.pixels_laws.specs.Laws.{QuarterHeard, RunHasEdges}
 use Rattle.pixels_laws.proofs.Box.{LayoutIn, has_edges, placed_in}
@@ -243,14 +241,14 @@ pub record RunIn (o : Opening) (candidates : List ℕ) (lent : Lent) (has : Outc
 -- under what `RunHasEdges` asks
 pub run_in : (o : Opening) (candidates : List ℕ) (lent : Lent) (turns : List Turn)
     → AreaInQuarters o.area → QuarterTable lent.styles → QuarterCandidates candidates
-    → is_refused (opened o candidates lent).step.answer ≡ false
+    → is_err (opened o candidates lent).step.answer ≡ false
     → AllLend lent.styles (opened o candidates lent) turns
     → All (QuarterHeard (claims_of o)) (heeded_in o candidates lent turns)
     → RunIn o candidates lent (called o candidates lent turns)
 run_in o candidates lent turns area table quarter accepts lends heard = go (opening_way o candidates lent)
   where
     go : OpeningWay o candidates lent → RunIn o candidates lent (called o candidates lent turns)
-    go (turned_down r e) = no (ap (λ (x : Outcome). is_refused x.step.answer) e) accepts
+    go (turned_down r e) = no (ap (λ (x : Outcome). is_err x.step.answer) e) accepts
     go (begins v e) =
         let passed = opening_passed o candidates lent v in
         let stands = straight_run o candidates lent turns accepts lends in

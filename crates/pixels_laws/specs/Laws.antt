@@ -1,5 +1,5 @@
 -- Whole quarter pixels in, whole eighths out, as statements. `proofs/` proves each, under its name in small letters. Assumes nothing.
-use Rattle.std.specs.Prelude.{◌≡◌, false, List, [], ℕ, ◌<◌, All, IsOk, Float}
+use Rattle.std.specs.Prelude.{◌≡◌, false, List, [], ℕ, ◌<◌, All, IsOk, is_err, Float}
 use Rattle.geometry.specs.declared.Point.{Point}
 use Rattle.style.specs.declared.ContainingBlockClaims.{ContainingBlockClaims}
 use Rattle.style.specs.declared.Style.{Style}
@@ -13,7 +13,7 @@ use Rattle.run.specs.declared.Opening.{Opening}
 use Rattle.run.specs.Call.{Lent}
 use Rattle.run.specs.Refusals.{lent_by}
 use Rattle.run.specs.Run.{claims_of, opened}
-use Rattle.run.specs.Theorems.{is_refused, Heard, Turn, AllLend, laid_so_far, called, heeded_in}
+use Rattle.run.specs.Theorems.{Heard, Turn, AllLend, laid_so_far, called, heeded_in}
 use Rattle.mirror_run.specs.Quarter.{AreaInQuarters, QuarterPlace, QuarterTable, QuarterCandidates, QuarterReply}
 use Rattle.mirror_run.specs.Runs.{layout_of_box}
 use Rattle.pixels_laws.specs.Quarter.{StyleInQuarters, AnsweredInQuarters}
@@ -41,7 +41,7 @@ abbrev pub RunHasEdges : Type 0
 RunHasEdges =
     (o : Opening) (candidates : List ℕ) (lent : Lent) (turns : List Turn)
     → AreaInQuarters o.area → QuarterTable lent.styles → QuarterCandidates candidates
-    → is_refused (opened o candidates lent).step.answer ≡ false
+    → is_err (opened o candidates lent).step.answer ≡ false
     → AllLend lent.styles (opened o candidates lent) turns
     → All (QuarterHeard (claims_of o)) (heeded_in o candidates lent turns)
     → let has = called o candidates lent turns in

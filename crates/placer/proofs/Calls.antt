@@ -8,7 +8,8 @@ use mathlib.Core.List.{List, []}
 use mathlib.Core.Path.{◌≡◌, refl}
 use lib.Dec.{eqb, ltb}
 use lib.ListN.{length}
-use borrow.Author.Tests.{ltb-false, eqb-true, not-false, le-leb}
+use borrow.Author.Tests.{eqb-true, not-false, le-leb}
+use Rattle.std.proofs.lemmas.Bool.{or_parts}
 use Rattle.records.specs.Records.{records, room, good_records}
 use Rattle.style_record.specs.Record.{style_words, items}
 use Rattle.tree_record.specs.Candidate.{candidate_width, candidate_kinds}
@@ -22,9 +23,9 @@ use Rattle.run.specs.declared.Opening.{Opening}
 use Rattle.run.specs.declared.State.{State}
 use Rattle.run.specs.declared.Counts.{Counts}
 use Rattle.style.specs.declared.ContainingBlockClaims.{ContainingBlockClaims}
-use Rattle.run.proofs.Ways.{Counted, counted}
+use Rattle.run.proofs.Ways.{few_records, Counted, counted}
 use Rattle.placer_check.specs.Verdict.{then_room}
-use Rattle.placer_check.proofs.Verdicts.{passed, room_number, neither}
+use Rattle.placer_check.proofs.Verdicts.{passed, room_number}
 use Rattle.placer.specs.Entry.{AtHand, ReplyCleared}
 use Rattle.sweep.proofs.Listed.{AllBelow}
 use Rattle.placer.proofs.Nodes.{good_below, below_at, item_words_lem}
@@ -61,11 +62,7 @@ pub record Passed (s : State) (reply : Reply) (surfaced : List ℕ) (l : Lent) :
 pub table : (styles layouts : List ℕ) → bad_table styles layouts ≡ false → length layouts ≡ layout_width * items styles
 unfolding bad_table
 table styles layouts e =
-    eqb-true _ _ (not-false _ (neither (ragged style_words styles || ltb 1024 (items styles)) (not (eqb (length layouts) (layout_width * items styles))) e).1)
-
-pub few_records : (list : List ℕ) → bad_list list ≡ false → length list / candidate_width ≤ 4096
-unfolding bad_list
-few_records list e = ltb-false _ _ (neither (ragged candidate_width list) (ltb 4096 (length list / candidate_width)) e).1
+    eqb-true _ _ (not-false _ (or_parts (ragged style_words styles || ltb 1024 (items styles)) (not (eqb (length layouts) (layout_width * items styles))) e).1)
 
 pub reply_passed : (s : State) (reply : Reply) (surfaced : List ℕ) (l : Lent) → ReplyCleared s reply surfaced l → Passed s reply surfaced l
 unfolding reply_verdict bad_slices candidates_in
@@ -75,16 +72,16 @@ reply_passed s reply surfaced l e =
     let b = passed _ _ _ _ a.1 (room_number 6 refl full) in
     let c = passed _ _ _ _ b.1 (room_number 3 refl full) in
     let d = passed _ _ _ _ c.1 (room_number 4 refl full) in
-    let extents = neither (bad_slices l || other_lengths s.opened.extents l) (ragged candidate_width (lent_by reply surfaced)) a.0 in
-    let slices = neither (bad_slices l) (other_lengths s.opened.extents l) extents.0 in
-    let lists = neither (bad_table l.styles l.layouts || bad_list l.working) (bad_list l.unclaimed) slices.0 in
+    let extents = or_parts (bad_slices l || other_lengths s.opened.extents l) (ragged candidate_width (lent_by reply surfaced)) a.0 in
+    let slices = or_parts (bad_slices l) (other_lengths s.opened.extents l) extents.0 in
+    let lists = or_parts (bad_table l.styles l.layouts || bad_list l.working) (bad_list l.unclaimed) slices.0 in
     record {
-      layouts = table l.styles l.layouts (neither (bad_table l.styles l.layouts) (bad_list l.working) lists.0).0;
-      few = few_records l.working (neither (bad_table l.styles l.layouts) (bad_list l.working) lists.0).1;
-      taken = (neither (is_none (taken_by s reply)) (wrong_counts l s.counts) b.0).0;
-      counts = (neither (is_none (taken_by s reply)) (wrong_counts l s.counts) b.0).1;
-      listed = good_below (items l.styles) l.working s.counts.filled.working (fine l.styles l.working s.counts.filled.working (neither (bad_candidate l.styles l.working s.counts.filled.working) (bad_candidates l.styles (lent_by reply surfaced)) d.0).0);
-      brought = good_below (items l.styles) (lent_by reply surfaced) (length (lent_by reply surfaced) / candidate_width) (fine l.styles (lent_by reply surfaced) (length (lent_by reply surfaced) / candidate_width) (neither (bad_candidate l.styles l.working s.counts.filled.working) (bad_candidates l.styles (lent_by reply surfaced)) d.0).1);
+      layouts = table l.styles l.layouts (or_parts (bad_table l.styles l.layouts) (bad_list l.working) lists.0).0;
+      few = few_records l.working (or_parts (bad_table l.styles l.layouts) (bad_list l.working) lists.0).1;
+      taken = (or_parts (is_none (taken_by s reply)) (wrong_counts l s.counts) b.0).0;
+      counts = (or_parts (is_none (taken_by s reply)) (wrong_counts l s.counts) b.0).1;
+      listed = good_below (items l.styles) l.working s.counts.filled.working (fine l.styles l.working s.counts.filled.working (or_parts (bad_candidate l.styles l.working s.counts.filled.working) (bad_candidates l.styles (lent_by reply surfaced)) d.0).0);
+      brought = good_below (items l.styles) (lent_by reply surfaced) (length (lent_by reply surfaced) / candidate_width) (fine l.styles (lent_by reply surfaced) (length (lent_by reply surfaced) / candidate_width) (or_parts (bad_candidate l.styles l.working s.counts.filled.working) (bad_candidates l.styles (lent_by reply surfaced)) d.0).1);
     }
 
 -- the box at hand has its record and its style

@@ -11,7 +11,7 @@ use borrow.Author.Tests.{leb-false}
 use Rattle.std.specs.Prelude.{Option, Some, None, Float}
 use Rattle.geometry.specs.declared.Point.{Point}
 use Rattle.records.specs.Records.{record_at, records, breaks, wrong, good_records}
-use Rattle.records.proofs.Laws.{record_of_records, records_step, good_is_unbroken}
+use Rattle.records.proofs.Laws.{length_records, record_of_records, records_step, good_is_unbroken}
 use Rattle.style.specs.declared.ContainingBlockClaims.{ContainingBlockClaims}
 use Rattle.tree.specs.declared.layout.OofCandidate.{OofCandidate}
 use Rattle.tree.specs.Static.{translated}
@@ -46,11 +46,6 @@ keep_below n by list (c ∷ cs) a = go (side by list c.position) (keep by list c
 
 -- ---- the first records of a list
 
-records_length : (w n : ℕ) (ws : List ℕ) → length (records w n ws) ≡ n
-unfolding records
-records_length w zero ws = refl
-records_length w (suc n) ws = ap suc (records_length w n (drop w ws))
-
 at_place : (n : ℕ) (rs : List (List ℕ)) (i : ℕ) → AllBelow n (map candidate_of rs) → i < length rs → (candidate_of (get_or rs i [])).node < n
 at_place n [] i a h = absurd (not-suc-le-zero h)
 at_place n (r ∷ rs) zero a h = a.0.0
@@ -62,7 +57,7 @@ pub below_at : (n k : ℕ) (ws : List ℕ) (i : ℕ) → AllBelow n (first_candi
 unfolding first_candidates
 below_at n k ws i a h =
     rw (sym (record_of_records candidate_width k ws i h))
-    (at_place n (records candidate_width k ws) i a (rw (records_length candidate_width k ws) h))
+    (at_place n (records candidate_width k ws) i a (rw (length_records candidate_width k ws) h))
 
 is_below : (n : ℕ) (ws : List ℕ) (i : ℕ)
     → breaks (candidate_kinds n) ws (candidate_width * i) 0 ≡ false

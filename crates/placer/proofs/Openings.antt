@@ -11,7 +11,6 @@ use Rattle.tree.specs.declared.layout.OofCandidate.{OofCandidate}
 use Rattle.sweep.specs.declared.Filled.{Filled}
 use Rattle.sweep.specs.Sweep as sweep
 use Rattle.sweep.specs.Sweep.{candidates_in, moved, keep, appended, swept}
-use Rattle.run.specs.declared.Answer.TheVariants as answer
 use Rattle.run.specs.declared.Opening.{Opening}
 use Rattle.run.specs.declared.Step.{Step}
 use Rattle.run.specs.Call.{Lent, Outcome, outcome}
@@ -35,13 +34,13 @@ module _ (o : Opening) (candidates : List ℕ) (l : Lent) where
   begins = opened_by (then_room accepted (list_full (claims_of o) l none_filled candidates)) o candidates l
 
   pub turned_down : (r : Refusal) (step : Step) → opening_verdict o candidates l ≡ refused r
-      → step ≡ record { state = closed l; answer = answer.Refused r }
+      → step ≡ record { state = closed l; answer = Err r }
       → outcome step l.layouts l.working l.unclaimed ≡ opened o candidates l
   unfolding opened
   turned_down r step e s = rw e (outcome_is s refl refl refl)
 
   pub no_room : (r : Refusal) (step : Step) (w u : List ℕ) → sweep.Leaves (Err r) w u sweeping
-      → step ≡ record { state = closed l; answer = answer.Refused r }
+      → step ≡ record { state = closed l; answer = Err r }
       → outcome step l.layouts w u ≡ begins
   unfolding ◌when◌else◌
   no_room r step w u h s =

@@ -1,10 +1,9 @@
 -- A reply, by the ways that the code goes. Assumes nothing.
-use Rattle.std.specs.Prelude.{None, Some, is_none, Float}
+use Rattle.std.specs.Prelude.{None, Some, is_none, Option, Ok, Err, Float}
 use Prim.Native.Nat.{ℕ, ◌+◌, ◌*◌, ◌<◌}
 use mathlib.Core.Bool.{true, false}
 use mathlib.Core.List.{List, [], map}
 use mathlib.Core.Path.{◌≡◌, refl, sym, ap, ◌∙◌}
-use Rattle.std.specs.Prelude.{Option, Some, Ok, Err}
 use Rattle.util.proofs.Floats.{no}
 use Rattle.geometry.specs.Geometry.{union_of}
 use Rattle.geometry.specs.declared.Point.{Point}
@@ -23,7 +22,6 @@ use Rattle.oof_box.specs.declared.question.Replies.{Replies}
 use Rattle.oof_box.specs.declared.question.Reply.{Reply}
 use Rattle.oof_box.specs.declared.question.Reply.TheVariants.{Both, Width, Height, LaidOut}
 use Rattle.oof_box.specs.declared.question.Taken.TheVariants.{Kept, Laid}
-use Rattle.run.specs.declared.Answer.TheVariants as answer
 use Rattle.run.specs.declared.State.{State}
 use Rattle.run.specs.declared.Step.{Step}
 use Rattle.run.specs.Call.{Lent, Outcome, outcome}
@@ -52,7 +50,7 @@ module _ (s : State) (overflow : Rect Float) (surfaced : List ℕ) (l : Lent) wh
   settled = replied_by (then_room accepted (list_full s.opened.claims l s.counts.filled surfaced)) (Some (Laid overflow)) s surfaced l
 
   pub no_room : (r : Refusal) (step : Step) (w u : List ℕ) → sweep.Leaves (Err r) w u sweeping
-      → step ≡ record { state = s; answer = answer.Refused r }
+      → step ≡ record { state = s; answer = Err r }
       → outcome step l.layouts w u ≡ settled
   unfolding ◌when◌else◌
   no_room r step w u h e =
@@ -91,7 +89,7 @@ kept_lends_none s (LaidOut overflow) replies surfaced e = never_kept s overflow 
 
 module _ (s : State) (reply : Reply) (surfaced : List ℕ) (l : Lent) where
   pub turned_down : (r : Refusal) (step : Step) → reply_verdict s reply surfaced l ≡ refused r
-      → step ≡ record { state = s; answer = answer.Refused r }
+      → step ≡ record { state = s; answer = Err r }
       → outcome step l.layouts l.working l.unclaimed ≡ replied s reply surfaced l
   unfolding replied
   turned_down r step e p = rw e (outcome_is p refl refl refl)

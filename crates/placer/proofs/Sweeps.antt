@@ -7,6 +7,7 @@ use mathlib.Core.List.{List, map}
 use mathlib.Core.Path.{◌≡◌, refl, ap, ◌∙◌}
 use lib.ListN.{length}
 use borrow.Author.Tests.{not-false}
+use Rattle.std.proofs.lemmas.Bool.{or_parts}
 use Rattle.std.specs.Prelude.{Option, Result, Ok, Err, Float}
 use Rattle.geometry.specs.declared.Point.{Point}
 use Rattle.refusal.specs.declared.Refusal.{Refusal}
@@ -23,7 +24,6 @@ use Rattle.sweep.proofs.Steps.{full, into, no_room_in, no_room_out, room_both, k
 use Rattle.sweep.proofs.Laws.{swept_fits, kept_fits}
 use Rattle.run.specs.Call.{Lent}
 use Rattle.run.specs.Refusals.{list_full}
-use Rattle.placer_check.proofs.Verdicts.{neither}
 use Rattle.placer.specs.Entry.{AtHand}
 use Rattle.sweep.proofs.Listed.{AllBelow}
 use Rattle.placer.proofs.Nodes.{moved_below, keep_below, appended_below, item_words_lem}
@@ -98,7 +98,7 @@ module _ (by : ContainingBlockClaims) (s : Option (Point Float)) (ws : List ℕ)
   unfolding list_full
   in_words_lem e =
       room_words candidate_width (length l.working) f.working (length (keep by true (candidates_in ws)))
-      (not-false _ (neither _ _ e).0)
+      (not-false _ (or_parts _ _ e).0)
 
   -- the box after i others
   pub next_at_hand : (styles : List ℕ) → AllBelow (items styles) (first_candidates f.working l.working)

@@ -4,128 +4,90 @@
 
 ghost use Rattle.std.specs.Prelude.{◌≡◌};
 ghost use Rattle.run.specs.Call.{lent, outcome};
-ghost use Rattle.run.specs.Refusals.{accepted, list_full};
-ghost use Rattle.run.specs.Run.{claims_of, container_of, extents_of, none_filled, closed, opened_by, opened, replied};
-ghost use Rattle.placer_check.specs.Verdict.{then_room};
-ghost use Rattle.placer.specs.Entry.{OpeningCleared, pass_needed, overflow_after};
+ghost use Rattle.run.specs.Run.{closed, opened, replied};
+ghost use Rattle.placer.specs.Entry.{step_by, pass_needed, overflow_after};
 
-use geometry::{Point, Rect, Size};
-use oof_box::question::{Replies, Reply, Taken};
+use geometry::Rect;
+use oof_box::question::{Reply, Taken};
 use oof_resolve::ContainingBlock;
 use placer_check::{opening, reply as answer};
 use refusal::Refusal;
-use run::{Counts, Extents, Opened, Opening, Progress, State, Step, claims_in};
-use style::{ContainingBlockClaims, Direction, Overflow};
-use sweep::Filled;
+use run::{Counts, Extents, Lent, Opened, Opening, State, Step};
+use style::ContainingBlockClaims;
 use tree::layout::OofPositioningArea;
 
 mod boxes;
 
-// ---- an opening
-
-fn container_of(o: Opening) -> ContainingBlock
-    ensures { result ≡ container_of o }
+// What a call returns: its step; or, where it is refused, this state, and why.
+fn step_by(state: &State, step: Result<Step, Refusal>) -> Step
+    ensures { result ≡ step_by state.now step }
 {
-    ContainingBlock {
-        area: o.area,
-        direction: Direction::from(o.direction),
-        overflow: Point {
-            x: Overflow::from(o.overflowx),
-            y: Overflow::from(o.overflowy),
+    match step {
+        Ok(step) => step,
+        Err(refusal) => Step {
+            state: *state,
+            answer: Err(refusal),
         },
     }
 }
 
-fn extents_of(styles: &[u32], layouts: &[u32], working: &[u32], unclaimed: &[u32]) -> Extents
-    ensures { result ≡ extents_of (lent styles.now layouts.now working.now unclaimed.now) }
-{
-    Extents {
-        styles: styles.len(),
-        layouts: layouts.len(),
-        working: working.len(),
-        unclaimed: unclaimed.len(),
-    }
-}
-
-const NONE_FILLED: Filled = Filled {
-    working: 0,
-    unclaimed: 0,
-};
-
-const NO_AREA: OofPositioningArea = OofPositioningArea {
-    size: Size::<f32>::ZERO,
-    offset: Point::<f32>::ZERO,
-};
-
-const NO_OVERFLOW: Point<Overflow> = Point {
-    x: Overflow::Visible,
-    y: Overflow::Visible,
-};
-
-const NO_CLAIMS: ContainingBlockClaims = ContainingBlockClaims {
-    absolute: false,
-    fixed: false,
-};
+// ---- an opening
 
 // The state of a finished run with all counts 0, and the lengths as lent.
 #[tactic(auto, unfolding(run::specs::Run::closed))]
-fn closed(styles: &[u32], layouts: &[u32], working: &[u32], unclaimed: &[u32]) -> State
-    ensures { result ≡ closed (lent styles.now layouts.now working.now unclaimed.now) }
+fn closed(lent: &Lent) -> State
+    ensures { result ≡ closed lent.now }
 {
     State {
-        progress: Progress::Finished,
-        replies: Replies::NONE,
-        counts: Counts {
-            filled: NONE_FILLED,
-            begun: 0,
-            answered: 0,
-        },
-        overflow: Rect::ZERO,
         opened: Opened {
-            container: ContainingBlock {
-                area: NO_AREA,
-                direction: Direction::Ltr,
-                overflow: NO_OVERFLOW,
-            },
-            claims: NO_CLAIMS,
-            extents: extents_of(styles, layouts, working, unclaimed),
+            extents: Extents::from(lent),
+            ..Opened::default()
         },
+        ..State::default()
     }
 }
 
-// The candidates are swept, then the first box begins.
+// The opening is checked and the candidates are swept, then the first box begins. `before` is the state of a refused opening.
 fn begin(
+    before: &State,
     o: Opening,
     styles: &[u32],
     candidates: &[u32],
     layouts: &[u32],
     working: &mut [u32],
     unclaimed: &mut [u32],
-) -> Step
-    requires { OpeningCleared o candidates.now (lent styles.now layouts.now working.old unclaimed.old) }
-    ensures { outcome result layouts.now working.new unclaimed.new ≡ opened_by (then_room accepted (list_full (claims_of o) (lent styles.now layouts.now working.old unclaimed.old) none_filled candidates.now)) o candidates.now (lent styles.now layouts.now working.old unclaimed.old) }
+) -> Result<Step, Refusal>
+    requires { before.now ≡ closed (lent styles.now layouts.now working.old unclaimed.old) }
+    ensures { outcome (step_by before.now result) layouts.now working.new unclaimed.new ≡ opened o candidates.now (lent styles.now layouts.now working.old unclaimed.old) }
 {
-    let none = closed(styles, layouts, working, unclaimed);
-    let claims = claims_in(o.claims);
-    match sweep::sweep(claims, None, candidates, working, unclaimed, NONE_FILLED) {
-        Err(refusal) => boxes::refuse(none, refusal),
-        Ok(filled) => {
-            let run = Opened {
-                container: container_of(o),
-                claims: claims,
-                extents: none.opened.extents,
-            };
-            let counts = Counts {
-                filled: filled,
-                begun: 0,
-                answered: 0,
-            };
-            boxes::proceed(styles, working, run, counts, Rect::ZERO)
-        }
-    }
+    let lent = Lent {
+        styles,
+        layouts,
+        working,
+        unclaimed,
+    };
+    opening::check_opening(o, candidates, &lent)?;
+    let claims = ContainingBlockClaims::from(o.claims);
+    let held = before.counts.filled;
+    let filled = sweep::sweep(claims, None, candidates, working, unclaimed, held)?;
+    let next = State {
+        counts: Counts {
+            filled,
+            ..before.counts
+        },
+        opened: Opened {
+            container: ContainingBlock::from(o),
+            claims,
+            ..before.opened
+        },
+        ..*before
+    };
+    Ok(boxes::proceed(&next, styles, working))
 }
 
 // Opens a run.
+// What a call writes is lent slice by slice, here, below and in crates above: of `&mut` slices in a struct, the lender learns no words after it.
+// What it reads stands beside: the opening's numbers go into the state, and its candidates are lent at the opening alone.
 pub fn open(
     o: Opening,
     styles: &[u32],
@@ -136,15 +98,49 @@ pub fn open(
 ) -> Step
     ensures { outcome result layouts.new working.new unclaimed.new ≡ opened o candidates.now (lent styles.now layouts.old working.old unclaimed.old) }
 {
-    match opening::check_opening(o, styles, candidates, layouts, working, unclaimed) {
-        Err(refusal) => boxes::refuse(closed(styles, layouts, working, unclaimed), refusal),
-        Ok(()) => begin(o, styles, candidates, layouts, working, unclaimed),
-    }
+    let lent = Lent {
+        styles,
+        layouts,
+        working,
+        unclaimed,
+    };
+    let before = closed(&lent);
+    let opened = begin(&before, o, styles, candidates, layouts, working, unclaimed);
+    step_by(&before, opened)
 }
 
 // ---- a reply
 
-// Takes the reply to the open question. The surfaced slice is that of a lay-out reply; one lent with another is not looked at.
+// A reply that is checked goes to the box at hand.
+fn take(
+    s: &State,
+    reply: Reply,
+    surfaced: &[u32],
+    styles: &[u32],
+    layouts: &mut [u32],
+    working: &mut [u32],
+    unclaimed: &mut [u32],
+) -> Result<Step, Refusal>
+    ensures { outcome (step_by s.now result) layouts.new working.new unclaimed.new ≡ replied s.now reply surfaced.now (lent styles.now layouts.old working.old unclaimed.old) }
+{
+    let lent = Lent {
+        styles,
+        layouts,
+        working,
+        unclaimed,
+    };
+    answer::check_reply(s, reply, surfaced, &lent)?;
+    match answer::taken_by(s, reply).ok_or(Refusal::WrongReply)? {
+        Taken::Kept(replies) => Ok(boxes::go_on(s, replies, styles, working)),
+        Taken::Laid(overflow) => {
+            let next = boxes::settle(s, overflow, surfaced, styles, layouts, working, unclaimed)?;
+            Ok(boxes::proceed(&next, styles, working))
+        }
+    }
+}
+
+// Takes the reply to the open question. The surfaced slice is that of a lay-out reply; one lent with another is not looked at. It is a parameter
+// of its own, here and below the entries: document 01 has a slice lent with each kind of reply, so that it is no part of `Reply::LaidOut`.
 pub fn reply(
     s: State,
     reply: Reply,
@@ -156,16 +152,8 @@ pub fn reply(
 ) -> Step
     ensures { outcome result layouts.new working.new unclaimed.new ≡ replied s reply surfaced.now (lent styles.now layouts.old working.old unclaimed.old) }
 {
-    match answer::check_reply(s, reply, surfaced, styles, layouts, working, unclaimed) {
-        Err(refusal) => boxes::refuse(s, refusal),
-        Ok(()) => match answer::taken_by(s, reply) {
-            None => boxes::refuse(s, Refusal::WrongReply),
-            Some(Taken::Kept(replies)) => boxes::go_on(s, replies, styles, working),
-            Some(Taken::Laid(overflow)) => {
-                boxes::settle(s, overflow, surfaced, styles, layouts, working, unclaimed)
-            }
-        },
-    }
+    let taken = take(&s, reply, surfaced, styles, layouts, working, unclaimed);
+    step_by(&s, taken)
 }
 
 // ---- `compute_oof_layout`'s own part

@@ -1,6 +1,6 @@
 -- What a verdict says of the tests that it passed. Assumes nothing.
 use Prim.Native.Nat.{ℕ}
-use mathlib.Core.Bool.{Bool, true, false, ◌||◌}
+use mathlib.Core.Bool.{Bool, true, false}
 use mathlib.Core.Path.{◌≡◌, refl, ap, ◌∙◌}
 use lib.Dec.{eqb}
 use borrow.Author.Tests.{eq-eqb}
@@ -28,7 +28,3 @@ pub room_number : (n : ℕ) → eqb 5 n ≡ false → (full : Bool) → is_numbe
 unfolding ◌when◌else◌
 room_number n e true = e
 room_number n e false = refl
-
-pub neither : (a b : Bool) → (a || b) ≡ false → (a ≡ false) × (b ≡ false)
-neither true b e = no refl e
-neither false b e = (refl, e)

@@ -1,12 +1,12 @@
 // Conditions on the lent slices.
 ghost use Rattle.std.specs.Prelude.{◌≡◌};
 ghost use Rattle.tree_record.specs.Candidate.{candidate_width};
-ghost use Rattle.run.specs.Refusals.{ragged, bad_table, bad_list, bad_slices, other_lengths, bad_lent, bad_style, bad_candidate};
-ghost use Rattle.run.specs.Call.{lent};
+ghost use Rattle.run.specs.Refusals.{ragged, bad_table, bad_list, bad_slices, bad_lent, above_lists, bad_style, bad_candidate};
 
-use run::Extents;
+use run::{Extents, Lent};
 use style_record::check;
 use style_record::words::STYLE_WORDS;
+use sweep::Filled;
 use tree_record::candidate;
 use tree_record::candidate::CANDIDATE_WORDS;
 use tree_record::layout::LAYOUT_WORDS;
@@ -17,7 +17,7 @@ pub const MOST_RECORDS: usize = 4096;
 
 // ---- 2: bad extent
 
-// Styles not 79 × n words with n at most 1,024, or layouts not 23 × n.
+// Styles not 79 × n words with n at most 1,024, or layouts not 23 × n: by document 01, n is known from their lengths.
 #[tactic(auto, unfolding(run::specs::Refusals::bad_table, style_record::specs::Record::items))]
 fn is_table_bad(styles: &[u32], layouts: &[u32]) -> bool
     ensures { result ≡ bad_table styles.now layouts.now }
@@ -41,42 +41,22 @@ fn is_list_bad(list: &[u32]) -> bool
     is_ragged(list) || MOST_RECORDS < list.len() / CANDIDATE_WORDS
 }
 
+// Table or lists are bad extents. A line for each list: they are two fields of what is lent.
 #[tactic(auto, unfolding(run::specs::Refusals::bad_slices))]
-pub fn are_slices_bad(styles: &[u32], layouts: &[u32], working: &[u32], unclaimed: &[u32]) -> bool
-    ensures { result ≡ bad_slices (lent styles.now layouts.now working.now unclaimed.now) }
+pub fn are_slices_bad(lent: &Lent) -> bool
+    ensures { result ≡ bad_slices lent.now }
 {
-    is_table_bad(styles, layouts) || is_list_bad(working) || is_list_bad(unclaimed)
+    is_table_bad(lent.styles, lent.layouts)
+        || is_list_bad(lent.working)
+        || is_list_bad(lent.unclaimed)
 }
 
-// A slice of another length than at the opening.
+// The four slices of a call after the opening: bad ones, or one of another length than at the opening.
 #[tactic(auto, unfolding(run::specs::Refusals::other_lengths))]
-fn are_lengths_other(
-    e: Extents,
-    styles: &[u32],
-    layouts: &[u32],
-    working: &[u32],
-    unclaimed: &[u32],
-) -> bool
-    ensures { result ≡ other_lengths e (lent styles.now layouts.now working.now unclaimed.now) }
+pub fn is_lent_bad(lent: &Lent, e: Extents) -> bool
+    ensures { result ≡ bad_lent e lent.now }
 {
-    styles.len() != e.styles
-        || layouts.len() != e.layouts
-        || working.len() != e.working
-        || unclaimed.len() != e.unclaimed
-}
-
-// The four slices of a call after the opening: bad ones, or of other lengths.
-pub fn is_lent_bad(
-    e: Extents,
-    styles: &[u32],
-    layouts: &[u32],
-    working: &[u32],
-    unclaimed: &[u32],
-) -> bool
-    ensures { result ≡ bad_lent e (lent styles.now layouts.now working.now unclaimed.now) }
-{
-    are_slices_bad(styles, layouts, working, unclaimed)
-        || are_lengths_other(e, styles, layouts, working, unclaimed)
+    are_slices_bad(lent) || Extents::from(lent) != e
 }
 
 // ---- 3: bad style
@@ -96,4 +76,15 @@ pub fn is_candidate_bad(styles: &[u32], list: &[u32], count: usize) -> bool
     ensures { result ≡ bad_candidate styles.now list.now count }
 {
     !candidate::are_good(list, count, styles.len() / STYLE_WORDS)
+}
+
+// ---- 6: wrong reply
+
+// More filled records than the lists have places for. A line for each list, as at `are_slices_bad`: they are fields of what is lent, and
+// their counts are fields of `Filled`.
+pub fn are_above_lists(lent: &Lent, filled: Filled) -> bool
+    ensures { result ≡ above_lists lent.now.working lent.now.unclaimed filled }
+{
+    lent.working.len() / CANDIDATE_WORDS < filled.working
+        || lent.unclaimed.len() / CANDIDATE_WORDS < filled.unclaimed
 }

@@ -3,12 +3,11 @@ ghost use Rattle.std.specs.Prelude.{◌≡◌, ◌||◌};
 ghost use Rattle.tree_record.specs.Candidate.{candidate_width};
 ghost use Rattle.run.specs.Refusals.{bad_area, bad_slices, ragged, list_full};
 ghost use Rattle.run.specs.Run.{claims_of, none_filled, opening_verdict};
-ghost use Rattle.run.specs.Call.{lent};
 ghost use Rattle.placer_check.specs.Verdict.{then_room};
 
 use crate::{lent, refuse_if};
 use refusal::Refusal;
-use run::Opening;
+use run::{Lent, Opening};
 use tree_record::candidate::CANDIDATE_WORDS;
 
 // 1: bad area. Codes only: any number is accepted.
@@ -20,37 +19,21 @@ fn is_area_bad(o: Opening) -> bool
 }
 
 // 2: bad extent.
-fn are_extents_bad(
-    styles: &[u32],
-    candidates: &[u32],
-    layouts: &[u32],
-    working: &[u32],
-    unclaimed: &[u32],
-) -> bool
-    ensures { result ≡ (bad_slices (lent styles.now layouts.now working.now unclaimed.now) || ragged candidate_width candidates.now) }
+fn are_extents_bad(candidates: &[u32], lent: &Lent) -> bool
+    ensures { result ≡ (bad_slices lent.now || ragged candidate_width candidates.now) }
 {
-    lent::are_slices_bad(styles, layouts, working, unclaimed) || lent::is_ragged(candidates)
+    lent::are_slices_bad(lent) || lent::is_ragged(candidates)
 }
 
 // Tests 1, 2, 3, 4, in that order.
-pub fn check_opening(
-    o: Opening,
-    styles: &[u32],
-    candidates: &[u32],
-    layouts: &[u32],
-    working: &[u32],
-    unclaimed: &[u32],
-) -> Result<(), Refusal>
-    ensures { opening_verdict o candidates.now (lent styles.now layouts.now working.now unclaimed.now) ≡ then_room result (list_full (claims_of o) (lent styles.now layouts.now working.now unclaimed.now) none_filled candidates.now) }
+pub fn check_opening(o: Opening, candidates: &[u32], lent: &Lent) -> Result<(), Refusal>
+    ensures { opening_verdict o candidates.now lent.now ≡ then_room result (list_full (claims_of o) lent.now none_filled candidates.now) }
 {
     refuse_if(is_area_bad(o), Refusal::BadArea)?;
+    refuse_if(are_extents_bad(candidates, lent), Refusal::BadExtent)?;
+    refuse_if(lent::is_style_bad(lent.styles), Refusal::BadStyle)?;
     refuse_if(
-        are_extents_bad(styles, candidates, layouts, working, unclaimed),
-        Refusal::BadExtent,
-    )?;
-    refuse_if(lent::is_style_bad(styles), Refusal::BadStyle)?;
-    refuse_if(
-        lent::is_candidate_bad(styles, candidates, candidates.len() / CANDIDATE_WORDS),
+        lent::is_candidate_bad(lent.styles, candidates, candidates.len() / CANDIDATE_WORDS),
         Refusal::BadCandidate,
     )
 }

@@ -1,131 +1,82 @@
 // The tests of a reply.
-ghost use Rattle.std.specs.Prelude.{◌≡◌, ◌||◌, [], length, is_none};
+ghost use Rattle.std.specs.Prelude.{◌≡◌, ◌||◌, is_none};
 ghost use Rattle.tree_record.specs.Candidate.{candidate_width};
 ghost use Rattle.run.specs.Refusals.{ragged, bad_lent, lent_by, bad_candidate, bad_candidates, list_full, wrong_counts};
 ghost use Rattle.run.specs.Run.{taken_by, reply_verdict};
-ghost use Rattle.run.specs.Call.{lent};
 ghost use Rattle.placer_check.specs.Verdict.{then_room};
 
 use crate::{lent, refuse_if};
 use oof_box::question::{Reply, Taken};
 use refusal::Refusal;
-use run::{Counts, Extents, Progress, State};
+use run::{Counts, Extents, Lent, State};
 use tree_record::candidate::CANDIDATE_WORDS;
 
-// ---- 2: bad extent
-
-// How many words of the surfaced slice are looked at: those of a lay-out reply only.
-fn looked_at(reply: Reply, surfaced: &[u32]) -> usize
-    ensures { result ≡ length (lent_by reply surfaced.now) }
+// What is looked at of the surfaced slice: that of a lay-out reply only.
+fn lent_by(reply: Reply, surfaced: &[u32]) -> &[u32]
+    ensures { result.now ≡ lent_by reply surfaced.now }
 {
     match reply {
-        Reply::Both(_) | Reply::Width(_) | Reply::Height(_) => 0,
-        Reply::LaidOut(_) => surfaced.len(),
+        Reply::Both(_) | Reply::Width(_) | Reply::Height(_) => &[],
+        Reply::LaidOut(_) => surfaced,
     }
 }
 
-// Refusal 2.
-fn are_extents_bad(
-    e: Extents,
-    reply: Reply,
-    surfaced: &[u32],
-    styles: &[u32],
-    layouts: &[u32],
-    working: &[u32],
-    unclaimed: &[u32],
-) -> bool
-    ensures { result ≡ (bad_lent e (lent styles.now layouts.now working.now unclaimed.now) || ragged candidate_width (lent_by reply surfaced.now)) }
+// 2: bad extent.
+fn are_extents_bad(e: Extents, surfaced: &[u32], lent: &Lent) -> bool
+    ensures { result ≡ (bad_lent e lent.now || ragged candidate_width surfaced.now) }
 {
-    lent::is_lent_bad(e, styles, layouts, working, unclaimed)
-        || looked_at(reply, surfaced) % CANDIDATE_WORDS != 0
+    lent::is_lent_bad(lent, e) || lent::is_ragged(surfaced)
 }
 
 // ---- 6: wrong reply
 
 // A reply to the open question: kept, or the box is laid out. None: it isn't asked for, or is of another kind.
 #[tactic(auto, unfolding(run::specs::Run::taken_by))]
-pub fn taken_by(s: State, reply: Reply) -> Option<Taken>
-    ensures { result ≡ taken_by s reply }
+pub fn taken_by(s: &State, reply: Reply) -> Option<Taken>
+    ensures { result ≡ taken_by s.now reply }
 {
-    match s.progress {
-        Progress::Finished => None,
-        Progress::Asking(stage) => s.replies.take(stage, reply),
-    }
+    s.replies.take(s.progress?, reply)
 }
 
-// Counts beyond the lists, boxes begun not 1 to the filled working records, or a question count above 3 × the boxes begun: in
-// an order in which no product overflows.
+// Counts beyond the lists, boxes begun not 1 to the filled working records, or a question count above 3 × the boxes begun.
 #[tactic(auto, unfolding(run::specs::Refusals::wrong_counts))]
-fn are_counts_wrong(c: Counts, working: &[u32], unclaimed: &[u32]) -> bool
-    ensures { result ≡ wrong_counts (lent [] [] working.now unclaimed.now) c }
+fn are_counts_wrong(c: Counts, lent: &Lent) -> bool
+    ensures { result ≡ wrong_counts lent.now c }
 {
-    working.len() / CANDIDATE_WORDS < c.filled.working
-        || unclaimed.len() / CANDIDATE_WORDS < c.filled.unclaimed
+    lent::are_above_lists(lent, c.filled)
         || c.begun == 0
         || c.filled.working < c.begun
-        || 3 * c.begun < c.answered
+        || c.begun.saturating_mul(3) < c.answered
 }
 
 // Refusal 6.
-fn is_reply_wrong(s: State, reply: Reply, working: &[u32], unclaimed: &[u32]) -> bool
-    ensures { result ≡ (is_none (taken_by s reply) || wrong_counts (lent [] [] working.now unclaimed.now) s.counts) }
+fn is_reply_wrong(s: &State, reply: Reply, lent: &Lent) -> bool
+    ensures { result ≡ (is_none (taken_by s.now reply) || wrong_counts lent.now s.now.counts) }
 {
-    taken_by(s, reply).is_none() || are_counts_wrong(s.counts, working, unclaimed)
+    taken_by(s, reply).is_none() || are_counts_wrong(s.counts, lent)
 }
 
-// ---- 4: bad candidate
-
-// Refusal 4: the filled working records, and those surfaced.
-fn are_candidates_bad(
-    styles: &[u32],
-    working: &[u32],
-    filled: usize,
-    reply: Reply,
-    surfaced: &[u32],
-) -> bool
-    ensures { result ≡ (bad_candidate styles.now working.now filled || bad_candidates styles.now (lent_by reply surfaced.now)) }
+// 4, bad candidate: the filled working records, and those surfaced.
+fn are_candidates_bad(filled: usize, surfaced: &[u32], lent: &Lent) -> bool
+    ensures { result ≡ (bad_candidate lent.now.styles lent.now.working filled || bad_candidates lent.now.styles surfaced.now) }
 {
-    lent::is_candidate_bad(styles, working, filled)
-        || lent::is_candidate_bad(
-            styles,
-            surfaced,
-            looked_at(reply, surfaced) / CANDIDATE_WORDS,
-        )
+    lent::is_candidate_bad(lent.styles, lent.working, filled)
+        || lent::is_candidate_bad(lent.styles, surfaced, surfaced.len() / CANDIDATE_WORDS)
 }
-
-// ---- the reply
 
 // Tests 2, 6, 3, 4, in that order.
-pub fn check_reply(
-    s: State,
-    reply: Reply,
-    surfaced: &[u32],
-    styles: &[u32],
-    layouts: &[u32],
-    working: &[u32],
-    unclaimed: &[u32],
-) -> Result<(), Refusal>
-    ensures { reply_verdict s reply surfaced.now (lent styles.now layouts.now working.now unclaimed.now) ≡ then_room result (list_full s.opened.claims (lent styles.now layouts.now working.now unclaimed.now) s.counts.filled (lent_by reply surfaced.now)) }
+pub fn check_reply(s: &State, reply: Reply, surfaced: &[u32], lent: &Lent) -> Result<(), Refusal>
+    ensures { reply_verdict s.now reply surfaced.now lent.now ≡ then_room result (list_full s.now.opened.claims lent.now s.now.counts.filled (lent_by reply surfaced.now)) }
 {
+    let surfaced = lent_by(reply, surfaced);
     refuse_if(
-        are_extents_bad(
-            s.opened.extents,
-            reply,
-            surfaced,
-            styles,
-            layouts,
-            working,
-            unclaimed,
-        ),
+        are_extents_bad(s.opened.extents, surfaced, lent),
         Refusal::BadExtent,
     )?;
+    refuse_if(is_reply_wrong(s, reply, lent), Refusal::WrongReply)?;
+    refuse_if(lent::is_style_bad(lent.styles), Refusal::BadStyle)?;
     refuse_if(
-        is_reply_wrong(s, reply, working, unclaimed),
-        Refusal::WrongReply,
-    )?;
-    refuse_if(lent::is_style_bad(styles), Refusal::BadStyle)?;
-    refuse_if(
-        are_candidates_bad(styles, working, s.counts.filled.working, reply, surfaced),
+        are_candidates_bad(s.counts.filled.working, surfaced, lent),
         Refusal::BadCandidate,
     )
 }

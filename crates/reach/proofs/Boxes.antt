@@ -6,6 +6,7 @@ use mathlib.Core.Bool.{Bool, true, false, cond, not}
 use mathlib.Core.Logic.{◌↔◌, ◌⊎◌, inl, inr}
 use mathlib.Core.Path.{◌≡◌, refl, sym, ap, ◌∙◌}
 use Rattle.std.specs.Prelude.{Option, Some, None, Ok, Err, Result, Float}
+use Rattle.std.proofs.lemmas.Bool.{false_from_ne_true}
 use Rattle.util.proofs.Floats.{no}
 use Rattle.geometry.specs.declared.Rect.{Rect}
 use Rattle.refusal.specs.declared.Refusal.{Refusal}
@@ -50,11 +51,6 @@ refused_from r true p q e = absurd cc
 at_least : (a : Axis) (o i : ℕ) → IsLeast a (Some o) → shares a i ≡ true → o ≤ i
 at_least a o i f e = let n : ¬ (i < o) = λ h. no e (f.2 i h) in omega arith
 
--- a test that can't hold fails
-is_false : (b : Bool) → ¬ (b ≡ true) → b ≡ false
-is_false true n = absurd (n refl)
-is_false false n = refl
-
 module _ (c : ContainingBlock) (overflow : Rect Float) (box : Layout) where
   abbrev all : Bool
   all = all_accepted (numbers_of c.area overflow box)
@@ -90,11 +86,11 @@ module _ (c : ContainingBlock) (overflow : Rect Float) (box : Layout) where
 
     least_across : SharesPatch c overflow box x y → ((i j : ℕ) → SharesPatch c overflow box i j → (x ≤ i) × (y ≤ j)) → IsLeast x_axis (Some x)
     least_across s f =
-        (s.offset_across, s.width, λ i h. is_false (shares x_axis i) (λ e. let k = (f i y (record { offset_across = let l = s.offset_across in omega arith; offset_down = s.offset_down; width = e; height = s.height })).0 in absurd (omega arith)))
+        (s.offset_across, s.width, λ i h. false_from_ne_true (shares x_axis i) (λ e. let k = (f i y (record { offset_across = let l = s.offset_across in omega arith; offset_down = s.offset_down; width = e; height = s.height })).0 in absurd (omega arith)))
 
     least_down : SharesPatch c overflow box x y → ((i j : ℕ) → SharesPatch c overflow box i j → (x ≤ i) × (y ≤ j)) → IsLeast y_axis (Some y)
     least_down s f =
-        (s.offset_down, s.height, λ j h. is_false (shares y_axis j) (λ e. let k = (f x j (record { offset_across = s.offset_across; offset_down = let l = s.offset_down in omega arith; width = s.width; height = e })).1 in absurd (omega arith)))
+        (s.offset_down, s.height, λ j h. false_from_ne_true (shares y_axis j) (λ e. let k = (f x j (record { offset_across = s.offset_across; offset_down = let l = s.offset_down in omega arith; width = s.width; height = e })).1 in absurd (omega arith)))
 
     both_least : all ≡ true → IsLeast x_axis (Some x) → IsLeast y_axis (Some y) → box_reached c overflow box ≡ Ok (Some (record { across = x; down = y }))
     both_least e f g = box_told ∙ rw (e, (least_is x_axis (Some x)).1 f, (least_is y_axis (Some y)).1 g) refl
@@ -148,7 +144,7 @@ box_refused_exactly c rectangle box r = (there, back)
     back : (r ≡ NotInEighths) × NotInEighthsHere c.area rectangle box → box_reached c rectangle box ≡ Err r
     back h =
         box_told c rectangle box
-        ∙ rw (is_false (all c rectangle box) (λ e. in_eighths_lem c rectangle box e h.1)) (ap Err (sym h.0))
+        ∙ rw (false_from_ne_true (all c rectangle box) (λ e. in_eighths_lem c rectangle box e h.1)) (ap Err (sym h.0))
 
 -- ---- how far an offset can be
 

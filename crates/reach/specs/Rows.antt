@@ -14,13 +14,12 @@ use Rattle.style.specs.declared.Overflow.TheVariants.{Visible, Clip, Hidden, Scr
 use Rattle.style_record.specs.Record.{style_words}
 use Rattle.tree.specs.declared.layout.Layout.{Layout}
 use Rattle.oof_resolve.specs.declared.ContainingBlock.{ContainingBlock}
+use Rattle.oof_box.specs.declared.question.Stage.{Stage}
 use Rattle.oof_box.specs.Cut.{no_replies}
 use Rattle.oof_box.specs.declared.question.Stage.TheVariants as stage
 use Rattle.run.specs.Call.{Lent, lent}
 use Rattle.run.specs.Run.{extents_of, closed}
 use Rattle.run.specs.declared.Counts.{Counts}
-use Rattle.run.specs.declared.Progress.{Progress}
-use Rattle.run.specs.declared.Progress.TheVariants.{Finished, Asking}
 use Rattle.run.specs.declared.State.{State}
 use Rattle.reach.specs.Reach.{Axis, least, last_offset, axis_of, box_reached, reached}
 
@@ -259,7 +258,7 @@ abbrev panel : Direction → Overflow → Overflow → ContainingBlock
 panel direction overflowx overflowy = container direction overflowx overflowy (e 16) (e 8) (e 24) (e 40)
 
 -- a state: its progress, its counts, its container and its rectangle; the slices of its opening
-abbrev state : Progress → Counts → ContainingBlock → Rect Float → Lent → State
+abbrev state : Option Stage → Counts → ContainingBlock → Rect Float → Lent → State
 state progress c by overflow slices =
     record {
       progress = progress;
@@ -270,17 +269,17 @@ state progress c by overflow slices =
     }
 
 -- scroll across and visible down; the rectangle 48e across, 60e down
-abbrev with_counts : Progress → Counts → Lent → State
+abbrev with_counts : Option Stage → Counts → Lent → State
 with_counts progress c slices = state progress c (panel Ltr Scroll Visible) (rect 0 (e 48) 0 (e 60)) slices
 
 abbrev done : Lent → State
-done slices = with_counts Finished (counts 2 0 2 2) slices
+done slices = with_counts None (counts 2 0 2 2) slices
 
 abbrev asked : Lent → State
-asked slices = with_counts (Asking stage.LayOut) (counts 2 0 2 2) slices
+asked slices = with_counts (Some stage.LayOut) (counts 2 0 2 2) slices
 
 abbrev by : Direction → Overflow → Overflow → State
-by direction overflowx overflowy = state Finished (counts 2 0 2 2) (panel direction overflowx overflowy) (rect 0 (e 48) 0 (e 60)) two
+by direction overflowx overflowy = state None (counts 2 0 2 2) (panel direction overflowx overflowy) (rect 0 (e 48) 0 (e 60)) two
 
 -- three items, hoisted as 2, 0, 1: node 1 is 6e by 10e, 4e from the left of the area and 30e from its top; node 0 as node 0 above, node 2 as
 -- node 1 above
@@ -288,11 +287,11 @@ abbrev three : Lent
 three = lent (styles 3) (layout (e 64) (e 42) (e 4) (e 3) ++ layout (e 28) (e 70) (e 6) (e 10) ++ layout (e 44) (e 45) (e 6) (e 10)) (candidate 2 2 ++ candidate 0 2 ++ candidate 1 2) []
 
 abbrev three_by : Overflow → Overflow → State
-three_by overflowx overflowy = state Finished (counts 3 0 3 3) (panel Ltr overflowx overflowy) (rect 0 (e 48) 0 (e 60)) three
+three_by overflowx overflowy = state None (counts 3 0 3 3) (panel Ltr overflowx overflowy) (rect 0 (e 48) 0 (e 60)) three
 
 -- a rectangle with a NaN
 abbrev broken : Lent → State
-broken slices = state Finished (counts 2 0 2 2) (panel Ltr Scroll Visible) (rect nan (e 48) 0 (e 60)) slices
+broken slices = state None (counts 2 0 2 2) (panel Ltr Scroll Visible) (rect nan (e 48) 0 (e 60)) slices
 
 abbrev pub RunRows : Type 0
 RunRows =
@@ -322,10 +321,10 @@ abbrev pub ExtentRows : Type 0
 ExtentRows =
     -- a place without a box, in a finished run and before 6 in an unfinished one; a run without boxes
     (reached 2 (done two) two ≡ Err BadExtent)
-    × (reached 0 (with_counts (Asking stage.LayOut) (counts 0 0 0 0) two) two ≡ Err BadExtent)
+    × (reached 0 (with_counts (Some stage.LayOut) (counts 0 0 0 0) two) two ≡ Err BadExtent)
     × (reached 0 (closed two) two ≡ Err BadExtent)
     -- places go by the filled records: the list's second isn't one
-    × (reached 1 (with_counts Finished (counts 1 0 1 1) two) two ≡ Err BadExtent)
+    × (reached 1 (with_counts None (counts 1 0 1 1) two) two ≡ Err BadExtent)
     -- one style word more than an item has, though the state recorded so many, before 6 too; a slice of another length than at the opening
     × (let l = lent (replicate (style_words + 1) 0) (layout (e 64) (e 42) (e 4) (e 3)) (candidate 0 2 ++ candidate 0 2) [] in (reached 0 (done l) l ≡ Err BadExtent) × (reached 0 (asked l) l ≡ Err BadExtent))
     × (reached 0 (done two) (lent (styles 2) layouts (candidate 1 2) []) ≡ Err BadExtent)
@@ -337,10 +336,10 @@ ProgressRows =
     × (let l = lent (styles 2) layouts (candidate 1 2 ++ candidate 0 5) [] in reached 0 (asked l) l ≡ Err WrongReply)
     -- counts above the lists: one record, 2 filled, place 1; and no unclaimed record, 1 filled
     × (let l = lent (styles 2) layouts (candidate 1 2) [] in reached 1 (done l) l ≡ Err WrongReply)
-    × (reached 0 (with_counts Finished (counts 2 1 2 2) two) two ≡ Err WrongReply)
+    × (reached 0 (with_counts None (counts 2 1 2 2) two) two ≡ Err WrongReply)
     -- boxes begun and questions answered aren't looked at
-    × (reached 0 (with_counts Finished (counts 2 0 7 99) two) two ≡ seen 5 0)
-    × (reached 0 (with_counts Finished (counts 2 0 0 0) two) two ≡ seen 5 0)
+    × (reached 0 (with_counts None (counts 2 0 7 99) two) two ≡ seen 5 0)
+    × (reached 0 (with_counts None (counts 2 0 0 0) two) two ≡ seen 5 0)
 
 abbrev pub CandidateRows : Type 0
 CandidateRows =
@@ -353,4 +352,4 @@ CandidateRows =
     × (reached 0 (broken two) two ≡ Err NotInEighths)
     -- not one past the filled records, nor an unclaimed one
     × (let l = lent (styles 2) layouts (candidate 1 2 ++ candidate 0 2 ++ candidate 2 5) [] in reached 0 (done l) l ≡ seen 5 0)
-    × (let l = lent (styles 2) layouts (candidate 1 2 ++ candidate 0 2) (candidate 2 5) in reached 0 (with_counts Finished (counts 2 1 2 2) l) l ≡ seen 5 0)
+    × (let l = lent (styles 2) layouts (candidate 1 2 ++ candidate 0 2) (candidate 2 5) in reached 0 (with_counts None (counts 2 1 2 2) l) l ≡ seen 5 0)

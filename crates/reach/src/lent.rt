@@ -7,7 +7,9 @@ use refusal::Refusal;
 
 pub const VERDICT: usize = 3;
 
-// The result of a call. Unless it was refused, the verdict is written.
+// The result of a call, as the C interface has it: a number. Unless it was refused, the verdict is written.
+// As `pixels::lent::tell`, but for what is written: one of all three would be given each value's words by a closure, whose promise each contract
+// would repeat.
 #[tactic(auto, unfolding(crate::specs::Told::verdict_told))]
 pub fn tell(reached: Result<Option<Offsets>, Refusal>, verdict: &mut [u32; VERDICT]) -> u32
     ensures { record { result = result; verdict = verdict.new } ≡ verdict_told reached verdict.old }

@@ -4,14 +4,13 @@
 ghost use Rattle.std.specs.Prelude.{◌≡◌, ◌≤◌, ◌-ℤ◌, nat_abs};
 ghost use Rattle.pixels.specs.Accepted.{in_eighths};
 ghost use Rattle.pixels.specs.Pixels.{all_accepted};
-ghost use Rattle.run.specs.Call.{lent};
 ghost use Rattle.reach.specs.Reach.{axis_of, least, pair_of, numbers_of, box_reached, reached};
 
 use geometry::Rect;
 use oof_resolve::ContainingBlock;
 use pixels::{are_accepted, in_eighths};
 use refusal::Refusal;
-use run::State;
+use run::{Lent, State};
 use style::{Direction, Overflow};
 use tree::layout::{Layout, OofPositioningArea};
 
@@ -24,7 +23,7 @@ pub struct Offsets {
     pub down: u32,
 }
 
-// One axis: direction and overflow code; the area's size and offset; where the box begins, the area's offset included, as a run writes it, and its
+// One axis: direction and overflow; the area's size and offset; where the box begins, the area's offset included, as a run writes it, and its
 // size; the far edge of the overflow rectangle.
 #[derive(Clone, Copy)]
 struct Along {
@@ -116,7 +115,7 @@ fn are_numbers_accepted(area: OofPositioningArea, overflow: Rect<f32>, layout: L
     ])
 }
 
-// Of a layout, in an area with its direction and overflow codes, and the overflow rectangle of its run: the least offsets across and down at
+// Of a layout, in an area with its direction and overflow, and the overflow rectangle of its run: the least offsets across and down at
 // which box and area share a patch, or that there are none.
 #[tactic(auto, unfolding(crate::specs::Reach::box_reached))]
 pub fn reach_box(
@@ -130,6 +129,7 @@ pub fn reach_box(
     if !are_numbers_accepted(area, overflow, layout) {
         return Err(Refusal::NotInEighths);
     }
+    // field by field for each axis: a point, a size, a rectangle and the codes have theirs by other names
     let across = Along {
         direction: c.direction,
         overflow: c.overflow.x,
@@ -152,24 +152,11 @@ pub fn reach_box(
 }
 
 // Of the box at a place of a finished run's hoisted order, from 0.
-pub fn reach(
-    place: usize,
-    s: State,
-    styles: &[u32],
-    layouts: &[u32],
-    working: &[u32],
-    unclaimed: &[u32],
-) -> Result<Option<Offsets>, Refusal>
-    ensures { result ≡ reached place s (lent styles.now layouts.now working.now unclaimed.now) }
+pub fn reach(place: usize, s: State, lent: &Lent) -> Result<Option<Offsets>, Refusal>
+    ensures { result ≡ reached place s lent.now }
 {
     let is_none = s.counts.filled.working <= place;
-    let verdict = finished::check_finished(s, is_none, styles, layouts, working, unclaimed);
-    match verdict {
-        Err(refusal) => Err(refusal),
-        Ok(()) => reach_box(
-            s.opened.container,
-            s.overflow,
-            finished::layout_at(place, layouts, working),
-        ),
-    }
+    finished::check_finished(&s, is_none, lent)?;
+    let layout = finished::layout_at(place, lent.layouts, lent.working);
+    reach_box(s.opened.container, s.overflow, layout)
 }

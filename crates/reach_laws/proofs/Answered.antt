@@ -8,7 +8,7 @@ use mathlib.Core.Path.{◌≡◌, refl, sym, ap, ◌∙◌, subst}
 use lib.Dec.{lit≤, eqb}
 use lib.ListN.{length, get_or}
 use borrow.Author.Tests.{eqb-true, not-false, le-ltb, lt-leb}
-use Rattle.std.specs.Prelude.{Option, IsOk, Float}
+use Rattle.std.specs.Prelude.{Option, IsOk, None, is_err, Float}
 use Rattle.util.proofs.Floats.{no}
 use Rattle.geometry.specs.declared.Point.{Point}
 use Rattle.geometry.specs.declared.Rect.{Rect}
@@ -23,6 +23,7 @@ use Rattle.style_record.specs.Record.{items}
 use Rattle.sweep.specs.Sweep.{candidates_in, moved, keep}
 use Rattle.sweep.proofs.Steps.{kept_moved, appended_length}
 use Rattle.sweep.proofs.Listed.{IsBelow}
+use Rattle.oof_box.specs.declared.question.Stage.{Stage}
 use Rattle.oof_box.specs.declared.question.Reply.{Reply}
 use Rattle.oof_resolve.specs.declared.ContainingBlock.{ContainingBlock}
 use Rattle.pixels.specs.Pixels.{all_accepted}
@@ -30,8 +31,6 @@ use Rattle.run.specs.declared.Counts.{Counts}
 use Rattle.run.specs.declared.Extents.{Extents}
 use Rattle.run.specs.declared.Opened.{Opened}
 use Rattle.run.specs.declared.Opening.{Opening}
-use Rattle.run.specs.declared.Progress.{Progress}
-use Rattle.run.specs.declared.Progress.TheVariants.{Finished}
 use Rattle.run.specs.declared.State.{State}
 use Rattle.run.specs.declared.Step.{Step}
 use Rattle.run.specs.Call.{Lent, Outcome}
@@ -40,12 +39,13 @@ use Rattle.run.specs.Refusals as test
 use Rattle.run.specs.Refusals.{bad_slices, other_lengths, bad_candidate, ragged, lent_by}
 use Rattle.run.specs.Run.{claims_of, container_of, extents_of, asking, finishing, proceeding, begun, opened, opening_verdict, reply_verdict, measured_on, laid_out, replied}
 use Rattle.run.specs.Straight.{Box}
-use Rattle.run.specs.Theorems.{is_refused, laid_into, laid_count, laid_so_far, Loan, own, other, Turn, next, next_with, turned, AllLend, called}
+use Rattle.run.specs.Theorems.{laid_into, laid_count, laid_so_far, Loan, own, other, Turn, next, next_with, turned, AllLend, called}
 use Rattle.run.proofs.Conditions.{lengths_decided}
 use Rattle.run.proofs.Decides.{Decides}
 use Rattle.run.proofs.Refusals.{refused_in}
 use Rattle.run.proofs.Straight.{straight_run}
-use Rattle.run.proofs.Ways.{NextWay, asks, ends, next_way, OpeningWay, begins, turned_down, opening_way, ReplyWay, measures, lays_out, reply_way, passed, neither}
+use Rattle.std.proofs.lemmas.Bool.{or_parts}
+use Rattle.run.proofs.Ways.{NextWay, asks, ends, next_way, OpeningWay, begins, turned_down, opening_way, ReplyWay, measures, lays_out, reply_way, passed}
 use Rattle.util_exact.proofs.Exact.{eighths}
 use Rattle.util_exact.proofs.Quarters.{quarters_exact}
 use Rattle.mirror_run.specs.Quarter.{AreaInQuarters}
@@ -108,8 +108,8 @@ module _ (e : Extents) where
   unfolding reply_verdict other_lengths
   lengths_kept_lem s reply surfaced l d v =
       let extent = passed _ _ _ v in
-      let bad = (neither (bad_slices l || other_lengths s.opened.extents l) (ragged candidate_width (lent_by reply surfaced)) extent.0).0 in
-      let others = (neither (bad_slices l) (other_lengths s.opened.extents l) bad).1 in
+      let bad = (or_parts (bad_slices l || other_lengths s.opened.extents l) (ragged candidate_width (lent_by reply surfaced)) extent.0).0 in
+      let others = (or_parts (bad_slices l) (other_lengths s.opened.extents l) bad).1 in
       let x = s.opened.extents in
       let same =
       last_two (eqb (length l.styles) x.styles) (eqb (length l.layouts) x.layouts) (eqb (length l.working) x.working) (eqb (length l.unclaimed) x.unclaimed) others in (
@@ -187,11 +187,11 @@ module _ (o : Opening) (candidates : List ℕ) (lent : Lent) (turns : List Turn)
 
   slices_fine : opening_verdict o candidates lent ≡ test.accepted → bad_slices lent ≡ false
   unfolding opening_verdict
-  slices_fine v = (neither (bad_slices lent) (ragged candidate_width candidates) (passed _ _ _ (passed _ _ _ v).1).0).0
+  slices_fine v = (or_parts (bad_slices lent) (ragged candidate_width candidates) (passed _ _ _ (passed _ _ _ v).1).0).0
 
   -- the tests that come before a part's own, `own-test` being what the part itself calls a bad extent
-  pub tests_passed : is_refused (opened o candidates lent).step.answer ≡ false → AllLend lent.styles (opened o candidates lent) turns
-      → has.step.state.progress ≡ Finished
+  pub tests_passed : is_err (opened o candidates lent).step.answer ≡ false → AllLend lent.styles (opened o candidates lent) turns
+      → has.step.state.progress ≡ None
       → bad_candidate lent.styles has.working has.step.state.counts.filled.working ≡ false
       → (own-test : Bool) → own-test ≡ false
       → finished_verdict has.step.state slices own-test ≡ test.accepted
@@ -253,7 +253,7 @@ quarters_are_answered o candidates lent turns place area table quarter accepts l
         let g = turns_go o lent.styles (opened o candidates lent) turns (subst (λ (x : Outcome). Goes o x.step.state) (sym e) (begun_goes o candidates lent)) in
         let all = g.all f in
         let begun : place < (called o candidates lent turns).step.state.counts.begun = omega arith in
-        let laid : place < laid_so_far (called o candidates lent turns) = subst (λ (at : Progress). place < laid_count at (called o candidates lent turns).step.state.counts.begun) (sym f) begun in
+        let laid : place < laid_so_far (called o candidates lent turns) = subst (λ (at : Option Stage). place < laid_count at (called o candidates lent turns).step.state.counts.begun) (sym f) begun in
         rw (tests_passed o candidates lent turns accepts lends f good _ (lt-leb (called o candidates lent turns).step.state.counts.filled.working place there), g.container)
         (box_answered (container_of o) area (called o candidates lent turns).step.state.overflow r.overflow (layout_of_box (called o candidates lent turns) place) (r.layouts place laid))
 

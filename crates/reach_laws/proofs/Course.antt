@@ -4,27 +4,26 @@ use Prim.Native.Nat.{ℕ, ◌≤◌}
 use mathlib.Core.Bool.{Bool, true, false, cond}
 use mathlib.Core.List.{List, [], ◌∷◌, map, foldl}
 use mathlib.Core.Path.{◌≡◌, refl, sym, ap, ◌∙◌, subst}
+use Rattle.std.specs.Prelude.{None, is_some, Result, is_err, All, Float}
 use Rattle.util.proofs.Floats.{no}
 use Rattle.geometry.specs.declared.Rect.{Rect}
 use Rattle.style.specs.declared.ContainingBlockClaims.{ContainingBlockClaims}
 use Rattle.sweep.specs.Sweep.{candidates_in, claimed}
 use Rattle.oof_box.specs.declared.question.Reply.{Reply}
+use Rattle.refusal.specs.declared.Refusal.{Refusal}
 use Rattle.run.specs.declared.Answer.{Answer}
 use Rattle.run.specs.declared.Counts.{Counts}
 use Rattle.run.specs.declared.Opened.{Opened}
 use Rattle.run.specs.declared.Opening.{Opening}
-use Rattle.run.specs.declared.Progress.TheVariants.{Finished}
 use Rattle.run.specs.declared.State.{State}
 use Rattle.run.specs.declared.Step.{Step}
 use Rattle.run.specs.Call.{Lent, Outcome}
 use Rattle.run.specs.Run.{claims_of, container_of, asking, finishing, proceeding, closed, begun, measured_on, laid_out, replied}
-use Rattle.run.specs.Theorems.{is_refused, Loan, own, other, Turn, next, next_with, turned, Lends, AllLend, heeded}
+use Rattle.run.specs.Theorems.{Loan, own, other, Turn, next, next_with, turned, Lends, AllLend, heeded}
 use Rattle.run.proofs.Refusals.{refused_in, measured_accepts, laid_accepts, finished_refuses}
 use Rattle.run.proofs.Ways.{NextWay, asks, ends, next_way, ReplyWay, turned_down, measures, lays_out, reply_way}
-use Rattle.finished.specs.Finished.{is_open}
 use Rattle.mirror_run.specs.Runs.{Message, run_next, image_next, surfaced_in, Fair, AllFair}
 use Rattle.mirror_run.proofs.Unread.{accepted_read}
-use Rattle.std.specs.Prelude.{All, Float}
 use Rattle.std.proofs.lemmas.List.Elements.{All-nil, All-cons}
 use Rattle.pixels_laws.specs.Laws.{QuarterHeard}
 
@@ -49,13 +48,13 @@ images_are styles x (m ∷ ms) = images_are styles (turned styles x m.image) ms
 pub record Goes (o : Opening) (s : State) : Type 0 where
   pub container : s.opened.container ≡ container_of o
   pub claims : s.opened.claims ≡ claims_of o
-  pub all : s.progress ≡ Finished → s.counts.filled.working ≤ s.counts.begun
+  pub all : s.progress ≡ None → s.counts.filled.working ≤ s.counts.begun
 
 module _ (o : Opening) where
   asking_goes : (styles working : List ℕ) (run : Opened) (counts : Counts) (overflow : Rect Float) (replies : _) → run.container ≡ container_of o → run.claims ≡ claims_of o
       → Goes o (asking styles working run counts overflow replies).state
   unfolding asking
-  asking_goes styles working run counts overflow replies c d = record { container = c; claims = d; all = λ e. no {b = true} refl (ap is_open e) }
+  asking_goes styles working run counts overflow replies c d = record { container = c; claims = d; all = λ e. no {b = true} refl (ap is_some e) }
 
   finishing_goes : (run : Opened) (counts : Counts) (overflow : Rect Float) → run.container ≡ container_of o → run.claims ≡ claims_of o → counts.filled.working ≤ counts.begun
       → Goes o (finishing run counts overflow).state
@@ -97,18 +96,18 @@ module _ (o : Opening) where
 
   -- ---- messages that are fair: they are lent as a run's are, and those that aren't refused are of whole quarters
 
-  lends : (before : State) (answer : Answer) (m : Message) → Fair before answer m → Lends m.turn.loan answer
+  lends : (before : State) (answer : Result Answer Refusal) (m : Message) → Fair before answer m → Lends m.turn.loan answer
   lends before answer m fair = go m.turn.loan refl
     where
       go : (l : Loan) → m.turn.loan ≡ l → Lends l answer
       go own e = tt
-      go (other lent) e = read (is_refused answer) refl
+      go (other lent) e = read (is_err answer) refl
         where
           is_other : Loan → Bool
           is_other own = false
           is_other (other lent) = true
 
-          read : (b : Bool) → is_refused answer ≡ b → b ≡ true
+          read : (b : Bool) → is_err answer ≡ b → b ≡ true
           read true d = refl
           read false d = no refl (ap is_other (sym e ∙ (fair.words (accepted_read answer d)).slices))
 
@@ -120,9 +119,9 @@ module _ (o : Opening) where
   pub all_heard : (styles : List ℕ) (x : Outcome) (ms : List Message) → Goes o x.step.state → AllFair styles x ms → All (QuarterHeard (claims_of o)) (heeded styles x (turns_of ms))
   unfolding heeded
   all_heard styles x [] h fair = All-nil (QuarterHeard (claims_of o))
-  all_heard styles x (m ∷ ms) h fair = go (is_refused (turned styles x m.turn).step.answer) refl (all_heard styles (turned styles x m.turn) ms (turn_goes styles x m.turn h) fair.1)
+  all_heard styles x (m ∷ ms) h fair = go (is_err (turned styles x m.turn).step.answer) refl (all_heard styles (turned styles x m.turn) ms (turn_goes styles x m.turn h) fair.1)
     where
-      go : (b : Bool) → is_refused (turned styles x m.turn).step.answer ≡ b
+      go : (b : Bool) → is_err (turned styles x m.turn).step.answer ≡ b
           → All (QuarterHeard (claims_of o)) (heeded styles (turned styles x m.turn) (turns_of ms))
           → All (QuarterHeard (claims_of o)) (cond b (heeded styles (turned styles x m.turn) (turns_of ms)) (m.turn.heard ∷ heeded styles (turned styles x m.turn) (turns_of ms)))
       go true e rest = rest
@@ -133,13 +132,13 @@ module _ (o : Opening) where
 -- ---- a run whose opening was refused: a finished one, without a box, stays so
 
 pub record Shut (s : State) : Type 0 where
-  pub finished : s.progress ≡ Finished
+  pub finished : s.progress ≡ None
   pub none : s.counts.filled.working ≡ 0
 
 reply_shut : (s : State) (reply : Reply) (surfaced : List ℕ) (lent : Lent) → Shut s → Shut (replied s reply surfaced lent).step.state
 reply_shut s reply surfaced lent h = go (reply_way s reply surfaced lent)
   where
-    refuses : is_refused (replied s reply surfaced lent).step.answer ≡ true
+    refuses : is_err (replied s reply surfaced lent).step.answer ≡ true
     refuses = finished_refuses s reply surfaced lent h.finished
 
     go : ReplyWay s reply surfaced lent → Shut (replied s reply surfaced lent).step.state

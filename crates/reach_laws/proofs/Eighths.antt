@@ -1,4 +1,5 @@
 -- Numbers that are equal, or add up, in eighths. Assumes nothing.
+use borrow.Author.Rules.{rules}
 use Prim.Native.Nat.{ℕ, ◌+◌, ◌*◌, ◌<◌, ◌≤◌}
 use native.Mathlib.Omega.{arith}
 use Rattle.std.proofs.lemmas.Int.{ints}
@@ -65,20 +66,7 @@ equal_back (fin t k f) (fin r m e) s n h v =
 
 -- equal numbers are accepted alike, and are the same integer
 pub equal_alike : (x y : Float) → x ≐ y → (accepted x ≡ accepted y) × (in_eighths x ≡ in_eighths y)
-equal_alike x y h = go (accepted x) (accepted y) refl refl
-  where
-    go : (a b : Bool) → accepted x ≡ a → accepted y ≡ b → (a ≡ b) × (in_eighths x ≡ in_eighths y)
-    go true b p q =
-        let v = (accepted_exactly x).0 p in
-        let w = equal_value x y v.0 v.1 h v.2.0 in (
-          sym ((accepted_exactly y).1 (w.0, v.1, (w.1, v.2.1))) ∙ q,
-          integer_is_exact x v.0 v.1 v.2 ∙ one_integer v.0 w.0 v.1 w.2 ∙ sym (integer_is_exact y w.0 v.1 (w.1, v.2.1)),
-        )
-    go false true p q =
-        let v = (accepted_exactly y).0 q in
-        let w = equal_back x y v.0 v.1 h v.2.0 in
-        no ((accepted_exactly x).1 (w.0, v.1, (w.1, v.2.1))) p
-    go false false p q = (refl, else_zero x p ∙ sym (else_zero y q))
+equal_alike x y h = search (rules, accepted_exactly, else_zero, equal_back, equal_value, integer_is_exact, no, one_integer)
 
 -- ---- sums
 

@@ -5,18 +5,20 @@ use mathlib.Core.Bool.{false}
 use mathlib.Core.List.{List, [], foldl, append-nil}
 use mathlib.Core.Path.{◌≡◌, refl, sym, ap, ◌∙◌, subst}
 use borrow.Author.Tests.{ltb-false}
+use Rattle.std.specs.Prelude.{Option, None, Result, is_err}
 use Rattle.util.proofs.Floats.{no}
+use Rattle.oof_box.specs.declared.question.Stage.{Stage}
+use Rattle.refusal.specs.declared.Refusal.{Refusal}
 use Rattle.run.specs.declared.Answer.{Answer}
 use Rattle.run.specs.declared.Opening.{Opening}
-use Rattle.run.specs.declared.Progress.{Progress}
-use Rattle.run.specs.declared.Progress.TheVariants.{Finished}
 use Rattle.run.specs.Call.{Lent, Outcome}
 use Rattle.run.specs.Refusals.{bad_area}
 use Rattle.run.specs.Refusals as test
 use Rattle.run.specs.Run.{container_of, extents_of, opened, opening_verdict}
-use Rattle.run.specs.Theorems.{is_refused, laid_count, laid_so_far}
+use Rattle.run.specs.Theorems.{laid_count, laid_so_far}
 use Rattle.run.proofs.Refusals.{refused_in, begun_accepts}
-use Rattle.run.proofs.Ways.{neither, OpeningWay, turned_down, begins, opening_way}
+use Rattle.std.proofs.lemmas.Bool.{or_parts}
+use Rattle.run.proofs.Ways.{OpeningWay, turned_down, begins, opening_way}
 use Rattle.mirror_box.specs.Image.{image_container}
 use Rattle.mirror_run.specs.Image.{image_opening, image_styles, image_candidates}
 use Rattle.mirror_run.specs.Quarter.{QuarterArea, QuarterTable, QuarterCandidates}
@@ -33,7 +35,7 @@ use Rattle.reach_laws.specs.Laws.{told_of, MirroredVerdict}
 use Rattle.reach_laws.proofs.Course.{turns_of, images_of, turns_are, images_are, Goes, begun_goes, turns_go, all_lend, all_heard, Shut, turns_shut, closed_shut}
 use Rattle.reach_laws.proofs.Verdict.{box_alike, told_alike}
 
-same_refused : {a a' : Answer} → SameAnswer a a' → is_refused a ≡ is_refused a'
+same_refused : {a a' : Result Answer Refusal} → SameAnswer a a' → is_err a ≡ is_err a'
 same_refused (ask q) = refl
 same_refused (finish r e) = refl
 same_refused refused = refl
@@ -42,7 +44,7 @@ same_refused refused = refl
 image_block : (o : Opening) (candidates : List ℕ) (lent : Lent) → opening_verdict o candidates lent ≡ test.accepted → container_of (image_opening o) ≡ image_container (container_of o)
 unfolding bad_area image_container
 image_block o candidates lent v =
-    let e = ltb-false 1 o.direction (neither _ _ (neither _ _ (neither _ _ (opening_passed o candidates lent v).area).0).0).0 in
+    let e = ltb-false 1 o.direction (or_parts _ _ (or_parts _ _ (or_parts _ _ (opening_passed o candidates lent v).area).0).0).0 in
     rw (direction_decoded o.direction (omega arith)) refl
 
 module _ (o : Opening) (candidates : List ℕ) (lent : Lent) (layouts working unclaimed : List ℕ) (ms : List Message) (area : QuarterArea o.area) (table : QuarterTable lent.styles)
@@ -76,7 +78,7 @@ module _ (o : Opening) (candidates : List ℕ) (lent : Lent) (layouts working un
       (turns_shut lent.styles (opened o candidates lent) (turns_of ms) h)
 
   module _ (v : opening_verdict o candidates lent ≡ test.accepted) (g : Goes o (opened o candidates lent).step.state) (g' : Goes (image_opening o) (opened (image_opening o) image lent').step.state)
-      (accepts : is_refused (opened o candidates lent).step.answer ≡ false) where
+      (accepts : is_err (opened o candidates lent).step.answer ≡ false) where
     goes : Goes o has.step.state
     goes =
         subst (λ (x : Outcome). Goes o x.step.state) (turns_are lent.styles (opened o candidates lent) ms)
@@ -93,14 +95,14 @@ module _ (o : Opening) (candidates : List ℕ) (lent : Lent) (layouts working un
         (run_in o candidates lent (turns_of ms) area.quarters table quarter accepts (all_lend o lent.styles (opened o candidates lent) ms fair)
         (all_heard o lent.styles (opened o candidates lent) ms g fair)).layouts
 
-    same_box : (place : ℕ) → has.step.state.progress ≡ Finished → place < has.step.state.counts.filled.working
+    same_box : (place : ℕ) → has.step.state.progress ≡ None → place < has.step.state.counts.filled.working
         → box_reached has.step.state.opened.container has.step.state.overflow (layout_of_box has place)
         ≡ box_reached has'.step.state.opened.container has'.step.state.overflow (layout_of_box has' place)
     same_box place e h =
         let m = mirrored both in
         let all = goes.all e in
         let begun : place < has.step.state.counts.begun = omega arith in
-        let laid : place < laid_so_far has = subst (λ (p : Progress). place < laid_count p has.step.state.counts.begun) (sym e) begun in
+        let laid : place < laid_so_far has = subst (λ (p : Option Stage). place < laid_count p has.step.state.counts.begun) (sym e) begun in
         rw (goes.container, goes'.container, image_block o candidates lent v)
         (box_alike (container_of o) area.quarters has.step.state.overflow has'.step.state.overflow m.overflow (layout_of_box has place) (layout_of_box has' place) (m.boxes place laid) (layouts_in place laid))
 
@@ -109,7 +111,7 @@ module _ (o : Opening) (candidates : List ℕ) (lent : Lent) (layouts working un
     where
       Same : Type 0
       Same =
-          has.step.state.progress ≡ Finished → place < has.step.state.counts.filled.working
+          has.step.state.progress ≡ None → place < has.step.state.counts.filled.working
           → box_reached has.step.state.opened.container has.step.state.overflow (layout_of_box has place)
           ≡ box_reached has'.step.state.opened.container has'.step.state.overflow (layout_of_box has' place)
 

@@ -3,7 +3,7 @@ use Prim.Native.Nat.{ℕ, ◌<◌}
 use mathlib.Core.Bool.{Bool, true, false}
 use mathlib.Core.Path.{◌≡◌, refl, sym, ap, ◌∙◌}
 use lib.Dec.{leb, lit≤}
-use Rattle.std.specs.Prelude.{Ok, Err, Option, Result, Float}
+use Rattle.std.specs.Prelude.{Ok, Err, Option, Result, Some, None, is_some, Float}
 use Rattle.refusal.specs.declared.Refusal.{Refusal}
 use Rattle.reach.specs.declared.Offsets.{Offsets}
 use Rattle.util.proofs.Floats.{no}
@@ -12,15 +12,15 @@ use Rattle.tree.specs.declared.layout.Layout.{Layout}
 use Rattle.oof_resolve.specs.declared.ContainingBlock.{ContainingBlock}
 use Rattle.pixels.specs.Accepted.{accepted, in_eighths}
 use Rattle.pixels.specs.Pixels.{all_accepted}
+use Rattle.oof_box.specs.declared.question.Stage.{Stage}
 use Rattle.run.specs.declared.Extents.{Extents}
-use Rattle.run.specs.declared.Progress.{Progress}
-use Rattle.run.specs.declared.Progress.TheVariants.{Finished, Asking}
 use Rattle.run.specs.declared.State.{State}
 use Rattle.run.specs.Call.{Lent, Outcome}
 use Rattle.run.specs.Refusals as test
 use Rattle.run.specs.Refusals.{Verdict, above_lists}
 use Rattle.run.specs.Run.{extents_of}
-use Rattle.run.proofs.Ways.{passed, neither}
+use Rattle.std.proofs.lemmas.Bool.{or_parts}
+use Rattle.run.proofs.Ways.{passed}
 use Rattle.util_exact.proofs.Exact.{eighths}
 use Rattle.util_exact.proofs.Quarters.{quarters_exact}
 use Rattle.mirror_box.specs.Image.{image_container}
@@ -32,7 +32,7 @@ use Rattle.mirror_run.proofs.Linked.{Frame, Shared, Own, state_of, slices_of, Li
 use Rattle.mirror_run.proofs.Verdicts.{same_slices, same_others}
 use Rattle.pixels_laws.proofs.Accepted.{exact_accepted}
 use Rattle.pixels_laws.proofs.Box.{LayoutIn}
-use Rattle.finished.specs.Finished.{is_open, finished_verdict}
+use Rattle.finished.specs.Finished.{finished_verdict}
 use Rattle.finished.proofs.There.{box_is_filled}
 use Rattle.reach.specs.Reach.{numbers_of, answered_by, box_reached, reached}
 use Rattle.reach_laws.specs.Laws.{told_of}
@@ -85,16 +85,16 @@ answered_alike v v' b b' e f = go v refl ∙ ap (λ (v : Verdict). answered_by v
     go (Err r) e = refl
 
 -- an accepted one is finished
-finished_is : (s : State) (l : Lent) (other : Bool) → finished_verdict s l other ≡ test.accepted → s.progress ≡ Finished
+finished_is : (s : State) (l : Lent) (other : Bool) → finished_verdict s l other ≡ test.accepted → s.progress ≡ None
 unfolding finished_verdict
 finished_is s l other e =
     let a = passed _ _ _ e in
     let b = passed _ _ _ a.1 in
-    shut s.progress (neither (is_open s.progress) (above_lists l.working l.unclaimed s.counts.filled) b.0).0
+    shut s.progress (or_parts (is_some s.progress) (above_lists l.working l.unclaimed s.counts.filled) b.0).0
   where
-    shut : (p : Progress) → is_open p ≡ false → p ≡ Finished
-    shut Finished e = refl
-    shut (Asking stage) e = no {b = true} refl e
+    shut : (p : Option Stage) → is_some p ≡ false → p ≡ None
+    shut None e = refl
+    shut (Some stage) e = no {b = true} refl e
 
 module _ (f : Frame) (s : Shared) (p p' : Own) (links : Links f s p p') where
   abbrev here : Lent
@@ -121,7 +121,7 @@ module _ (f : Frame) (s : Shared) (p p' : Own) (links : Links f s p p') where
 
 -- whatever the place, if a finished run has the same of a box
 pub told_alike : {f : Frame} {x x' : Outcome} (place : ℕ) → Linked f x x'
-    → (x.step.state.progress ≡ Finished → place < x.step.state.counts.filled.working
+    → (x.step.state.progress ≡ None → place < x.step.state.counts.filled.working
     → box_reached x.step.state.opened.container x.step.state.overflow (layout_of_box x place)
     ≡ box_reached x'.step.state.opened.container x'.step.state.overflow (layout_of_box x' place))
     → told_of place f.styles x ≡ told_of place (image_styles f.styles) x'

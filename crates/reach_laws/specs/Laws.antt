@@ -1,6 +1,6 @@
 -- Request #102: the mirror image of a run has the same verdicts and the same offsets, and a run of whole quarter pixels has a verdict for every
 -- box. As statements: `proofs/` proves each, under its name in small letters. Assumes nothing.
-use Rattle.std.specs.Prelude.{ℕ, ◌<◌, false, ◌≡◌, ◌+ℤ◌, ◌-ℤ◌, All, IsOk, Option, Result, Float}
+use Rattle.std.specs.Prelude.{ℕ, ◌<◌, false, ◌≡◌, ◌+ℤ◌, ◌-ℤ◌, All, IsOk, Option, Result, None, is_err, Float}
 use mathlib.Core.List.{List, foldl}
 use Rattle.refusal.specs.declared.Refusal.{Refusal}
 use Rattle.reach.specs.declared.Offsets.{Offsets}
@@ -9,10 +9,9 @@ use Rattle.tree.specs.declared.layout.Layout.{Layout}
 use Rattle.oof_resolve.specs.declared.ContainingBlock.{ContainingBlock}
 use Rattle.pixels.specs.Accepted.{in_eighths}
 use Rattle.run.specs.declared.Opening.{Opening}
-use Rattle.run.specs.declared.Progress.TheVariants.{Finished}
 use Rattle.run.specs.Call.{Lent, Outcome, lent}
 use Rattle.run.specs.Run.{claims_of, container_of, extents_of, opened}
-use Rattle.run.specs.Theorems.{is_refused, Turn, AllLend, called, heeded_in}
+use Rattle.run.specs.Theorems.{Turn, AllLend, called, heeded_in}
 use Rattle.mirror_box.specs.Image.{image_container}
 use Rattle.mirror_run.specs.Image.{image_opening, image_styles, image_candidates}
 use Rattle.mirror_run.specs.Quarter.{AreaInQuarters, QuarterArea, QuarterTable, QuarterCandidates}
@@ -66,7 +65,7 @@ MirroredVerdict =
 
 abbrev pub ContainerStays : Type 0
 ContainerStays =
-    (o : Opening) (candidates : List ℕ) (lent : Lent) (turns : List Turn) → is_refused (opened o candidates lent).step.answer ≡ false
+    (o : Opening) (candidates : List ℕ) (lent : Lent) (turns : List Turn) → is_err (opened o candidates lent).step.answer ≡ false
     → (called o candidates lent turns).step.state.opened.container ≡ container_of o
 
 -- ---- a run of whole quarter pixels, under what pixels_laws' `RunHasEdges` asks: every box of a finished one has a verdict. So 9 isn't met
@@ -75,8 +74,8 @@ abbrev pub QuartersAreAnswered : Type 0
 QuartersAreAnswered =
     (o : Opening) (candidates : List ℕ) (lent : Lent) (turns : List Turn) (place : ℕ)
     → AreaInQuarters o.area → QuarterTable lent.styles → QuarterCandidates candidates
-    → is_refused (opened o candidates lent).step.answer ≡ false
+    → is_err (opened o candidates lent).step.answer ≡ false
     → AllLend lent.styles (opened o candidates lent) turns
     → All (QuarterHeard (claims_of o)) (heeded_in o candidates lent turns)
     → let has = called o candidates lent turns in
-    has.step.state.progress ≡ Finished → place < has.step.state.counts.filled.working → IsOk (told_of place lent.styles has)
+    has.step.state.progress ≡ None → place < has.step.state.counts.filled.working → IsOk (told_of place lent.styles has)

@@ -7,14 +7,16 @@ use mathlib.Core.Path.{◌≡◌, refl, sym, ap, ◌∙◌}
 use mathlib.Core.Bool.{Bool, true, false, not, ◌&&◌}
 use mathlib.Core.List.{List, [], ◌∷◌, ◌++◌, append_assoc, append-nil}
 use lib.Dec.{ltb, leb}
-use lib.ListN.{length, set, take, drop, length-drop, take-append-drop}
-use lib.Seq.{sets, length-sets, sets-eq, drop-drop, take-append-le, drop-append-le, take_at, drop_at, length-take-le, take-set-le, drop-set-lt, take-nil, get_or-take, get_or-drop}
+use lib.ListN.{length, get_or, set, take, drop, length-drop, take-append-drop}
+use lib.Seq.{sets, length-sets, sets-eq, drop-drop, take-append-le, drop-append-le, take_at, drop_at, length-take-le, take-set-le, drop-set-lt, get_or-take, get_or-drop}
 use lib.Ieee.{of_bits, to_bits, binary32}
-use borrow.Author.Tests.{le-leb, lt-leb, leb-true, ltb-true, ltb-false, not-true}
-use borrow.Rule.Slice.PartMut.{put_mid}
-use Rattle.std.proofs.lemmas.Slice.{put_mid-paste}
-use Rattle.std.proofs.lemmas.List.Edits.{paste_all}
-use Rattle.util.proofs.Floats.{no, is_nan_lem}
+use borrow.Author.Tests.{le-leb, leb-true, ltb-true, ltb-false, not-true}
+use Rattle.std.proofs.lemmas.Bool.{and_parts, and_from}
+use Rattle.std.proofs.lemmas.List.{take_more, drop-take}
+use Rattle.std.specs.List.{list_all}
+use Rattle.std.specs.Simd.{first_chunks}
+use Rattle.std.proofs.lemmas.List.Folds.{list_all_more}
+use Rattle.util.proofs.Floats.{is_nan_lem}
 use Rattle.util.proofs.Laws.{word_back}
 use Rattle.records.specs.Records.{record_at, records, room, written, Kind, canonical_word, every, breaks, good, good_records}
 use Rattle.records.specs.Laws.{WrittenLength, WrittenParts, WrittenTwice, RecordOfRecords, WordOfRecord, RearBack, RecordBack, OthersKept, FloatWord, NanWord, EveryIs, GoodIsUnbroken}
@@ -38,10 +40,12 @@ written_twice ws at [] vs = ap (λ (k : ℕ). written ws k vs) (sym (add-zero at
 written_twice ws at (u ∷ us) vs =
     written_twice (set ws at u) (suc at) us vs ∙ ap (λ (k : ℕ). written (written (set ws at u) (suc at) us) k vs) (suc-add at (length us) ∙ sym (add-suc at (length us)))
 
--- what `copy_from_slice` leaves of a list, of which it wrote the words from `at` on
-pub written_over : (ws : List ℕ) (at : ℕ) (vs : List ℕ) → at + length vs ≤ length ws → put_mid at (at + length vs - at) ws vs ≡ written ws at vs
-written_over ws at vs h = put_mid-paste at (at + length vs - at) ws vs vs (length vs) refl (omega arith) refl ∙ paste_all ws at vs (length vs) refl
-    ∙ sym (written_parts ws at vs h ∙ append_assoc (take at ws) vs (drop (at + length vs) ws))
+-- one word more
+pub written_more : (ws : List ℕ) (at : ℕ) (vs : List ℕ) (k : ℕ) → k < length vs → set (written ws at (take k vs)) (at + k) (get_or vs k 0) ≡ written ws at (take (k + 1) vs)
+unfolding written
+written_more ws at vs k h =
+    let e : at + length (take k vs) ≡ at + k = ap (λ (j : ℕ). at + j) (length-take-le k vs (omega arith)) in
+    sym (ap (written ws at) (take_more vs k 0 h) ∙ written_twice ws at (take k vs) (get_or vs k 0 ∷ []) ∙ rw e refl)
 
 -- words before and after those written stay
 pub take_written : (n : ℕ) (ws : List ℕ) (at : ℕ) (vs : List ℕ) → n ≤ at → take n (written ws at vs) ≡ take n ws
@@ -86,6 +90,17 @@ records_step w n ws i =
     next : (w i : ℕ) → w * (i + 1) ≡ w * i + w
     next w i = omega (arith, mul-suc w i)
 
+pub length_records : (w n : ℕ) (ws : List ℕ) → length (records w n ws) ≡ n
+unfolding records
+length_records w zero ws = refl
+length_records w (suc n) ws = ap suc (length_records w n (drop w ws))
+
+-- a list as arrays of one width
+pub chunks_are_records : (w k : ℕ) (ws : List ℕ) → first_chunks w k ws ≡ records w k ws
+unfolding records
+chunks_are_records w zero ws = refl
+chunks_are_records w (suc k) ws = ap (λ (l : List (List ℕ)). take w ws ∷ l) (chunks_are_records w k (drop w ws))
+
 -- words after those that the records take are not read
 records_append : (w n m : ℕ) (xs ys : List ℕ) → length xs ≡ w * n → records w (n + m) (xs ++ ys) ≡ records w n xs ++ records w m ys
 unfolding records
@@ -129,16 +144,11 @@ record_back w k ws r e h =
     ∙ ap (take w) (drop_at (take (w * k) ws) (r ++ drop (w * k + length r) ws) (w * k) (length-take-le (w * k) ws (omega arith)))
     ∙ take_at r (drop (w * k + length r) ws) w e
 
-take_drop : (w n : ℕ) (l : List ℕ) → take w (drop n l) ≡ drop n (take (n + w) l)
-take_drop w zero l = ap (λ (k : ℕ). take k l) (sym (zero-add w))
-take_drop w (suc n) [] = rw (suc-add, take-nil) refl
-take_drop w (suc n) (x ∷ l) = rw suc-add (take_drop w n l)
-
 -- a record that ends before the words written, and one that begins after them
 before_kept : (w at i : ℕ) (ws vs : List ℕ) → w * i + w ≤ at → record_at w (written ws at vs) i ≡ record_at w ws i
 unfolding record_at
 before_kept w at i ws vs h =
-    take_drop w (w * i) (written ws at vs) ∙ ap (drop (w * i)) (take_written (w * i + w) ws at vs h) ∙ sym (take_drop w (w * i) ws)
+    sym (drop-take (w * i) w (written ws at vs)) ∙ ap (drop (w * i)) (take_written (w * i + w) ws at vs h) ∙ drop-take (w * i) w ws
 
 after_kept : (w at i : ℕ) (ws vs : List ℕ) → at + length vs ≤ w * i → record_at w (written ws at vs) i ≡ record_at w ws i
 unfolding record_at
@@ -168,21 +178,14 @@ float_word word h n = word_back word h n
 
 -- ---- rules
 
-and_both : (a b : Bool) → (a && b) ≡ true → (a ≡ true) × (b ≡ true)
-and_both true b e = (refl, e)
-and_both false b e = (e, no e refl)
-
-both_and : {a b : Bool} → a ≡ true → b ≡ true → (a && b) ≡ true
-both_and p q = rw (p, q) refl
-
 pub every_is : EveryIs
 unfolding every
 every_is zero p = (λ e i h. absurd (not-suc-le-zero h), λ f. refl)
 every_is (suc n) p = (
   λ e i h.
-      let b : (every n p ≡ true) × (p n ≡ true) = and_both (every n p) (p n) e in
+      let b : (every n p ≡ true) × (p n ≡ true) = and_parts (every n p) (p n) e in
       below_or_last i h (λ l. (every_is n p).0 b.0 i l) (λ s. rw s b.1),
-  λ f. both_and ((every_is n p).1 (λ i h. f i (omega arith))) (f n (omega arith)),
+  λ f. and_from (every n p) (p n) ((every_is n p).1 (λ i h. f i (omega arith))) (f n (omega arith)),
 )
   where
     below_or_last : {A : Type 0} (i : ℕ) → i < suc n → (i < n → A) → (i ≡ n → A) → A
@@ -192,24 +195,16 @@ every_is (suc n) p = (
         go true q = f (ltb-true i n q)
         go false q = let k : n ≤ i = ltb-false i n q in g (omega arith)
 
--- one number at which p fails is enough
-pub every_fails : (n : ℕ) (p : ℕ → Bool) (i : ℕ) → i < n → p i ≡ false → every n p ≡ false
-every_fails n p i h e = go (every n p) refl
-  where
-    go : (b : Bool) → every n p ≡ b → b ≡ false
-    go true q = no ((every_is n p).0 q i h) e
-    go false q = refl
-
 pub good_is_unbroken : GoodIsUnbroken
 unfolding good_records good
 good_is_unbroken kinds ws n = (
   λ e.
-      let b : (leb n (length ws / length kinds) ≡ true) × (every n rule ≡ true) = and_both (leb n (length ws / length kinds)) (every n rule) e in (
+      let b : (leb n (length ws / length kinds) ≡ true) × (every n rule ≡ true) = and_parts (leb n (length ws / length kinds)) (every n rule) e in (
         leb-true n (length ws / length kinds) b.0,
         λ i k h l. not-true (breaks kinds ws (length kinds * i) k) ((every_is (length kinds) (of i)).0 ((every_is n rule).0 b.1 i h) k l),
       ),
   λ u.
-      both_and (le-leb n (length ws / length kinds) u.0)
+      and_from (leb n (length ws / length kinds)) (every n rule) (le-leb n (length ws / length kinds) u.0)
       ((every_is n rule).1 (λ i h. (every_is (length kinds) (of i)).1 (λ k l. rw (u.1 i k h l) refl))),
 )
   where
@@ -227,32 +222,7 @@ unfolding room
 room_words w l held more e =
     le_trans (mul-le-mul_left w (leb-true (held + more) (l / w) e)) (mul-div-le l w)
 
--- ---- checking a list, record after record
-
-module _ (kinds : List Kind) (ws : List ℕ) (n : ℕ) where
-  pub too_few : length ws / length kinds < n → good_records kinds ws n ≡ false
-  unfolding good_records
-  too_few h = rw (lt-leb n (length ws / length kinds) h) refl
-
-  pub one_bad : (i : ℕ) → i < n → good kinds ws (length kinds * i) ≡ false → good_records kinds ws n ≡ false
-  unfolding good_records
-  one_bad i h e = rw (every_fails n (λ i. good kinds ws (length kinds * i)) i h e) (and_none (leb n (length ws / length kinds)))
-    where
-      and_none : (b : Bool) → (b && false) ≡ false
-      and_none true = refl
-      and_none false = refl
-
-  pub all_good : n ≤ length ws / length kinds → every n (λ i. good kinds ws (length kinds * i)) ≡ true → good_records kinds ws n ≡ true
-  unfolding good_records
-  all_good h e = rw (le-leb n (length ws / length kinds) h, e) refl
-
-pub one_more : (kinds : List Kind) (ws : List ℕ) (i : ℕ) → every i (λ i. good kinds ws (length kinds * i)) ≡ true
-    → good kinds ws (length kinds * i) ≡ true
-    → every (i + 1) (λ i. good kinds ws (length kinds * i)) ≡ true
-unfolding every
-one_more kinds ws i e g = rw (add-one, e, g) refl
-
--- ---- a record by itself
+-- ---- a list of records that are good
 
 every_same : (n : ℕ) (p q : ℕ → Bool) → ((k : ℕ) → k < n → p k ≡ q k) → every n p ≡ every n q
 unfolding every
@@ -262,3 +232,29 @@ every_same (suc n) p q f = rw (every_same n p q (λ k h. f k (omega arith)), f n
 pub good_record_at : (kinds : List Kind) (ws : List ℕ) (i : ℕ) → good kinds (record_at (length kinds) ws i) 0 ≡ good kinds ws (length kinds * i)
 unfolding good breaks
 good_record_at kinds ws i = every_same (length kinds) _ _ (λ k h. rw (zero-add k, word_of_record (length kinds) ws i k h) refl)
+
+every_of_list : {A : Type 0} (p : A → Bool) (xs : List A) (d : A) (n : ℕ) → n ≤ length xs → every n (λ i. p (get_or xs i d)) ≡ list_all p (take n xs)
+unfolding every
+every_of_list p xs d zero h = refl
+every_of_list p xs d (suc n) h =
+    ap (λ (b : Bool). b && p (get_or xs n d)) (every_of_list p xs d n (omega arith)) ∙ sym (list_all_more p xs n d h) ∙ ap (λ (k : ℕ). list_all p (take k xs)) (add-one n)
+
+-- the first n of the whole records are there, and each by itself is good
+pub good_by_records : (kinds : List Kind) (ws : List ℕ) (n : ℕ)
+    → good_records kinds ws n
+    ≡ (leb n (length (records (length kinds) (length ws / length kinds) ws))
+    && list_all (λ r. good kinds r 0) (take n (records (length kinds) (length ws / length kinds) ws)))
+unfolding good_records
+good_by_records kinds ws n = rw (length_records (length kinds) m ws) (go (leb n m) refl)
+  where
+    m : ℕ
+    m = length ws / length kinds
+
+    all : List (List ℕ)
+    all = records (length kinds) m ws
+
+    go : (b : Bool) → leb n m ≡ b → (b && every n (λ i. good kinds ws (length kinds * i))) ≡ (b && list_all (λ r. good kinds r 0) (take n all))
+    go false e = refl
+    go true e =
+        every_same n _ _ (λ i h. sym (ap (λ (r : List ℕ). good kinds r 0) (record_of_records (length kinds) m ws i (omega (arith, leb-true n m e, h))) ∙ good_record_at kinds ws i))
+        ∙ every_of_list (λ (r : List ℕ). good kinds r 0) all [] n (rw (length_records (length kinds) m ws) (leb-true n m e))

@@ -1,6 +1,6 @@
 -- At most three questions are asked for each box, and none for a box that isn't begun: while box i is at hand, those asked for it are at
 -- most one more than the replies that are kept of it. Assumes nothing.
-use Rattle.std.specs.Prelude.{Some, is_none, Float}
+use Rattle.std.specs.Prelude.{Some, is_none, Option, None, Float}
 use Prim.Native.Nat.{ℕ, ◌+◌, ◌≤◌}
 use native.Mathlib.Omega.{arith}
 use native.Mathlib.Nat.{add-zero, zero-add}
@@ -11,14 +11,13 @@ use lib.Dec.{eqb}
 use borrow.Author.Tests.{eqb-true, eqb-false}
 use Rattle.util.proofs.Floats.{no}
 use Rattle.geometry.specs.declared.Rect.{Rect}
+use Rattle.oof_box.specs.declared.question.Stage.{Stage}
 use Rattle.oof_box.specs.Cut.{no_replies}
 use Rattle.oof_box.proofs.Talks.{stages_move_forward}
 use Rattle.oof_box.specs.declared.question.Reply.{Reply}
 use Rattle.oof_box.specs.declared.question.Replies.{Replies}
 use Rattle.oof_box.specs.declared.question.Taken.TheVariants.{Kept}
 use Rattle.run.specs.declared.Opening.{Opening}
-use Rattle.run.specs.declared.Progress.{Progress}
-use Rattle.run.specs.declared.Progress.TheVariants.{Finished, Asking}
 use Rattle.run.specs.declared.Counts.{Counts}
 use Rattle.run.specs.declared.Opened.{Opened}
 use Rattle.run.specs.declared.State.{State}
@@ -30,9 +29,9 @@ use Rattle.run.proofs.Ways.{NextWay, asks, ends, next_way, OpeningWay, begins, o
 use Rattle.run.proofs.Questions.{kept, at_most_two, Forward, OneMore, one_more}
 
 -- while a question is open: by the questions asked for box i so far and the boxes begun
-abbrev Open : ℕ → ℕ → ℕ → Replies → Progress → Type 0
-Open i n begun r Finished = Unit {0}
-Open i n begun r (Asking stage) = (begun ≡ i + 1 → n ≤ kept r + 1) × Forward stage r
+abbrev Open : ℕ → ℕ → ℕ → Replies → Option Stage → Type 0
+Open i n begun r None = Unit {0}
+Open i n begun r (Some stage) = (begun ≡ i + 1 → n ≤ kept r + 1) × Forward stage r
 
 pub record ForBox (i n : ℕ) (s : State) : Type 0 where
   pub three : n ≤ 3
@@ -97,11 +96,11 @@ pub opening_for : (i : ℕ) (o : Opening) (candidates : List ℕ) (lent : Lent) 
 opening_for i o candidates lent = rw zero-add at (first_for i o candidates lent)
 
 -- a reply that is kept leaves room for one question more
-one_kept : (i n begun : ℕ) (r : Replies) (p : Progress) (given : Reply) {after : Replies} → Open i n begun r p → taken_in p r given ≡ Some (Kept after)
+one_kept : (i n begun : ℕ) (r : Replies) (p : Option Stage) (given : Reply) {after : Replies} → Open i n begun r p → taken_in p r given ≡ Some (Kept after)
     → begun ≡ i + 1
     → n ≤ kept after
-one_kept i n begun r Finished given b e h = no {b = true} refl (ap is_none e)
-one_kept i n begun r (Asking stage) given b e h =
+one_kept i n begun r None given b e h = no {b = true} refl (ap is_none e)
+one_kept i n begun r (Some stage) given b e h =
     let k = subst (OneMore r) e (one_more r stage given b.1) in
     let m = b.0 h in
     omega arith

@@ -1,5 +1,5 @@
 -- Each test of a verdict decides document 01's condition. Assumes nothing.
-use Rattle.std.specs.Prelude.{is_none}
+use Rattle.std.specs.Prelude.{is_none, Option, Some, None, Result, Ok, Err, is_err, ⊤}
 use Prim.Native.Nat.{ℕ, ◌+◌, ◌*◌, ◌-◌, ◌/◌, ◌%◌, ◌<◌, ◌≤◌}
 use native.Mathlib.Omega.{arith}
 use native.Mathlib.Nat.{add-zero, add_assoc}
@@ -10,6 +10,7 @@ use mathlib.Core.List.{List, [], ◌∷◌}
 use lib.Dec.{ltb, eqb}
 use lib.ListN.{length, get_or}
 use borrow.Author.Tests.{eqb-true, eq-eqb, ltb-false, le-ltb, not-false, le-leb}
+use Rattle.std.proofs.lemmas.Bool.{or_parts, or_from}
 use Rattle.util.proofs.Floats.{no}
 use Rattle.style.specs.Laws.{tags_of, among}
 use Rattle.style.proofs.Laws.{takes_its_tags}
@@ -19,7 +20,6 @@ use Rattle.tree_record.proofs.Good.{good_axis, good_record}
 use Rattle.style_record.specs.Record.{Kind, tag, number, up_to, ratio, keyword, safety, contain, kind_of, item, items}
 use Rattle.style_record.specs.Check.{safety_breaks, breaks_as, breaks_rule, breaks, checked}
 use Rattle.style_record.specs.declared.check.BadWord.{BadWord}
-use Rattle.std.specs.Prelude.{Result, Ok, Err, is_err, ⊤}
 use Rattle.style_record.proofs.Laws.{good_is_none, bad_is_first}
 use Rattle.style.specs.Values.{is_self_relative}
 use Rattle.style.specs.declared.alignment.AlignItemsKeyword.{AlignItemsKeyword}
@@ -36,16 +36,13 @@ use Rattle.oof_box.specs.declared.question.Reply.TheVariants as reply
 use Rattle.oof_box.specs.declared.question.Stage.{Stage}
 use Rattle.oof_box.specs.declared.question.Stage.TheVariants as stage
 use Rattle.run.specs.declared.Opening.{Opening}
-use Rattle.run.specs.declared.Progress.{Progress}
-use Rattle.run.specs.declared.Progress.TheVariants.{Finished, Asking}
 use Rattle.run.specs.declared.Counts.{Counts}
 use Rattle.run.specs.declared.Extents.{Extents}
 use Rattle.run.specs.Call.{Lent}
 use Rattle.run.specs.Refusals.{bad_area, ragged, bad_table, bad_list, bad_slices, other_lengths, bad_style, bad_candidate, list_full, wrong_counts}
 use Rattle.run.specs.Run.{extents_of, taken_in}
 use Rattle.run.specs.Conditions.{AreaIsBad, item_words, GoodTable, Whole, GoodList, SlicesAreBad, Among, Allowed, WordIsAllowed, StyleIsBad, places, word, AxisIsBad, RecordIsBad, CandidateIsBad, QuestionKind, both, width, height, lay_out, kind_of_reply, kind_at, NotAsked, CountsAreWrong, SideIsUnresolved}
-use Rattle.run.proofs.Ways.{neither}
-use Rattle.run.proofs.Decides.{Decides, by_iff, either, regroup, opposite, refutes, both_fail, guard, last, below, at_most, equal, not_every}
+use Rattle.run.proofs.Decides.{Decides, by_iff, either, regroup, opposite, refutes, guard, last, below, at_most, equal, not_every}
 use Rattle.run.proofs.Decides as decides
 
 -- ---- 1
@@ -71,7 +68,7 @@ list_decided list = refutes there back
   where
     there : bad_list list ≡ false → GoodList list
     there f =
-        let parts = neither _ _ f in
+        let parts = or_parts _ _ f in
         let e = eqb-true (length list % candidate_width) 0 (not-false _ parts.0) in
         let h = ltb-false _ (length list / candidate_width) parts.1 in
         (length list / candidate_width, h, omega arith)
@@ -80,7 +77,7 @@ list_decided list = refutes there back
     back g =
         let h = g.1 in
         let e = g.2 in
-        both_fail (same (length list % candidate_width) 0 (omega arith)) (le-ltb _ (length list / candidate_width) (omega arith))
+        or_from _ _ (same (length list % candidate_width) 0 (omega arith)) (le-ltb _ (length list / candidate_width) (omega arith))
 
 table_decided : (styles layouts : List ℕ) → Decides (bad_table styles layouts) (¬ GoodTable styles layouts)
 unfolding bad_table items
@@ -88,8 +85,8 @@ table_decided styles layouts = refutes there back
   where
     there : bad_table styles layouts ≡ false → GoodTable styles layouts
     there f =
-        let first = neither _ _ f in
-        let second = neither _ _ first.0 in
+        let first = or_parts _ _ f in
+        let second = or_parts _ _ first.0 in
         let e = eqb-true (length styles % item_words) 0 (not-false _ second.0) in
         let h = ltb-false _ (length styles / item_words) second.1 in
         (length styles / item_words, h, omega arith, eqb-true (length layouts) (23 * (length styles / item_words)) (not-false _ first.1))
@@ -99,8 +96,8 @@ table_decided styles layouts = refutes there back
         let h = g.1 in
         let d = g.2 in
         let e = g.3 in
-        both_fail
-        (both_fail (same (length styles % item_words) 0 (omega arith)) (le-ltb _ (length styles / item_words) (omega arith)))
+        or_from _ _
+        (or_from _ _ (same (length styles % item_words) 0 (omega arith)) (le-ltb _ (length styles / item_words) (omega arith)))
         (same (length layouts) (23 * (length styles / item_words)) (omega arith))
 
 pub slices_decided : (lent : Lent) → Decides (bad_slices lent) (SlicesAreBad lent)
@@ -113,9 +110,9 @@ lengths_decided e lent = refutes there back
   where
     there : other_lengths e lent ≡ false → extents_of lent ≡ e
     there f =
-        let third = neither _ _ f in
-        let second = neither _ _ third.0 in
-        let first = neither _ _ second.0 in
+        let third = or_parts _ _ f in
+        let second = or_parts _ _ third.0 in
+        let first = or_parts _ _ second.0 in
         let a = eqb-true (length lent.styles) e.styles (not-false _ first.0) in
         let b = eqb-true (length lent.layouts) e.layouts (not-false _ first.1) in
         let c = eqb-true (length lent.working) e.working (not-false _ second.1) in
@@ -124,9 +121,9 @@ lengths_decided e lent = refutes there back
 
     back : extents_of lent ≡ e → other_lengths e lent ≡ false
     back h =
-        both_fail
-        (both_fail
-        (both_fail (same (length lent.styles) e.styles (ap (λ (x : Extents). x.styles) h))
+        or_from _ _
+        (or_from _ _
+        (or_from _ _ (same (length lent.styles) e.styles (ap (λ (x : Extents). x.styles) h))
         (same (length lent.layouts) e.layouts (ap (λ (x : Extents). x.layouts) h)))
         (same (length lent.working) e.working (ap (λ (x : Extents). x.working) h)))
         (same (length lent.unclaimed) e.unclaimed (ap (λ (x : Extents). x.unclaimed) h))
@@ -274,19 +271,19 @@ kind_decided replies at given =
     rw (other_kind replies at given)
     (opposite (by_iff (equal (code_of (kind_of_reply given)) (code_of (kind_at at))) (kinds_differ (kind_of_reply given) (kind_at at), ap code_of)))
 
-abbrev is_finished : Progress → Bool
-is_finished Finished = true
-is_finished (Asking at) = false
+abbrev is_finished : Option Stage → Bool
+is_finished None = true
+is_finished (Some at) = false
 
-abbrev stage_in : Progress → Stage
-stage_in Finished = stage.LayOut
-stage_in (Asking at) = at
+abbrev stage_in : Option Stage → Stage
+stage_in None = stage.LayOut
+stage_in (Some at) = at
 
-pub asked_decided : (p : Progress) (replies : Replies) (given : Reply) → Decides (is_none (taken_in p replies given)) (NotAsked p given)
-asked_decided Finished replies given = record { holds = λ t. inl refl; fails = λ f. no {b = true} refl f }
-asked_decided (Asking at) replies given = by_iff (kind_decided replies at given) (λ n. inr (at, refl, n), back)
+pub asked_decided : (p : Option Stage) (replies : Replies) (given : Reply) → Decides (is_none (taken_in p replies given)) (NotAsked p given)
+asked_decided None replies given = record { holds = λ t. inl refl; fails = λ f. no {b = true} refl f }
+asked_decided (Some at) replies given = by_iff (kind_decided replies at given) (λ n. inr (at, refl, n), back)
   where
-    back : NotAsked (Asking at) given → kind_of_reply given ≢ kind_at at
+    back : NotAsked (Some at) given → kind_of_reply given ≢ kind_at at
     back (inl e) = no {b = false} (ap is_finished e) refl
     back (inr a) = λ k. a.2 (k ∙ ap kind_at (ap stage_in a.1))
 

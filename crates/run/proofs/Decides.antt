@@ -56,9 +56,6 @@ opposite {b = false} d = record { holds = λ t. d.fails refl; fails = λ f. no {
 pub refutes : {b : Bool} {P : Type 0} → (b ≡ false → P) → (P → b ≡ false) → Decides b (¬ P)
 refutes f g = record { holds = λ t p. no t (g p); fails = λ e n. n (f e) }
 
-pub both_fail : {a b : Bool} → a ≡ false → b ≡ false → a || b ≡ false
-both_fail d e = rw d e
-
 -- guards, one before another
 pub guard : {a : Bool} {P Q : Type 0} (x : Bool) → Decides a P → Decides (not x) Q → Decides (not (cond a false x)) (P ⊎ Q)
 guard {a = true} x d e = either d e

@@ -1,5 +1,5 @@
 -- A call is refused exactly under the first of document 01's conditions that holds, and accepted exactly where none does. Assumes nothing.
-use Rattle.std.specs.Prelude.{Option, None, Some, is_none, Err, Ok, Result}
+use Rattle.std.specs.Prelude.{Option, None, Some, is_none, Ok, Err, Result, is_err}
 use Prim.Native.Nat.{ℕ, ◌<◌, ◌≤◌}
 use native.Mathlib.Omega.{arith}
 use mathlib.Core.Logic.Iff
@@ -7,7 +7,7 @@ use mathlib.Core.Logic.{inl, inr, ◌↔◌}
 use mathlib.Core.Path.{◌≡◌, refl, ap}
 use mathlib.Core.Bool.{Bool, true, false, cond, ◌||◌}
 use mathlib.Core.List.{List}
-use Rattle.std.specs.Prelude.{Ok, Err}
+use Rattle.std.proofs.lemmas.Bool.{or_parts}
 use Rattle.util.proofs.Floats.{no}
 use Rattle.style.specs.Values.{is_self_relative}
 use Rattle.tree.specs.Static.{from_alignment}
@@ -21,13 +21,13 @@ use Rattle.run.specs.declared.Opening.{Opening}
 use Rattle.run.specs.declared.Counts.{Counts}
 use Rattle.run.specs.declared.State.{State}
 use Rattle.run.specs.declared.Answer.{Answer}
-use Rattle.run.specs.declared.Answer.TheVariants.{Ask, Finish, Refused}
+use Rattle.run.specs.declared.Answer.TheVariants.{Ask, Finish}
 use Rattle.run.specs.Call.{Lent}
 use Rattle.run.specs.Refusals.{Verdict, accepted, refused, ◌when◌else◌, wrong_counts, lent_by}
 use Rattle.run.specs.Run.{claims_of, none_filled, opened, opened_by, opening_verdict, taken_by, replied, replied_by, reply_verdict}
 use Rattle.run.specs.Conditions.{places, opening_tests, reply_tests}
-use Rattle.run.specs.Theorems.{is_refused, OpeningRefusedExactly, OpeningAcceptedExactly, ReplyRefusedExactly, ReplyAcceptedExactly, OtherLengthsRefused, UnresolvedExactly}
-use Rattle.run.proofs.Ways.{passed, neither}
+use Rattle.run.specs.Theorems.{OpeningRefusedExactly, OpeningAcceptedExactly, ReplyRefusedExactly, ReplyAcceptedExactly, OtherLengthsRefused, UnresolvedExactly}
+use Rattle.run.proofs.Ways.{passed}
 use Rattle.run.proofs.Refusals.{begun_accepts, measured_accepts, laid_accepts}
 use Rattle.run.proofs.Decides.{either, regroup, Says, no_more, then, refused_first, accepted_none, refusal_by, is_accepted}
 use Rattle.run.proofs.Conditions.{area_decided, slices_decided, lengths_decided, whole_decided, style_decided, candidate_decided, full_decided, asked_decided, counts_decided, side_decided}
@@ -47,7 +47,7 @@ opening_says o candidates lent =
 -- the filled records are there where 6 was passed
 filled_there : (lent : Lent) (c : Counts) (wrong : Bool) → wrong || wrong_counts lent c ≡ false → c.filled.working ≤ places lent.working
 filled_there lent c wrong f =
-    let n = (counts_decided lent c).fails (neither wrong _ f).1 in
+    let n = (counts_decided lent c).fails (or_parts wrong _ f).1 in
     let h : ¬ (places lent.working < c.filled.working) = λ l. n (inl l) in
     omega arith
 
@@ -65,27 +65,27 @@ reply_says s given slice lent =
 
 -- ---- a refusal is the verdict's
 
-abbrev refusal_in : Answer → Refusal
-refusal_in (Ask q) = WrongReply
-refusal_in (Finish f) = WrongReply
-refusal_in (Refused r) = r
+abbrev refusal_in : Result Answer Refusal → Refusal
+refusal_in (Ok (Ask q)) = WrongReply
+refusal_in (Ok (Finish f)) = WrongReply
+refusal_in (Err r) = r
 
 -- an answer goes by a verdict: a refusal is its refusal, and there is none where it accepts
-record GoesBy (a : Answer) (v : Verdict) : Type 0 where
-  refusal : (r : Refusal) → (a ≡ Refused r) ↔ (v ≡ refused r)
-  none : (is_refused a ≡ false) ↔ (v ≡ accepted)
+record GoesBy (a : Result Answer Refusal) (v : Verdict) : Type 0 where
+  refusal : (r : Refusal) → (a ≡ Err r) ↔ (v ≡ refused r)
+  none : (is_err a ≡ false) ↔ (v ≡ accepted)
 
-goes_refused : (q : Refusal) → GoesBy (Refused q) (refused q)
+goes_refused : (q : Refusal) → GoesBy (Err q) (refused q)
 goes_refused q =
     record {
-      refusal = λ r. (λ e. ap refused (ap refusal_in e), λ e. ap Refused (ap refusal_by e));
+      refusal = λ r. (λ e. ap refused (ap refusal_in e), λ e. ap Err (ap refusal_by e));
       none = (λ f. no {b = true} refl f, λ e. no {b = false} (ap is_accepted e) refl);
     }
 
-goes_accepted : (a : Answer) → is_refused a ≡ false → GoesBy a accepted
+goes_accepted : (a : Result Answer Refusal) → is_err a ≡ false → GoesBy a accepted
 goes_accepted a n =
     record {
-      refusal = λ r. (λ e. no (ap is_refused e) n, λ e. no {b = true} refl (ap is_accepted e));
+      refusal = λ r. (λ e. no (ap is_err e) n, λ e. no {b = true} refl (ap is_accepted e));
       none = (λ f. refl, λ e. n);
     }
 
@@ -101,7 +101,7 @@ opening_goes o candidates lent = go (opening_verdict o candidates lent)
 accepted_not_wrong : (s : State) (given : Reply) (surfaced : List ℕ) (lent : Lent) → reply_verdict s given surfaced lent ≡ accepted
     → is_none (taken_by s given) ≡ false
 unfolding reply_verdict
-accepted_not_wrong s given surfaced lent d = (neither (is_none (taken_by s given)) _ (passed _ _ _ (passed _ _ _ d).1).0).0
+accepted_not_wrong s given surfaced lent d = (or_parts (is_none (taken_by s given)) _ (passed _ _ _ (passed _ _ _ d).1).0).0
 
 reply_goes : (s : State) (given : Reply) (surfaced : List ℕ) (lent : Lent)
     → GoesBy (replied s given surfaced lent).step.answer (reply_verdict s given surfaced lent)

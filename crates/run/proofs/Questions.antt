@@ -21,8 +21,6 @@ use Rattle.oof_box.specs.declared.question.Stage.TheVariants.{KeywordBoth, Keywo
 use Rattle.oof_box.specs.declared.question.Taken.{Taken}
 use Rattle.oof_box.specs.declared.question.Taken.TheVariants.{Kept, Laid}
 use Rattle.run.specs.declared.Opening.{Opening}
-use Rattle.run.specs.declared.Progress.{Progress}
-use Rattle.run.specs.declared.Progress.TheVariants.{Finished, Asking}
 use Rattle.run.specs.declared.Counts.{Counts}
 use Rattle.run.specs.declared.Opened.{Opened}
 use Rattle.run.specs.declared.State.{State}
@@ -106,9 +104,9 @@ one_more r stage given f = go stage given (not_given stage r f) (not_filled stag
 -- ---- between two calls
 
 -- by the questions asked so far, the boxes begun, and whether one is asked now
-abbrev pub Within : ℕ → ℕ → Replies → Progress → Type 0
-Within questions begun r Finished = questions ≤ 3 * begun
-Within questions begun r (Asking stage) = (questions + 2 ≤ 3 * begun + kept r) × Forward stage r
+abbrev pub Within : ℕ → ℕ → Replies → Option Stage → Type 0
+Within questions begun r None = questions ≤ 3 * begun
+Within questions begun r (Some stage) = (questions + 2 ≤ 3 * begun + kept r) × Forward stage r
 
 abbrev pub Bounded : ℕ → State → Type 0
 Bounded questions s = Within questions s.counts.begun s.replies s.progress
@@ -116,20 +114,20 @@ Bounded questions s = Within questions s.counts.begun s.replies s.progress
 pub three_at_most : (questions : ℕ) (s : State) → Bounded questions s → questions ≤ 3 * s.counts.begun
 three_at_most questions s b = go s.progress b
   where
-    go : (p : Progress) → Within questions s.counts.begun s.replies p → questions ≤ 3 * s.counts.begun
-    go Finished b = b
-    go (Asking stage) b = let n = b.0 in omega (arith, at_most_two s.replies)
+    go : (p : Option Stage) → Within questions s.counts.begun s.replies p → questions ≤ 3 * s.counts.begun
+    go None b = b
+    go (Some stage) b = let n = b.0 in omega (arith, at_most_two s.replies)
 
 -- after one more call: what it asked is counted
 abbrev pub BoundedBy : ℕ → Step → Type 0
 BoundedBy questions t = Bounded (questions + one_if_asked t.answer) t.state
 
 -- a reply that is kept leaves room for one question more
-one_kept : (questions begun : ℕ) (r : Replies) (p : Progress) (given : Reply) {after : Replies} → Within questions begun r p
+one_kept : (questions begun : ℕ) (r : Replies) (p : Option Stage) (given : Reply) {after : Replies} → Within questions begun r p
     → taken_in p r given ≡ Some (Kept after)
     → questions + 3 ≤ 3 * begun + kept after
-one_kept questions begun r Finished given b e = no {b = true} refl (ap is_none e)
-one_kept questions begun r (Asking stage) given b e =
+one_kept questions begun r None given b e = no {b = true} refl (ap is_none e)
+one_kept questions begun r (Some stage) given b e =
     let n = b.0 in
     let k = subst (OneMore r) e (one_more r stage given b.1) in
     omega arith

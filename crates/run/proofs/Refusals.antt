@@ -1,5 +1,5 @@
 -- A refused call writes nothing and returns the state as it came. Assumes nothing.
-use Rattle.std.specs.Prelude.{Option, is_none, Float}
+use Rattle.std.specs.Prelude.{Option, is_none, Result, Ok, Err, is_err, Float}
 use Prim.Native.Nat.{ℕ}
 use mathlib.Core.Path.{◌≡◌, refl, sym, ap, ◌∙◌}
 use mathlib.Core.Bool.{Bool, true, false}
@@ -7,34 +7,34 @@ use mathlib.Core.List.{List}
 use Rattle.util.proofs.Floats.{no}
 use Rattle.geometry.specs.declared.Rect.{Rect}
 use Rattle.refusal.specs.declared.Refusal.{Refusal}
+use Rattle.oof_box.specs.declared.question.Stage.{Stage}
 use Rattle.oof_box.specs.declared.question.Replies.{Replies}
 use Rattle.oof_box.specs.declared.question.Taken.{Taken}
 use Rattle.run.specs.declared.Opening.{Opening}
 use Rattle.run.specs.declared.Counts.{Counts}
 use Rattle.run.specs.declared.Opened.{Opened}
 use Rattle.run.specs.declared.State.{State}
-use Rattle.run.specs.declared.Progress.{Progress}
 use Rattle.run.specs.declared.Answer.{Answer}
-use Rattle.run.specs.declared.Answer.TheVariants.{Ask, Finish, Refused}
+use Rattle.run.specs.declared.Answer.TheVariants.{Ask, Finish}
 use Rattle.run.specs.declared.Step.{Step}
 use Rattle.run.specs.Call.{Lent, Outcome, unwritten}
 use Rattle.run.specs.Run.{asking, finishing, proceeding, closed, begun, opened, taken_in, taken_by, measured_on, laid_out, replied}
-use Rattle.run.specs.Theorems.{is_refused, Heard, next, Loan, own, other, Turn, next_with, turned, RefusedReplyKeeps, RefusedOpeningKeeps, FinishedRefuses}
+use Rattle.run.specs.Theorems.{Heard, next, Loan, own, other, Turn, next_with, turned, RefusedReplyKeeps, RefusedOpeningKeeps, FinishedRefuses}
 use Rattle.run.proofs.Ways.{NextWay, asks, ends, next_way, OpeningWay, begins, opening_way, ReplyWay, measures, lays_out, reply_way}
 
 abbrev pub refused_in : Outcome → Bool
-refused_in o = is_refused o.step.answer
+refused_in o = is_err o.step.answer
 
 -- ---- an accepted call answers with a question or a finish
 
-proceeding_accepts : (styles working : List ℕ) (run : Opened) (counts : Counts) (overflow : Rect Float)
-    → is_refused (proceeding styles working run counts overflow).answer ≡ false
+pub proceeding_accepts : (styles working : List ℕ) (run : Opened) (counts : Counts) (overflow : Rect Float)
+    → is_err (proceeding styles working run counts overflow).answer ≡ false
 unfolding asking finishing
 proceeding_accepts styles working run counts overflow = go (next_way styles working run counts overflow)
   where
-    go : NextWay styles working run counts overflow → is_refused (proceeding styles working run counts overflow).answer ≡ false
-    go (asks h e) = ap (λ (s : Step). is_refused s.answer) e
-    go (ends h e) = ap (λ (s : Step). is_refused s.answer) e
+    go : NextWay styles working run counts overflow → is_err (proceeding styles working run counts overflow).answer ≡ false
+    go (asks h e) = ap (λ (s : Step). is_err s.answer) e
+    go (ends h e) = ap (λ (s : Step). is_err s.answer) e
 
 pub begun_accepts : (o : Opening) (candidates : List ℕ) (lent : Lent) → refused_in (begun o candidates lent) ≡ false
 unfolding begun
@@ -54,18 +54,18 @@ answer_of_lem : {a b : Outcome} → a ≡ b → a.step.answer ≡ b.step.answer
 answer_of_lem e = ap (λ (o : Outcome). o.step.answer) e
 
 -- the same refusal, with all else as it came
-same_refusal : (lent : Lent) (s : State) {o : Outcome} {q r : Refusal} → o ≡ unwritten lent (record { state = s; answer = Refused q })
-    → o.step.answer ≡ Refused r
-    → o ≡ unwritten lent (record { state = s; answer = Refused r })
-same_refusal lent s e a = e ∙ ap (λ (x : Answer). unwritten lent (record { state = s; answer = x })) (sym (answer_of_lem e) ∙ a)
+same_refusal : (lent : Lent) (s : State) {o : Outcome} {q r : Refusal} → o ≡ unwritten lent (record { state = s; answer = Err q })
+    → o.step.answer ≡ Err r
+    → o ≡ unwritten lent (record { state = s; answer = Err r })
+same_refusal lent s e a = e ∙ ap (λ (x : Result Answer Refusal). unwritten lent (record { state = s; answer = x })) (sym (answer_of_lem e) ∙ a)
 
-not_accepted : {A : Type 0} {o p : Outcome} {r : Refusal} → o ≡ p → refused_in p ≡ false → o.step.answer ≡ Refused r → A
-not_accepted e f a = no (ap is_refused a) (ap refused_in e ∙ f)
+not_accepted : {A : Type 0} {o p : Outcome} {r : Refusal} → o ≡ p → refused_in p ≡ false → o.step.answer ≡ Err r → A
+not_accepted e f a = no (ap is_err a) (ap refused_in e ∙ f)
 
 pub refused_reply_keeps : RefusedReplyKeeps
 refused_reply_keeps s reply surfaced lent r a = go (reply_way s reply surfaced lent)
   where
-    go : ReplyWay s reply surfaced lent → replied s reply surfaced lent ≡ unwritten lent (record { state = s; answer = Refused r })
+    go : ReplyWay s reply surfaced lent → replied s reply surfaced lent ≡ unwritten lent (record { state = s; answer = Err r })
     go (ReplyWay.turned_down q e) = same_refusal lent s e a
     go (measures replies v t e) = not_accepted e (measured_accepts s replies lent) a
     go (lays_out overflow v t e) = not_accepted e (laid_accepts s overflow surfaced lent) a
@@ -73,7 +73,7 @@ refused_reply_keeps s reply surfaced lent r a = go (reply_way s reply surfaced l
 pub refused_opening_keeps : RefusedOpeningKeeps
 refused_opening_keeps o candidates lent r a = go (opening_way o candidates lent)
   where
-    go : OpeningWay o candidates lent → opened o candidates lent ≡ unwritten lent (record { state = closed lent; answer = Refused r })
+    go : OpeningWay o candidates lent → opened o candidates lent ≡ unwritten lent (record { state = closed lent; answer = Err r })
     go (OpeningWay.turned_down q e) = same_refusal lent (closed lent) e a
     go (begins v e) = not_accepted e (begun_accepts o candidates lent) a
 
@@ -84,7 +84,7 @@ unfolding taken_by
 finished_refuses s reply surfaced lent f = go (reply_way s reply surfaced lent)
   where
     wrong : {t : Option Taken} → taken_by s reply ≡ t → is_none t ≡ true
-    wrong e = ap is_none (sym e) ∙ ap (λ (p : Progress). is_none (taken_in p s.replies reply)) f
+    wrong e = ap is_none (sym e) ∙ ap (λ (p : Option Stage). is_none (taken_in p s.replies reply)) f
 
     go : ReplyWay s reply surfaced lent → refused_in (replied s reply surfaced lent) ≡ true
     go (ReplyWay.turned_down r e) = ap refused_in e
@@ -94,7 +94,7 @@ finished_refuses s reply surfaced lent f = go (reply_way s reply surfaced lent)
 -- ---- a refused call in a run, whatever it is lent
 
 -- a state and words, with an answer
-abbrev pub saying : Answer → Outcome → Outcome
+abbrev pub saying : Result Answer Refusal → Outcome → Outcome
 saying a x = record { step = record { state = x.step.state; answer = a }; layouts = x.layouts; working = x.working; unclaimed = x.unclaimed }
 
 -- leaves what it was given, but for the answer
@@ -106,11 +106,11 @@ turn_refused styles x t e = go t.loan e (turned styles x t).step.answer refl
     h : Heard
     h = t.heard
 
-    go : (loan : Loan) → refused_in (next_with styles x h loan) ≡ true → (a : Answer) → (next_with styles x h loan).step.answer ≡ a
+    go : (loan : Loan) → refused_in (next_with styles x h loan) ≡ true → (a : Result Answer Refusal) → (next_with styles x h loan).step.answer ≡ a
         → next_with styles x h loan ≡ saying (next_with styles x h loan).step.answer x
-    go loan e (Ask q) d = no e (ap is_refused d)
-    go loan e (Finish f) d = no e (ap is_refused d)
-    go own e (Refused r) d = refused_reply_keeps x.step.state h.reply h.surfaced _ r d ∙ ap (λ (a : Answer). saying a x) (sym d)
-    go (other lent) e (Refused r) d =
+    go loan e (Ok (Ask q)) d = no e (ap is_err d)
+    go loan e (Ok (Finish f)) d = no e (ap is_err d)
+    go own e (Err r) d = refused_reply_keeps x.step.state h.reply h.surfaced _ r d ∙ ap (λ (a : Result Answer Refusal). saying a x) (sym d)
+    go (other lent) e (Err r) d =
         ap (λ (o : Outcome). record { step = o.step; layouts = x.layouts; working = x.working; unclaimed = x.unclaimed }) (refused_reply_keeps x.step.state h.reply h.surfaced lent r d)
-        ∙ ap (λ (a : Answer). saying a x) (sym d)
+        ∙ ap (λ (a : Result Answer Refusal). saying a x) (sym d)

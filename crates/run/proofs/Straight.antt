@@ -1,6 +1,6 @@
 -- With nobody else writing the lent words, the calls are the straight run: each call leaves the words of the world that it has come to, and
 -- its question is the one at which the course stands; a refused one changes neither. Assumes nothing.
-use Rattle.std.specs.Prelude.{Option, Some, Float}
+use Rattle.std.specs.Prelude.{Option, Some, Ok, Float}
 use Prim.Native.Nat.{ℕ, zero, suc, ◌+◌, ◌-◌, ◌/◌, ◌≤◌}
 use native.Mathlib.Omega.{arith}
 use native.Mathlib.Nat.{zero-add, add-zero}
@@ -8,7 +8,6 @@ use mathlib.Core.Path.{◌≡◌, refl, sym, ap, ◌∙◌, subst, subst₂}
 use mathlib.Core.Bool.{Bool, true, false, cond}
 use mathlib.Core.List.{List, [], ◌∷◌, ◌++◌, map, foldl, append-nil, map-map}
 use lib.ListN.{length, length-append}
-use Rattle.std.specs.Prelude.{Some}
 use Rattle.util.proofs.Floats.{no}
 use Rattle.geometry.specs.Geometry.{union_of}
 use Rattle.geometry.specs.declared.Rect.{Rect}
@@ -109,9 +108,9 @@ module _ (o : Opening) (lent : Lent) where
   stage_of c replies = (asked_after (container_of o) (style c.node) c replies).stage
 
   asked_at : {w : World} {c : OofCandidate} {rest : List OofCandidate} (replies : Replies) (answered : ℕ) → IsFirst w c rest
-      → (asking_at w replies answered).step.answer ≡ Ask (question_of c replies)
+      → (asking_at w replies answered).step.answer ≡ Ok (Ask (question_of c replies))
   unfolding asking
-  asked_at replies answered f = ap (λ (c : OofCandidate). Ask (question_of c replies)) (box_at answered f)
+  asked_at replies answered f = ap (λ (c : OofCandidate). Ok (Ask (question_of c replies))) (box_at answered f)
 
   kind_at_lem : {w : World} {c : OofCandidate} {rest : List OofCandidate} (replies : Replies) (answered : ℕ) → IsFirst w c rest
       → awaited (asking_at w replies answered).step.state.progress ≡ Some (kind_of_question (question_of c replies))
@@ -374,7 +373,7 @@ module _ (o : Opening) (lent : Lent) where
   -- ---- what stands there
 
   says_asking : (w : World) (k : Placed → Course) (answered : ℕ) {q : Question} {t : Talk Placed} → Asks q t
-      → (so_far (during w t k) ≡ w) × (begun_in (during w t k) ≡ length w.laid + 1) × (said_after answered (during w t k) ≡ Ask q)
+      → (so_far (during w t k) ≡ w) × (begun_in (during w t k) ≡ length w.laid + 1) × (said_after answered (during w t k) ≡ Ok (Ask q))
       × (awaited_in (during w t k) ≡ Some (kind_of_question q))
   unfolding during
   says_asking w k answered (Asks.asks reply) = (refl, refl, refl, refl)

@@ -1,9 +1,9 @@
 -- The size told in a lay-out question is the size written. Assumes nothing.
-use Rattle.std.specs.Prelude.{Float}
 use Prim.Native.Nat.{ℕ, ◌*◌}
 use mathlib.Core.Path.{◌≡◌, refl, sym, ap, subst, ◌∙◌}
 use mathlib.Core.Bool.{Bool, true, false}
 use mathlib.Core.List.{List, [], ◌∷◌, foldl}
+use Rattle.std.specs.Prelude.{Option, Some, None, Result, Ok, Err, is_err, Float}
 use Rattle.util.proofs.Floats.{no}
 use Rattle.geometry.specs.declared.Rect.{Rect}
 use Rattle.geometry.specs.declared.Size.{Size}
@@ -15,6 +15,7 @@ use Rattle.style_record.specs.Decode.{style_at}
 use Rattle.oof_resolve.specs.Resolved.{resolved_box}
 use Rattle.oof_resolve.specs.declared.ContainingBlock.{ContainingBlock}
 use Rattle.oof_place.specs.Placing.{layout_of, box_layout}
+use Rattle.oof_box.specs.declared.question.Stage.{Stage}
 use Rattle.oof_box.specs.Box.{size_keywords}
 use Rattle.oof_box.specs.Cut.{size_by, asked_after, layout_after, sizing}
 use Rattle.oof_box.specs.declared.question.LayoutInput.{LayoutInput}
@@ -22,17 +23,16 @@ use Rattle.oof_box.specs.declared.question.Question.{Question}
 use Rattle.oof_box.specs.declared.question.Question.TheVariants.{MeasureBoth, MeasureWidth, MeasureHeight, LayOut}
 use Rattle.oof_box.specs.declared.question.Replies.{Replies}
 use Rattle.oof_box.specs.declared.question.Reply.TheVariants.{LaidOut}
+use Rattle.refusal.specs.declared.Refusal.{Refusal}
 use Rattle.run.specs.declared.Counts.{Counts}
 use Rattle.run.specs.declared.Opened.{Opened}
-use Rattle.run.specs.declared.Progress.{Progress}
-use Rattle.run.specs.declared.Progress.TheVariants.{Finished, Asking}
 use Rattle.run.specs.declared.State.{State}
 use Rattle.run.specs.declared.Answer.{Answer}
-use Rattle.run.specs.declared.Answer.TheVariants.{Ask, Finish, Refused}
+use Rattle.run.specs.declared.Answer.TheVariants.{Ask, Finish}
 use Rattle.run.specs.declared.Step.{Step}
 use Rattle.run.specs.Call.{Lent, Outcome}
 use Rattle.run.specs.Run.{box_at_hand, asking, finishing, proceeding, begun, opened, measured_on, laid_out, replied}
-use Rattle.run.specs.Theorems.{is_refused, Heard, next, Turn, turned, open_by, open_in, Left, opening, reply, AllRefused, WroteSize, ToldIsWritten}
+use Rattle.run.specs.Theorems.{Heard, next, Turn, turned, open_by, open_in, Left, opening, reply, AllRefused, WroteSize, ToldIsWritten}
 use Rattle.run.proofs.Ways.{NextWay, asks, ends, next_way, OpeningWay, begins, opening_way, ReplyWay, measures, lays_out, reply_way, never_kept}
 use Rattle.run.proofs.Refusals.{refused_in, saying, turn_refused}
 use Rattle.run.proofs.EachQuestion.{of_asked}
@@ -59,7 +59,7 @@ asked_size container style candidate replies overflow input e =
 
 -- ---- what a call says is what it leaves open
 
-abbrev open_at : List ℕ → List ℕ → Step → Answer
+abbrev open_at : List ℕ → List ℕ → Step → Result Answer Refusal
 open_at styles working step = open_by step.state.progress styles working step.state
 
 proceeding_open : (styles working : List ℕ) (run : Opened) (counts : Counts) (overflow : Rect Float)
@@ -97,25 +97,25 @@ all_refused styles o (t ∷ ts) r =
 
 -- ---- the reply that lays out
 
-abbrev is_ask : Answer → Bool
-is_ask (Ask q) = true
-is_ask (Finish f) = false
-is_ask (Refused r) = false
+abbrev is_ask : Result Answer Refusal → Bool
+is_ask (Ok (Ask q)) = true
+is_ask (Ok (Finish f)) = false
+is_ask (Err r) = false
 
-abbrev question_in : Answer → Question → Question
-question_in (Ask q) other = q
-question_in (Finish f) other = other
-question_in (Refused r) other = other
+abbrev question_in : Result Answer Refusal → Question → Question
+question_in (Ok (Ask q)) other = q
+question_in (Ok (Finish f)) other = other
+question_in (Err r) other = other
 
 -- the question that is open is that of the box at hand
-open_question : (p : Progress) (styles working : List ℕ) (s : State) (q : Question) → open_by p styles working s ≡ Ask q
+open_question : (p : Option Stage) (styles working : List ℕ) (s : State) (q : Question) → open_by p styles working s ≡ Ok (Ask q)
     → let box = box_at_hand working s.counts in
     (asked_after s.opened.container (style_at styles box.node) box s.replies).question ≡ q
-open_question Finished styles working s q e = no {b = false} (ap is_ask e) refl
-open_question (Asking stage) styles working s q e = ap (λ (a : Answer). question_in a q) e
+open_question None styles working s q e = no {b = false} (ap is_ask e) refl
+open_question (Some stage) styles working s q e = ap (λ (a : Result Answer Refusal). question_in a q) e
 
 pub lays_out_lem : (styles : List ℕ) (o : Outcome) (input : LayoutInput) (overflow : Rect Float) (surfaced : List ℕ)
-    → open_in styles o ≡ Ask (LayOut input)
+    → open_in styles o ≡ Ok (Ask (LayOut input))
     → let last = next styles o (record { reply = LaidOut overflow; surfaced = surfaced }) in
     refused_in last ≡ false
     → WroteSize input o.layouts last.layouts
@@ -149,4 +149,4 @@ told_is_written styles o input between overflow surfaced left e refused n =
     let h : Heard = record { reply = LaidOut overflow; surfaced = surfaced } in
     let same = ap (λ (x : Outcome). next styles x h) (all_refused styles o between refused) in
     subst (λ (x : Outcome). WroteSize input o.layouts x.layouts) (sym same)
-    (lays_out_lem styles o input overflow surfaced (left_open left (ap is_refused e) ∙ e) (sym (ap refused_in same) ∙ n))
+    (lays_out_lem styles o input overflow surfaced (left_open left (ap is_err e) ∙ e) (sym (ap refused_in same) ∙ n))

@@ -1,6 +1,6 @@
 -- What a call comes to, by cases: the one place where the definitions of `specs/Run.antt` are taken apart. Assumes nothing.
-use Rattle.std.specs.Prelude.{Option, None, Some, Float}
-use Prim.Native.Nat.{ℕ, zero, suc, ◌+◌, ◌*◌, ◌/◌, ◌<◌, ◌≤◌}
+use Rattle.std.specs.Prelude.{Option, None, Some, Ok, Err, Float}
+use Prim.Native.Nat.{ℕ, ◌+◌, ◌*◌, ◌/◌, ◌<◌, ◌≤◌}
 use native.Mathlib.Omega.{arith}
 use mathlib.Core.Path.{◌≡◌, refl, ap}
 use mathlib.Core.Bool.{Bool, true, false, ◌||◌}
@@ -8,7 +8,7 @@ use mathlib.Core.List.{List}
 use lib.Dec.{eqb, ltb}
 use lib.ListN.{length}
 use borrow.Author.Tests.{ltb-true, ltb-false, eqb-false, leb-true, not-false}
-use Rattle.std.specs.Prelude.{Ok, Err}
+use Rattle.std.proofs.lemmas.Bool.{or_parts}
 use Rattle.util.proofs.Floats.{no}
 use Rattle.geometry.specs.declared.Rect.{Rect}
 use Rattle.refusal.specs.declared.Refusal.{Refusal}
@@ -29,10 +29,7 @@ use Rattle.oof_box.specs.declared.question.Taken.TheVariants.{Kept, Laid}
 use Rattle.run.specs.declared.Opening.{Opening}
 use Rattle.run.specs.declared.Counts.{Counts}
 use Rattle.run.specs.declared.Opened.{Opened}
-use Rattle.run.specs.declared.Progress.{Progress}
-use Rattle.run.specs.declared.Progress.TheVariants.{Finished, Asking}
 use Rattle.run.specs.declared.State.{State}
-use Rattle.run.specs.declared.Answer.TheVariants.{Refused}
 use Rattle.run.specs.Call.{Lent, unwritten}
 use Rattle.run.specs.Refusals.{Verdict, accepted, ◌when◌else◌, ragged, bad_table, bad_slices, bad_list, list_full, lent_by, wrong_counts}
 use Rattle.run.specs.Run.{asking, finishing, proceeding, closed, begun, opened, claims_of, none_filled, opening_verdict, measured_on, laid_out, refusing, reply_verdict, taken_in, taken_by, replied}
@@ -63,7 +60,7 @@ next_way styles working run counts overflow = go (ltb counts.begun counts.filled
 -- ---- an opening
 
 pub data OpeningWay (o : Opening) (candidates : List ℕ) (lent : Lent) : Type 0 where
-  turned_down : (r : Refusal) → opened o candidates lent ≡ unwritten lent (record { state = closed lent; answer = Refused r }) → OpeningWay o candidates lent
+  turned_down : (r : Refusal) → opened o candidates lent ≡ unwritten lent (record { state = closed lent; answer = Err r }) → OpeningWay o candidates lent
   begins : opening_verdict o candidates lent ≡ accepted → opened o candidates lent ≡ begun o candidates lent → OpeningWay o candidates lent
 
 pub opening_way : (o : Opening) (candidates : List ℕ) (lent : Lent) → OpeningWay o candidates lent
@@ -108,26 +105,26 @@ passed r true rest e = no {b = true} refl (ap is_accepted e)
     is_accepted (Err r) = true
 passed r false rest e = (refl, e)
 
-pub neither : (a b : Bool) → a || b ≡ false → (a ≡ false) × (b ≡ false)
-neither true b e = no {b = true} refl e
-neither false b e = (refl, e)
-
 -- the working list has room, counted in records
 enough : (by : ContainingBlockClaims) (lent : Lent) (filled : Filled) (candidates : List ℕ) → list_full by lent filled candidates ≡ false
     → filled.working + length (keep by true (candidates_in candidates)) ≤ length lent.working / candidate_width
 unfolding list_full room
 enough by lent filled candidates e =
     leb-true (filled.working + length (keep by true (candidates_in candidates))) (length lent.working / candidate_width)
-    (not-false _ (neither _ _ e).0)
+    (not-false _ (or_parts _ _ e).0)
 
--- and is of no more than 4,096 records
+-- a list that is not bad is of no more than 4,096 records
+pub few_records : (list : List ℕ) → bad_list list ≡ false → length list / candidate_width ≤ 4096
+unfolding bad_list
+few_records list e = ltb-false 4096 (length list / candidate_width) (or_parts (ragged candidate_width list) _ e).1
+
+-- so is the working list
 at_most : (lent : Lent) → bad_slices lent ≡ false → length lent.working / candidate_width ≤ 4096
-unfolding bad_slices bad_list
+unfolding bad_slices
 at_most lent e =
     let table = bad_table lent.styles lent.layouts in
-    let first = (neither (table || bad_list lent.working) _ e).0 in
-    let list = (neither table (bad_list lent.working) first).1 in
-    ltb-false 4096 (length lent.working / candidate_width) (neither (ragged candidate_width lent.working) _ list).1
+    let first = (or_parts (table || bad_list lent.working) _ e).0 in
+    few_records lent.working (or_parts table (bad_list lent.working) first).1
 
 -- at an opening
 pub opening_room : (o : Opening) (candidates : List ℕ) (lent : Lent) → opening_verdict o candidates lent ≡ accepted
@@ -139,7 +136,7 @@ opening_room o candidates lent e =
     let past2 = passed _ _ _ past1 in
     let past5 = passed _ _ _ (passed _ _ _ (passed _ _ _ past2.1).1).1 in
     let h = enough (claims_of o) lent none_filled candidates past5.0 in
-    (omega arith, at_most lent (neither (bad_slices lent) _ past2.0).0)
+    (omega arith, at_most lent (or_parts (bad_slices lent) _ past2.0).0)
 
 -- at a reply
 pub reply_room : (s : State) (reply : Reply) (surfaced : List ℕ) (lent : Lent) → reply_verdict s reply surfaced lent ≡ accepted
@@ -157,21 +154,18 @@ pub record Counted (lent : Lent) (counts : Counts) : Type 0 where
   pub begun : counts.begun ≤ counts.filled.working
   pub answered : counts.answered ≤ 3 * counts.begun
 
-positive : (n : ℕ) → (n ≡ 0 → ⊥) → 1 ≤ n
-positive zero f = absurd (f refl)
-positive (suc n) f = omega arith
-
 pub counted : (lent : Lent) (counts : Counts) → wrong_counts lent counts ≡ false → Counted lent counts
 unfolding wrong_counts
 counted lent counts e =
-    let most = neither (lists || eqb counts.begun 0 || ltb counts.filled.working counts.begun) (ltb (3 * counts.begun) counts.answered) e in
-    let begun = neither (lists || eqb counts.begun 0) (ltb counts.filled.working counts.begun) most.0 in
-    let first = neither lists (eqb counts.begun 0) begun.0 in
-    let held = neither (ltb (length lent.working / candidate_width) counts.filled.working) (ltb (length lent.unclaimed / candidate_width) counts.filled.unclaimed) first.0 in
+    let most = or_parts (lists || eqb counts.begun 0 || ltb counts.filled.working counts.begun) (ltb (3 * counts.begun) counts.answered) e in
+    let begun = or_parts (lists || eqb counts.begun 0) (ltb counts.filled.working counts.begun) most.0 in
+    let first = or_parts lists (eqb counts.begun 0) begun.0 in
+    let held = or_parts (ltb (length lent.working / candidate_width) counts.filled.working) (ltb (length lent.unclaimed / candidate_width) counts.filled.unclaimed) first.0 in
+    let some = eqb-false counts.begun 0 first.1 in
     record {
       working = ltb-false _ _ held.0;
       unclaimed = ltb-false _ _ held.1;
-      first = positive counts.begun (eqb-false counts.begun 0 first.1);
+      first = omega arith;
       begun = ltb-false _ _ begun.1;
       answered = ltb-false _ _ most.1;
     }
@@ -209,9 +203,9 @@ pub laid_is : (s : State) (given : Reply) (overflow : Rect Float) → taken_by s
 unfolding taken_by is_laid
 laid_is s given overflow e = go s.progress e
   where
-    go : (p : Progress) → taken_in p s.replies given ≡ Some (Laid overflow) → given ≡ reply.LaidOut overflow
-    go Finished e = no (ap is_laid e) refl
-    go (Asking stage) e = laid_by s.replies stage given overflow e
+    go : (p : Option Stage) → taken_in p s.replies given ≡ Some (Laid overflow) → given ≡ reply.LaidOut overflow
+    go None e = no (ap is_laid e) refl
+    go (Some stage) e = laid_by s.replies stage given overflow e
 
 -- and its surfaced slice is lent
 pub lent_all : (r : Replies) (stage : Stage) (given : Reply) (surfaced : List ℕ) {overflow : Rect Float} → taken r stage given ≡ Some (Laid overflow)
@@ -228,10 +222,10 @@ never_kept s overflow e = no (ap is_kept e) (go s.progress)
     is_kept (Some (Kept r)) = true
     is_kept (Some (Laid overflow)) = false
 
-    go : (p : Progress) → is_kept (taken_in p s.replies (reply.LaidOut overflow)) ≡ false
-    go Finished = refl
-    go (Asking KeywordBoth) = refl
-    go (Asking KeywordWidth) = refl
-    go (Asking KeywordHeight) = refl
-    go (Asking Fill) = refl
-    go (Asking LayOut) = refl
+    go : (p : Option Stage) → is_kept (taken_in p s.replies (reply.LaidOut overflow)) ≡ false
+    go None = refl
+    go (Some KeywordBoth) = refl
+    go (Some KeywordWidth) = refl
+    go (Some KeywordHeight) = refl
+    go (Some Fill) = refl
+    go (Some LayOut) = refl

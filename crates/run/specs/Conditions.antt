@@ -1,7 +1,7 @@
 -- When a call is refused: rows 1 to 7 of document 01's table, each as a proposition, with document 01's numbers, and the order in which they
 -- are tested. `Theorems.antt` states that a call is refused exactly so. Row 8 is of the programs: `IsScreen` of screen/specs/Laws.antt; row 9
 -- stands in pixels/specs and reach/specs. Assumes nothing.
-use Rattle.std.specs.Prelude.{ℕ, ◌+◌, ◌*◌, ◌-◌, ◌/◌, ◌<◌, ◌≤◌, ◌⊎◌, ◌≢◌, ◌≡◌, List, [], ◌∷◌, length, get_or}
+use Rattle.std.specs.Prelude.{ℕ, ◌+◌, ◌*◌, ◌-◌, ◌/◌, ◌<◌, ◌≤◌, ◌⊎◌, ◌≢◌, ◌≡◌, List, [], ◌∷◌, length, get_or, Option, Some, None}
 use Rattle.style.specs.Laws.{tags_of}
 use Rattle.style.specs.declared.alignment.AlignItems.{AlignItems}
 use Rattle.style.specs.declared.alignment.AlignItemsKeyword.TheVariants as side
@@ -15,8 +15,6 @@ use Rattle.oof_box.specs.declared.question.Reply.TheVariants as reply
 use Rattle.oof_box.specs.declared.question.Stage.{Stage}
 use Rattle.oof_box.specs.declared.question.Stage.TheVariants as stage
 use Rattle.run.specs.declared.Opening.{Opening}
-use Rattle.run.specs.declared.Progress.{Progress}
-use Rattle.run.specs.declared.Progress.TheVariants.{Finished, Asking}
 use Rattle.run.specs.declared.Counts.{Counts}
 use Rattle.run.specs.declared.State.{State}
 use Rattle.run.specs.Call.{Lent}
@@ -149,8 +147,8 @@ kind_at stage.Fill = both
 kind_at stage.LayOut = lay_out
 
 -- "reply kind differs from the question, run finished"
-abbrev pub NotAsked : Progress → Reply → Type 0
-NotAsked p given = (p ≡ Finished) ⊎ ((at : Stage) × (p ≡ Asking at) × (kind_of_reply given ≢ kind_at at))
+abbrev pub NotAsked : Option Stage → Reply → Type 0
+NotAsked p given = (p ≡ None) ⊎ ((at : Stage) × (p ≡ Some at) × (kind_of_reply given ≢ kind_at at))
 
 -- "state counts exceed the lists, boxes begun not 1 to the filled working records, or question count above 3 × the boxes begun"
 abbrev pub CountsAreWrong : Lent → Counts → Type 0

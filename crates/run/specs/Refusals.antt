@@ -1,5 +1,5 @@
 -- When a call is refused: the rows of document 01's table, and the order in which they are tested. Assumes nothing.
-use Rattle.std.specs.Prelude.{ℕ, ◌*◌, ◌/◌, ◌%◌, Bool, true, false, cond, not, ◌||◌, List, [], Result, Ok, Err, eqb, ltb, length}
+use Rattle.std.specs.Prelude.{ℕ, ◌*◌, ◌/◌, ◌%◌, Bool, cond, not, ◌||◌, List, [], Result, Ok, Err, eqb, ltb, length}
 use Rattle.refusal.specs.declared.Refusal.{Refusal}
 use Rattle.records.specs.Records.{good_records, room}
 use Rattle.style.specs.declared.ContainingBlockClaims.{ContainingBlockClaims}

@@ -5,7 +5,7 @@ use Rattle.geometry.specs.Geometry.{union_of, zero_rect, zero_size, zero_point}
 use Rattle.geometry.specs.declared.Rect.{Rect}
 use Rattle.refusal.specs.declared.Refusal.{Refusal}
 use Rattle.refusal.specs.declared.Refusal.TheVariants.{BadArea, BadExtent, BadStyle, BadCandidate, ListFull, WrongReply}
-use Rattle.style.specs.Codes.{direction_of, overflow_of, bit0, bit1}
+use Rattle.style.specs.Codes.{direction_of, overflow_of, claims_in}
 use Rattle.style.specs.declared.Direction.TheVariants.{Ltr}
 use Rattle.style.specs.declared.Overflow.TheVariants.{Visible}
 use Rattle.style.specs.declared.ContainingBlockClaims.{ContainingBlockClaims}
@@ -18,19 +18,18 @@ use Rattle.style_record.specs.Decode.{style_at}
 use Rattle.sweep.specs.Sweep.{candidates_in, moved, swept_into}
 use Rattle.sweep.specs.declared.Filled.{Filled}
 use Rattle.oof_resolve.specs.declared.ContainingBlock.{ContainingBlock}
+use Rattle.oof_box.specs.declared.question.Stage.{Stage}
 use Rattle.oof_box.specs.Cut.{no_replies, asked_after, layout_after, taken}
 use Rattle.oof_box.specs.declared.question.Reply.{Reply}
 use Rattle.oof_box.specs.declared.question.Replies.{Replies}
 use Rattle.oof_box.specs.declared.question.Taken.{Taken}
 use Rattle.oof_box.specs.declared.question.Taken.TheVariants.{Kept, Laid}
 use Rattle.run.specs.declared.Opening.{Opening}
-use Rattle.run.specs.declared.Progress.{Progress}
-use Rattle.run.specs.declared.Progress.TheVariants.{Finished, Asking}
 use Rattle.run.specs.declared.Counts.{Counts}
 use Rattle.run.specs.declared.Extents.{Extents}
 use Rattle.run.specs.declared.Opened.{Opened}
 use Rattle.run.specs.declared.State.{State}
-use Rattle.run.specs.declared.Answer.TheVariants.{Ask, Finish, Refused}
+use Rattle.run.specs.declared.Answer.TheVariants.{Ask, Finish}
 use Rattle.run.specs.declared.Step.{Step}
 use Rattle.run.specs.Call.{Lent, Outcome, unwritten}
 use Rattle.run.specs.Refusals.{Verdict, accepted, ◌when◌else◌, bad_area, ragged, bad_slices, bad_lent, bad_style, bad_candidate, bad_candidates, list_full, wrong_counts, lent_by}
@@ -52,15 +51,15 @@ asking styles working run counts overflow replies =
     let box = box_at_hand working counts in
     let next = asked_after run.container (style_at styles box.node) box replies in
     record {
-      state = record { progress = Asking next.stage; replies = replies; counts = counts; overflow = overflow; opened = run };
-      answer = Ask next.question;
+      state = record { progress = Some next.stage; replies = replies; counts = counts; overflow = overflow; opened = run };
+      answer = Ok (Ask next.question);
     }
 
 unfoldable pub finishing : Opened → Counts → Rect Float → Step
 finishing run counts overflow =
     record {
-      state = record { progress = Finished; replies = no_replies; counts = counts; overflow = overflow; opened = run };
-      answer = Finish (record { overflow = overflow; count = counts.answered });
+      state = record { progress = None; replies = no_replies; counts = counts; overflow = overflow; opened = run };
+      answer = Ok (Finish (record { overflow = overflow; count = counts.answered }));
     }
 
 -- the next box of the working list, from the front; or the finish
@@ -71,10 +70,6 @@ proceeding styles working run counts overflow =
     (finishing run counts overflow)
 
 -- ---- an opening
-
--- the claims in a code: bit 0 absolute, bit 1 fixed
-abbrev pub claims_in : ℕ → ContainingBlockClaims
-claims_in code = record { absolute = bit0 code; fixed = bit1 code }
 
 abbrev pub claims_of : Opening → ContainingBlockClaims
 claims_of o = claims_in o.claims
@@ -113,7 +108,7 @@ opening_verdict o candidates lent =
 unfoldable pub closed : Lent → State
 closed lent =
     record {
-      progress = Finished;
+      progress = None;
       replies = no_replies;
       counts = record { filled = none_filled; begun = 0; answered = 0 };
       overflow = zero_rect;
@@ -140,16 +135,16 @@ begun o candidates lent =
 
 abbrev pub opened_by : Verdict → Opening → List ℕ → Lent → Outcome
 opened_by (Ok tt) o candidates lent = begun o candidates lent
-opened_by (Err r) o candidates lent = unwritten lent (record { state = closed lent; answer = Refused r })
+opened_by (Err r) o candidates lent = unwritten lent (record { state = closed lent; answer = Err r })
 
 unfoldable pub opened : Opening → List ℕ → Lent → Outcome
 opened o candidates lent = opened_by (opening_verdict o candidates lent) o candidates lent
 
 -- ---- a reply
 
-abbrev pub taken_in : Progress → Replies → Reply → Option Taken
-taken_in Finished replies reply = None
-taken_in (Asking stage) replies reply = taken replies stage reply
+abbrev pub taken_in : Option Stage → Replies → Reply → Option Taken
+taken_in None replies reply = None
+taken_in (Some stage) replies reply = taken replies stage reply
 
 -- a reply to the open question: kept, or the box is laid out; one that isn't asked for, or of another kind, comes to nothing
 unfoldable pub taken_by : State → Reply → Option Taken
@@ -194,7 +189,7 @@ laid_out s overflow surfaced lent =
 
 -- a refused reply returns the state as it came
 abbrev pub refusing : State → Lent → Refusal → Outcome
-refusing s lent r = unwritten lent (record { state = s; answer = Refused r })
+refusing s lent r = unwritten lent (record { state = s; answer = Err r })
 
 abbrev pub replied_by : Verdict → Option Taken → State → List ℕ → Lent → Outcome
 replied_by (Err r) t s surfaced lent = refusing s lent r

@@ -1,5 +1,5 @@
 -- What holds of runs; each statement says what the host may do. `proofs/` proves each, under its name in small letters. Assumes nothing.
-use Rattle.std.specs.Prelude.{ℕ, ◌+◌, ◌-◌, ◌*◌, ◌≤◌, ◌↔◌, ◌≡◌, Bool, true, false, cond, eqb, length, Option, None, Some, Float, Err}
+use Rattle.std.specs.Prelude.{ℕ, ◌+◌, ◌-◌, ◌*◌, ◌≤◌, ◌↔◌, ◌≡◌, Bool, true, false, cond, eqb, length, Option, None, Some, Result, Ok, Err, is_err, option_map, ⊤, Float}
 use mathlib.Core.List.{List, [], ◌∷◌, ◌++◌, map, foldl}
 use Rattle.refusal.specs.Refusal.{number_of}
 use Rattle.refusal.specs.declared.Refusal.{Refusal}
@@ -16,9 +16,9 @@ use Rattle.tree_record.specs.Layout.{layout_width, layout_words}
 use Rattle.style_record.specs.Check.{bad_at, checked}
 use Rattle.style_record.specs.Decode.{style_at}
 use Rattle.style_record.specs.declared.check.BadWord.{BadWord}
-use Rattle.std.specs.Prelude.{Result, Ok, ⊤}
 use Rattle.sweep.specs.Sweep.{first_candidates, candidates_in, appended}
 use Rattle.oof_resolve.specs.declared.ContainingBlock.{ContainingBlock}
+use Rattle.oof_box.specs.declared.question.Stage.{Stage}
 use Rattle.oof_box.specs.Cut.{asked_after}
 use Rattle.oof_box.specs.Theorems.{reply_to}
 use Rattle.oof_box.specs.declared.question.Replies.{Replies}
@@ -28,20 +28,13 @@ use Rattle.oof_box.specs.declared.question.Reply.{Reply}
 use Rattle.oof_box.specs.declared.question.Reply.TheVariants.{LaidOut}
 use Rattle.run.specs.declared.Opening.{Opening}
 use Rattle.run.specs.declared.State.{State}
-use Rattle.run.specs.declared.Progress.{Progress}
-use Rattle.run.specs.declared.Progress.TheVariants.{Finished, Asking}
 use Rattle.run.specs.declared.Answer.{Answer}
-use Rattle.run.specs.declared.Answer.TheVariants.{Ask, Finish, Refused}
+use Rattle.run.specs.declared.Answer.TheVariants.{Ask, Finish}
 use Rattle.run.specs.declared.Step.{Step}
 use Rattle.run.specs.Call.{Lent, Outcome, unwritten}
 use Rattle.run.specs.Run.{box_at_hand, opened, replied, closed, claims_of, container_of}
 use Rattle.run.specs.Conditions.{StyleIsBad, FirstNotAllowed, AllAllowed, LengthsDiffer, SideIsUnresolved, FirstIs, NoneHolds, opening_tests, reply_tests, QuestionKind, kind_of_question, kind_at}
 use Rattle.run.specs.Straight.{World, Box, Course, ended, asks, straight}
-
-abbrev pub is_refused : Answer → Bool
-is_refused (Ask q) = false
-is_refused (Finish f) = false
-is_refused (Refused r) = true
 
 -- ---- A call is refused with r exactly when r's condition is the first that holds, by document 01's numbers and in its order
 -- (`Conditions.antt`), and accepted exactly when none holds.
@@ -49,22 +42,22 @@ is_refused (Refused r) = true
 abbrev pub OpeningRefusedExactly : Type 0
 OpeningRefusedExactly =
     (o : Opening) (candidates : List ℕ) (lent : Lent) (r : Refusal)
-    → ((opened o candidates lent).step.answer ≡ Refused r) ↔ FirstIs (opening_tests o candidates lent) (number_of r)
+    → ((opened o candidates lent).step.answer ≡ Err r) ↔ FirstIs (opening_tests o candidates lent) (number_of r)
 
 abbrev pub OpeningAcceptedExactly : Type 0
 OpeningAcceptedExactly =
     (o : Opening) (candidates : List ℕ) (lent : Lent)
-    → (is_refused (opened o candidates lent).step.answer ≡ false) ↔ NoneHolds (opening_tests o candidates lent)
+    → (is_err (opened o candidates lent).step.answer ≡ false) ↔ NoneHolds (opening_tests o candidates lent)
 
 abbrev pub ReplyRefusedExactly : Type 0
 ReplyRefusedExactly =
     (s : State) (reply : Reply) (surfaced : List ℕ) (lent : Lent) (r : Refusal)
-    → ((replied s reply surfaced lent).step.answer ≡ Refused r) ↔ FirstIs (reply_tests s reply surfaced lent) (number_of r)
+    → ((replied s reply surfaced lent).step.answer ≡ Err r) ↔ FirstIs (reply_tests s reply surfaced lent) (number_of r)
 
 abbrev pub ReplyAcceptedExactly : Type 0
 ReplyAcceptedExactly =
     (s : State) (reply : Reply) (surfaced : List ℕ) (lent : Lent)
-    → (is_refused (replied s reply surfaced lent).step.answer ≡ false) ↔ NoneHolds (reply_tests s reply surfaced lent)
+    → (is_err (replied s reply surfaced lent).step.answer ≡ false) ↔ NoneHolds (reply_tests s reply surfaced lent)
 
 -- and `from_alignment` with 7
 abbrev pub UnresolvedExactly : Type 0
@@ -100,21 +93,21 @@ NamedWhereBad = (styles : List ℕ) → Names (checked styles) ↔ StyleIsBad st
 abbrev pub RefusedReplyKeeps : Type 0
 RefusedReplyKeeps =
     (s : State) (reply : Reply) (surfaced : List ℕ) (lent : Lent) (r : Refusal)
-    → (replied s reply surfaced lent).step.answer ≡ Refused r
-    → replied s reply surfaced lent ≡ unwritten lent (record { state = s; answer = Refused r })
+    → (replied s reply surfaced lent).step.answer ≡ Err r
+    → replied s reply surfaced lent ≡ unwritten lent (record { state = s; answer = Err r })
 
 abbrev pub RefusedOpeningKeeps : Type 0
 RefusedOpeningKeeps =
     (o : Opening) (candidates : List ℕ) (lent : Lent) (r : Refusal)
-    → (opened o candidates lent).step.answer ≡ Refused r
-    → opened o candidates lent ≡ unwritten lent (record { state = closed lent; answer = Refused r })
+    → (opened o candidates lent).step.answer ≡ Err r
+    → opened o candidates lent ≡ unwritten lent (record { state = closed lent; answer = Err r })
 
 -- a finished run refuses every reply, as does one whose opening was refused
 abbrev pub FinishedRefuses : Type 0
 FinishedRefuses =
     (s : State) (reply : Reply) (surfaced : List ℕ) (lent : Lent)
-    → s.progress ≡ Finished
-    → is_refused (replied s reply surfaced lent).step.answer ≡ true
+    → s.progress ≡ None
+    → is_err (replied s reply surfaced lent).step.answer ≡ true
 
 -- ---- At most three questions are asked for each box begun, over any list of calls: the caller may rewrite any word between them, and
 -- lend other slices.
@@ -130,10 +123,10 @@ pub record Asked : Type 0 where
   pub questions : ℕ
   pub state : State
 
-abbrev pub one_if_asked : Answer → ℕ
-one_if_asked (Ask q) = 1
-one_if_asked (Finish f) = 0
-one_if_asked (Refused r) = 0
+abbrev pub one_if_asked : Result Answer Refusal → ℕ
+one_if_asked (Ok (Ask q)) = 1
+one_if_asked (Ok (Finish f)) = 0
+one_if_asked (Err r) = 0
 
 unfoldable pub asked_at_opening : Opening → List ℕ → Lent → Asked
 asked_at_opening o candidates lent =
@@ -216,9 +209,9 @@ abbrev pub turned : List ℕ → Outcome → Turn → Outcome
 turned styles o t = next_with styles o t.heard t.loan
 
 -- other slices are lent with a call only where it is refused
-abbrev pub Lends : Loan → Answer → Type 0
+abbrev pub Lends : Loan → Result Answer Refusal → Type 0
 Lends own answer = Unit {0}
-Lends (other lent) answer = is_refused answer ≡ true
+Lends (other lent) answer = is_err answer ≡ true
 
 -- along a whole list
 abbrev pub AllLend : List ℕ → Outcome → List Turn → Type 0
@@ -230,7 +223,7 @@ unfoldable pub heeded : List ℕ → Outcome → List Turn → List Heard
 heeded styles o [] = []
 heeded styles o (t ∷ ts) =
     let later = heeded styles (turned styles o t) ts in
-    cond (is_refused (turned styles o t).step.answer) later (t.heard ∷ later)
+    cond (is_err (turned styles o t).step.answer) later (t.heard ∷ later)
 
 -- the course after a reply to its question; a reply of another kind changes nothing
 abbrev pub or_stay : {R : Type 0} → Option R → (R → Course) → Course → Course
@@ -247,9 +240,9 @@ so_far (ended w) = w
 so_far (asks w q next) = w
 
 -- what it says next, after so many replies
-abbrev pub said_after : ℕ → Course → Answer
-said_after answered (ended w) = Finish (record { overflow = w.overflow; count = answered })
-said_after answered (asks w q next) = Ask q
+abbrev pub said_after : ℕ → Course → Result Answer Refusal
+said_after answered (ended w) = Ok (Finish (record { overflow = w.overflow; count = answered }))
+said_after answered (asks w q next) = Ok (Ask q)
 
 -- the layouts of a run's boxes, written in turn, each at its node's place: a node claimed twice has its last layout
 unfoldable pub laid_into : List ℕ → List Box → List ℕ
@@ -261,9 +254,9 @@ abbrev pub claimed_in : World → List OofCandidate
 claimed_in w = map (λ (b : Box). b.candidate) w.laid ++ w.waiting
 
 -- how many boxes are laid out: all that were begun, but for the one at hand
-abbrev pub laid_count : Progress → ℕ → ℕ
-laid_count Finished begun = begun
-laid_count (Asking stage) begun = begun - 1
+abbrev pub laid_count : Option Stage → ℕ → ℕ
+laid_count None begun = begun
+laid_count (Some stage) begun = begun - 1
 
 abbrev pub laid_so_far : Outcome → ℕ
 laid_so_far o = laid_count o.step.state.progress o.step.state.counts.begun
@@ -274,19 +267,18 @@ begun_in (ended w) = length w.laid
 begun_in (asks w q next) = length w.laid + 1
 
 -- what a state has open, by the words as they are: the question of the box at hand, or the finish
-abbrev pub open_by : Progress → List ℕ → List ℕ → State → Answer
-open_by Finished styles working s = Finish (record { overflow = s.overflow; count = s.counts.answered })
-open_by (Asking stage) styles working s =
+abbrev pub open_by : Option Stage → List ℕ → List ℕ → State → Result Answer Refusal
+open_by None styles working s = Ok (Finish (record { overflow = s.overflow; count = s.counts.answered }))
+open_by (Some stage) styles working s =
     let box = box_at_hand working s.counts in
-    Ask (asked_after s.opened.container (style_at styles box.node) box s.replies).question
+    Ok (Ask (asked_after s.opened.container (style_at styles box.node) box s.replies).question)
 
-abbrev pub open_in : List ℕ → Outcome → Answer
+abbrev pub open_in : List ℕ → Outcome → Result Answer Refusal
 open_in styles o = open_by o.step.state.progress styles o.working o.step.state
 
 -- the kind of reply that is waited for, by the state and by the course
-abbrev pub awaited : Progress → Option QuestionKind
-awaited Finished = None
-awaited (Asking stage) = Some (kind_at stage)
+abbrev pub awaited : Option Stage → Option QuestionKind
+awaited progress = option_map kind_at progress
 
 abbrev pub awaited_in : Course → Option QuestionKind
 awaited_in (ended w) = None
@@ -305,7 +297,7 @@ pub record Stands (lent : Lent) (answered : ℕ) (o : Outcome) (course : Course)
   pub overflow : o.step.state.overflow ≡ (so_far course).overflow
   pub pending : open_in lent.styles o ≡ said_after answered course
   pub kind : awaited o.step.state.progress ≡ awaited_in course
-  pub answer : is_refused o.step.answer ≡ false → o.step.answer ≡ said_after answered course
+  pub answer : is_err o.step.answer ≡ false → o.step.answer ≡ said_after answered course
 
 -- what an opening and the calls after it leave
 abbrev pub called : Opening → List ℕ → Lent → List Turn → Outcome
@@ -323,7 +315,7 @@ course_of o candidates lent turns =
 abbrev pub StraightRun : Type 0
 StraightRun =
     (o : Opening) (candidates : List ℕ) (lent : Lent) (turns : List Turn)
-    → is_refused (opened o candidates lent).step.answer ≡ false
+    → is_err (opened o candidates lent).step.answer ≡ false
     → AllLend lent.styles (opened o candidates lent) turns
     → Stands lent (length (heeded_in o candidates lent turns)) (called o candidates lent turns) (course_of o candidates lent turns)
 
@@ -332,7 +324,7 @@ abbrev pub OtherLengthsRefused : Type 0
 OtherLengthsRefused =
     (s : State) (reply : Reply) (surfaced : List ℕ) (lent : Lent)
     → LengthsDiffer s lent
-    → (replied s reply surfaced lent).step.answer ≡ Refused BadExtent
+    → (replied s reply surfaced lent).step.answer ≡ Err BadExtent
 
 -- ---- The hoisted order.
 
@@ -348,7 +340,7 @@ hoisted o = map (λ (c : OofCandidate). c.node) (claimed_so_far o)
 abbrev pub HoistedOrder : Type 0
 HoistedOrder =
     (o : Opening) (candidates : List ℕ) (lent : Lent) (turns : List Turn) (w : World)
-    → is_refused (opened o candidates lent).step.answer ≡ false
+    → is_err (opened o candidates lent).step.answer ≡ false
     → AllLend lent.styles (opened o candidates lent) turns
     → course_of o candidates lent turns ≡ ended w
     → hoisted (called o candidates lent turns) ≡ map (λ (b : Box). b.candidate.node) w.laid
@@ -362,7 +354,7 @@ pub data Left (styles : List ℕ) : Outcome → Type 0 where
 
 abbrev pub AllRefused : List ℕ → Outcome → List Turn → Type 0
 AllRefused styles o [] = Unit {0}
-AllRefused styles o (t ∷ ts) = (is_refused (turned styles o t).step.answer ≡ true) × AllRefused styles (turned styles o t) ts
+AllRefused styles o (t ∷ ts) = (is_err (turned styles o t).step.answer ≡ true) × AllRefused styles (turned styles o t) ts
 
 -- a layout of this size was written at this node's place, and no other word of the layouts
 pub record WroteSize (input : LayoutInput) (before after : List ℕ) : Type 0 where
@@ -374,8 +366,8 @@ abbrev pub ToldIsWritten : Type 0
 ToldIsWritten =
     (styles : List ℕ) (o : Outcome) (input : LayoutInput) (between : List Turn) (overflow : Rect Float) (surfaced : List ℕ)
     → Left styles o
-    → o.step.answer ≡ Ask (LayOut input)
+    → o.step.answer ≡ Ok (Ask (LayOut input))
     → AllRefused styles o between
     → let last = next styles (foldl (turned styles) o between) (record { reply = LaidOut overflow; surfaced = surfaced }) in
-    is_refused last.step.answer ≡ false
+    is_err last.step.answer ≡ false
     → WroteSize input o.layouts last.layouts

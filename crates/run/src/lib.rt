@@ -3,17 +3,19 @@
 #![tactic(auto)]
 
 ghost use Rattle.std.specs.Prelude.{◌≡◌};
-ghost use Rattle.run.specs.Run.{claims_in};
+ghost use Rattle.run.specs.Run.{container_of, extents_of};
 
-use geometry::Rect;
+use geometry::{Point, Rect};
 use oof_box::question::{Question, Replies, Stage};
 use oof_resolve::ContainingBlock;
 use refusal::Refusal;
-use style::{ContainingBlockClaims, bits};
+use std::marker::Model;
+use style::{ContainingBlockClaims, Direction, Overflow};
 use sweep::Filled;
 use tree::layout::OofPositioningArea;
 
 // What a run is opened with, beside the lent slices: the area, and the codes of direction, claims and overflow.
+// They are words, and no `Direction` or `Overflow`: test 1 of document 01 refuses a word that is no code.
 #[derive(Clone, Copy)]
 pub struct Opening {
     pub area: OofPositioningArea,
@@ -23,33 +25,50 @@ pub struct Opening {
     pub overflowy: u32,
 }
 
-// The claims in a code: bit 0 absolute, bit 1 fixed.
-pub fn claims_in(code: u32) -> ContainingBlockClaims
-    ensures { result ≡ claims_in code }
-{
-    ContainingBlockClaims {
-        absolute: bits::bit0(code),
-        fixed: bits::bit1(code),
+impl From<Opening> for ContainingBlock {
+    ghost from_gives = { λ o c. c ≡ container_of o };
+
+    fn from(o: Opening) -> ContainingBlock {
+        ContainingBlock {
+            area: o.area,
+            direction: Direction::from(o.direction),
+            overflow: Point {
+                x: Overflow::from(o.overflowx),
+                y: Overflow::from(o.overflowy),
+            },
+        }
     }
 }
 
-// Whether a question is open, and which one of its box.
-#[derive(Clone, Copy)]
-pub enum Progress {
-    Finished,
-    Asking(Stage),
-}
-
 // Filled records of the two lists, boxes begun, questions answered.
-#[derive(Clone, Copy)]
+// They are the state's, and the lists are lent anew with each call (document 01): what reads a list up to a count takes both, here and in crates above.
+#[derive(Clone, Copy, Default)]
 pub struct Counts {
     pub filled: Filled,
     pub begun: usize,
     pub answered: usize,
 }
 
+// The slices that every call is lent, of a call that writes none of them.
+#[derive(Drop)]
+pub struct Lent<'a> {
+    pub styles: &'a [u32],
+    pub layouts: &'a [u32],
+    pub working: &'a [u32],
+    pub unclaimed: &'a [u32],
+}
+
+// Contracts see them by their words.
+impl<'a> Model for Lent<'a> {
+    ghost use Rattle.run.specs.Call.{Lent};
+
+    ghost Value = { Lent };
+
+    ghost view = { λ a. record { styles = a.styles.now; layouts = a.layouts.now; working = a.working.now; unclaimed = a.unclaimed.now } };
+}
+
 // The lengths of the slices lent at the opening, in words.
-#[derive(Clone, Copy)]
+#[derive(Clone, Copy, Default, PartialEq, Eq)]
 pub struct Extents {
     pub styles: usize,
     pub layouts: usize,
@@ -57,18 +76,32 @@ pub struct Extents {
     pub unclaimed: usize,
 }
 
+impl From<&Lent<'_>> for Extents {
+    ghost from_gives = { λ lent e. e ≡ extents_of lent.now };
+
+    fn from(lent: &Lent<'_>) -> Extents {
+        Extents {
+            styles: lent.styles.len(),
+            layouts: lent.layouts.len(),
+            working: lent.working.len(),
+            unclaimed: lent.unclaimed.len(),
+        }
+    }
+}
+
 // What a run keeps from its opening.
-#[derive(Clone, Copy)]
+#[derive(Clone, Copy, Default)]
 pub struct Opened {
     pub container: ContainingBlock,
     pub claims: ContainingBlockClaims,
     pub extents: Extents,
 }
 
-// All that is kept between calls. `replies` are those of the box at hand, `overflow` is the union so far.
-#[derive(Clone, Copy)]
+// All that is kept between calls. `progress` is the stage of the open question: none, and the run is finished. `replies` are those of the box
+// at hand, `overflow` is the union so far.
+#[derive(Clone, Copy, Default)]
 pub struct State {
-    pub progress: Progress,
+    pub progress: Option<Stage>,
     pub replies: Replies,
     pub counts: Counts,
     pub overflow: Rect<f32>,
@@ -82,16 +115,16 @@ pub struct Finish {
     pub count: usize,
 }
 
+// What comes next.
 #[derive(Clone, Copy)]
 pub enum Answer {
     Ask(Question),
     Finish(Finish),
-    Refused(Refusal),
 }
 
-// What a call returns.
+// What a call returns: a state, of a refused one too.
 #[derive(Clone, Copy)]
 pub struct Step {
     pub state: State,
-    pub answer: Answer,
+    pub answer: Result<Answer, Refusal>,
 }

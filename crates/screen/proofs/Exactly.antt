@@ -3,13 +3,13 @@ use Prim.Native.Nat.{ℕ, zero, suc, ◌+◌, ◌*◌, ◌<◌}
 use native.Mathlib.Omega.{arith}
 use native.Mathlib.Nat.{zero-mul, suc-mul}
 use mathlib.Core.Path.{◌≡◌, refl, sym, ap, subst, ◌∙◌}
-use mathlib.Core.Bool.{Bool, true, false, ◌&&◌}
+use mathlib.Core.Bool.{true}
 use mathlib.Core.List.{List, [], ◌∷◌, ◌++◌}
 use lib.Dec.{eqb, leb}
 use lib.ListN.{length, take, drop, get_or, take-append-drop, length-append}
 use lib.Seq.{length-take-le, take_at, drop_at, drop-drop, drop-length, get_or-drop}
 use borrow.Author.Tests.{eqb-true, eq-eqb, le-leb}
-use Rattle.util.proofs.Floats.{no}
+use Rattle.std.proofs.lemmas.Bool.{and_parts, and_from}
 use Rattle.screen_fields.specs.declared.format.Kind.{Kind}
 use Rattle.screen_fields.specs.declared.format.Line.{Line}
 use Rattle.screen_fields.specs.declared.format.Line.TheVariants.{First, Item, Candidate}
@@ -22,13 +22,6 @@ use Rattle.screen_fields.proofs.Good.{field_good, good_field}
 use Rattle.screen.proofs.Whole.{screen_told}
 
 -- ---- a line
-
-both_true : (a b : Bool) → (a && b) ≡ true → (a ≡ true) × (b ≡ true)
-both_true true b e = (refl, e)
-both_true false b e = no {b = false} e refl
-
-true_both : {a b : Bool} → a ≡ true → b ≡ true → (a && b) ≡ true
-true_both d e = rw d e
 
 -- a byte that isn't 0 stands in the text
 is_there : (text : List ℕ) (i : ℕ) → get_or text i 0 ≡ 10 → i < length text
@@ -50,7 +43,7 @@ unfolding good_fields
 line_there [] [] g e = absurd (omega arith)
 line_there [] (x ∷ text) g e = subst (λ (b : ℕ). StartsLine [] (b ∷ text) text) (sym e) feed
 line_there (k ∷ ks) text g e =
-    let good = both_true (is_some (word_of k (take 11 text))) _ g in
+    let good = and_parts (is_some (word_of k (take 11 text))) _ g in
     let h = is_there text (11 * suc (length ks)) e in
     let rest = line_there ks (drop 11 text) good.1 (get_or-drop 11 text (11 * length ks) 0 ∙ ap (λ (i : ℕ). get_or text i 0) (sym (past (length ks))) ∙ e) in
     let after = drop-drop (11 * length ks + 1) 11 text ∙ ap (λ (i : ℕ). drop i text) (past_feed (length ks)) in
@@ -71,7 +64,7 @@ there_line (field {k = k} {ks = ks} {text = text} {rest = rest} bs g d) =
     let p = there_line d in
     let w = g.width in
     record {
-      good = rw (take_at bs text 11 w, drop_at bs text 11 w) (true_both (good_field k bs g) p.good);
+      good = rw (take_at bs text 11 w, drop_at bs text 11 w) (and_from _ _ (good_field k bs g) p.good);
       feed = ap (λ (i : ℕ). get_or (bs ++ text) i 0) (past (length ks)) ∙ sym (get_or-drop 11 (bs ++ text) (11 * length ks) 0) ∙ ap (λ (t : List ℕ). get_or t (11 * length ks) 0) (drop_at bs text 11 w) ∙ p.feed;
       after = ap (λ (i : ℕ). drop i (bs ++ text)) (sym (past_feed (length ks))) ∙ sym (drop-drop (11 * length ks + 1) 11 (bs ++ text)) ∙ ap (drop (11 * length ks + 1)) (drop_at bs text 11 w) ∙ p.after;
       bytes = let b = p.bytes in let a = length-append bs text in omega arith;
@@ -87,8 +80,8 @@ lines_there : (l : Line) (n : ℕ) (text : List ℕ) → good_lines l n text ≡
 unfolding good_lines good_line bytes_of
 lines_there l zero text e = subst (StartsLines l 0 text) (ap (λ (i : ℕ). drop i text) (sym (zero-mul (bytes_of l)))) nothing
 lines_there l (suc n) text e =
-    let both = both_true (good_line l text) _ e in
-    let parts = both_true (good_fields (fields_of l) text) _ both.0 in
+    let both = and_parts (good_line l text) _ e in
+    let parts = and_parts (good_fields (fields_of l) text) _ both.0 in
     let rest = lines_there l n (drop (bytes_of l) text) both.1 in
     let after = drop-drop (n * bytes_of l) (bytes_of l) text ∙ ap (λ (i : ℕ). drop i text) (sym (more n (bytes_of l))) in
     line (line_there (fields_of l) text parts.0 (eqb-true _ 10 parts.1)) (subst (StartsLines l n (drop (bytes_of l) text)) after rest)
@@ -107,7 +100,7 @@ there_lines {l} (line {n = n} {text = text} {next = next} {rest = rest} d ds) =
     let p = there_line d in
     let q = there_lines ds in
     record {
-      good = true_both (true_both p.good (eq-eqb _ 10 p.feed)) (rw p.after q.good);
+      good = and_from _ _ (and_from _ _ p.good (eq-eqb _ 10 p.feed)) (rw p.after q.good);
       after = ap (λ (i : ℕ). drop i text) (more n (bytes_of l)) ∙ sym (drop-drop (n * bytes_of l) (bytes_of l) text) ∙ ap (drop (n * bytes_of l)) p.after ∙ q.after;
       bytes = let a = p.bytes in let b = q.bytes in rw (more n (bytes_of l)) (omega arith);
     }
@@ -120,12 +113,12 @@ screen_there text e =
     let n = item_count text in
     let m = candidate_count text in
     let told = screen_told text _ refl e in
-    let five = both_true _ (good_lines Candidate m (drop (candidates_at n) text)) e in
-    let four = both_true _ (good_lines Item n (drop (bytes_of First) text)) five.0 in
-    let three = both_true _ (eqb (length text) (screen_bytes n m)) four.0 in
-    let two = both_true _ (leb m 256) three.0 in
-    let one = both_true (good_line First text) (leb n 128) two.0 in
-    let parts = both_true (good_fields (fields_of First) text) _ one.0 in
+    let five = and_parts _ (good_lines Candidate m (drop (candidates_at n) text)) e in
+    let four = and_parts _ (good_lines Item n (drop (bytes_of First) text)) five.0 in
+    let three = and_parts _ (eqb (length text) (screen_bytes n m)) four.0 in
+    let two = and_parts _ (leb m 256) three.0 in
+    let one = and_parts (good_line First text) (leb n 128) two.0 in
+    let parts = and_parts (good_fields (fields_of First) text) _ one.0 in
     let items = drop-drop (n * bytes_of Item) (bytes_of First) text in
     let candidates = drop-drop (m * bytes_of Candidate) (candidates_at n) text ∙ ap (λ (i : ℕ). drop i text) (sym (eqb-true (length text) (screen_bytes n m) three.1)) ∙ drop-length text in
     record {
@@ -148,10 +141,10 @@ there_screen text s =
     let r = there_lines s.candidate_lines in
     let after : drop (candidates_at n) text ≡ s.candidates = sym (drop-drop (n * bytes_of Item) (bytes_of First) text) ∙ ap (drop (n * bytes_of Item)) p.after ∙ q.after in
     let bytes : length text ≡ screen_bytes n m = let a = p.bytes in let b = q.bytes in let c = r.bytes in omega arith in
-    true_both
-    (true_both
-    (true_both
-    (true_both (true_both (true_both p.good (eq-eqb _ 10 p.feed)) (le-leb n 128 s.few_items_lem)) (le-leb m 256 s.few_candidates_lem))
+    and_from _ _
+    (and_from _ _
+    (and_from _ _
+    (and_from _ _ (and_from _ _ (and_from _ _ p.good (eq-eqb _ 10 p.feed)) (le-leb n 128 s.few_items_lem)) (le-leb m 256 s.few_candidates_lem))
     (eq-eqb (length text) (screen_bytes n m) bytes))
     (subst (λ (t : List ℕ). good_lines Item n t ≡ true) (sym p.after) q.good))
     (subst (λ (t : List ℕ). good_lines Candidate m t ≡ true) (sym after) r.good)

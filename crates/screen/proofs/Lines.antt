@@ -1,25 +1,18 @@
 -- The lines of a screen, field by field. Assumes nothing.
-use Rattle.std.proofs.Common.{◌≡◌, ℕ, zero, suc, ◌+◌, ◌-◌, ◌*◌, ◌<◌, ◌≤◌, true, ◌&&◌, List, [], ◌∷◌, ◌++◌, length, get_or, take, drop, is_some, unwrap_or, refl, sym, ap, ◌∙◌, add-one, arith}
-use Rattle.std.proofs.Math.Nat.{zero-add, zero-mul, suc-mul, mul-le-mul_right}
+use Rattle.std.proofs.Common.{◌≡◌, ℕ, zero, suc, ◌+◌, ◌-◌, ◌*◌, ◌/◌, ◌<◌, ◌≤◌, true, ◌&&◌, List, [], ◌∷◌, ◌++◌, length, get_or, take, drop, is_some, unwrap_or, refl, sym, ap, ◌∙◌, add-one, arith}
+use Rattle.std.specs.Simd.{first_chunks}
+use Rattle.std.proofs.Math.Nat.{zero-add, zero-mul, mul-zero, mul-suc, suc-mul, mul-le-mul_right}
 use Rattle.std.proofs.Math.Seq.{length-sets}
 use borrow.Rule.Slice.PartMut.{put_mid}
 use Rattle.boxlist_lines.proofs.Stores.{part_sets, sets_append}
 use Rattle.std.proofs.lemmas.List.{append-nil, append_assoc, drop_more, drop_all, drop-drop, length-append, length-take-le, length-drop, get_or-take, get_or-drop, ext_get_or}
 use Rattle.std.proofs.lemmas.List.Edits.{sets, sets-eq}
-use Rattle.style_record.specs.Record.{style_words}
 use Rattle.screen_fields.specs.declared.format.Kind.{Kind}
 use Rattle.screen_fields.specs.declared.format.Kind.TheVariants.{Code}
 use Rattle.screen_fields.specs.declared.format.Line.{Line}
-use Rattle.screen_fields.specs.declared.format.Line.TheVariants.{First, Item, Candidate}
-use Rattle.screen_fields.specs.Format.{fields_of, COLUMNS, reply_width, bytes_of}
+use Rattle.screen_fields.specs.Format.{fields_of, COLUMNS, bytes_of}
 use Rattle.screen_fields.specs.Field.{word_of}
 use Rattle.screen.specs.Screen.{good_fields, good_line, good_lines, words_of, rows_of}
-use Rattle.screen_fields.proofs.Table.{first_width, item_width, candidate_width_lem}
-
-pub width_small : (line : Line) → length (fields_of line) ≤ style_words + reply_width
-width_small First = let e = first_width in omega arith
-width_small Item = let e = item_width in omega arith
-width_small Candidate = let e = candidate_width_lem in omega arith
 
 pub bytes_are : (line : Line) → bytes_of line ≡ COLUMNS * length (fields_of line) + 1
 unfolding bytes_of
@@ -30,6 +23,30 @@ bytes_are line = refl
 -- the field in the columns at a place
 abbrev field : List ℕ → ℕ → List ℕ
 field text at = take COLUMNS (drop at text)
+
+-- the pieces of a text that is cut
+piece_at : (n k : ℕ) (text : List ℕ) (j : ℕ) → j < k → get_or (first_chunks n k text) j [] ≡ take n (drop (n * j) text)
+piece_at n zero text j h = absurd (omega arith)
+piece_at n (suc k) text zero h = rw mul-zero refl
+piece_at n (suc k) text (suc j) h = piece_at n k (drop n text) j (omega arith) ∙ rw (drop-drop (n * j) n text, over n j) refl
+  where
+    over : (n j : ℕ) → n + n * j ≡ n * suc j
+    over n j = rw mul-suc (omega arith)
+
+pieces_length : (n k : ℕ) (text : List ℕ) → length (first_chunks n k text) ≡ k
+pieces_length n zero text = refl
+pieces_length n (suc k) text = ap suc (pieces_length n k (drop n text))
+
+-- a text's fields, cut
+module _ (fields : List (List ℕ)) (text : List ℕ) (cut : fields ≡ first_chunks COLUMNS (length text / COLUMNS) text) where
+  pub field_in : (j : ℕ) → COLUMNS * j + COLUMNS ≤ length text → get_or fields j [] ≡ field text (COLUMNS * j)
+  field_in j h = rw cut (piece_at COLUMNS (length text / COLUMNS) text j (omega arith))
+
+  pub field_cut : (width j : ℕ) → COLUMNS * width ≤ length text → j < width → get_or (take width fields) j [] ≡ field text (COLUMNS * j)
+  field_cut width j there h = get_or-take width fields j [] h ∙ field_in j (omega arith)
+
+  pub fields_cut : (width : ℕ) → COLUMNS * width ≤ length text → length (take width fields) ≡ width
+  fields_cut width there = length-take-le width fields (rw (cut, pieces_length COLUMNS (length text / COLUMNS) text) (omega arith))
 
 module _ (ks : List Kind) (text : List ℕ) (j : ℕ) where
   pub good_more : j < length ks
@@ -62,47 +79,48 @@ words_at (k ∷ ks) text (suc j) h =
     over j = omega arith
 
 -- fields that were read one by one
-pub words_read : (ks : List Kind) (text : List ℕ) (first : ℕ) (out : List ℕ)
-    → first + length out ≤ length ks
-    → ((k : ℕ) → k < length out → get_or out k 0 ≡ unwrap_or (word_of (get_or ks (first + k) Code) (field text (COLUMNS * (first + k)))) 0)
-    → out ≡ words_of (take (length out) (drop first ks)) (drop (COLUMNS * first) text)
-words_read ks text first out h each =
-    ext_get_or 0 out (words_of part rest) (sym (words_length part rest ∙ size))
-    (λ k l. each k l ∙ sym (words_at part rest k (rw size l) ∙ rw (get_or-take (length out) (drop first ks) k Code l, get_or-drop first ks k Code, drop-drop (COLUMNS * k) (COLUMNS * first) text, along first k) refl))
+pub words_read : (ks : List Kind) (text : List ℕ) (first n : ℕ) (out old : List ℕ)
+    → length out ≡ length old
+    → first + length old ≤ length ks
+    → length old ≤ n
+    → ((k : ℕ) → k < n → get_or out k 0 ≡ unwrap_or (word_of (get_or ks (first + k) Code) (field text (COLUMNS * (first + k)))) 0)
+    → out ≡ words_of (take (length old) (drop first ks)) (drop (COLUMNS * first) text)
+words_read ks text first n out old same h all each =
+    ext_get_or 0 out (words_of part rest) (sym (words_length part rest ∙ size ∙ sym same))
+    (λ k l. each k (omega arith) ∙ sym (words_at part rest k (rw (size, ← same) l) ∙ rw (get_or-take (length old) (drop first ks) k Code (rw same at l), get_or-drop first ks k Code, drop-drop (COLUMNS * k) (COLUMNS * first) text, along first k) refl))
   where
     part : List Kind
-    part = take (length out) (drop first ks)
+    part = take (length old) (drop first ks)
 
     rest : List ℕ
     rest = drop (COLUMNS * first) text
 
-    size : length part ≡ length out
-    size = length-take-le (length out) (drop first ks) (rw length-drop (omega arith))
+    size : length part ≡ length old
+    size = length-take-le (length old) (drop first ks) (rw length-drop (omega arith))
 
     along : (first k : ℕ) → COLUMNS * first + COLUMNS * k ≡ COLUMNS * (first + k)
     along first k = omega arith
 
 -- ---- lines one after another
 
+turn : (i n : ℕ) → i < n → n - i ≡ suc (n - (i + 1))
+turn i n h = omega arith
+
 module _ (line : Line) (text : List ℕ) (i n : ℕ) where
-  pub lines_more : i < n
-      → good_lines line (n - i) (drop (i * bytes_of line) text)
-      ≡ (good_line line (drop (i * bytes_of line) text) && good_lines line (n - (i + 1)) (drop ((i + 1) * bytes_of line) text))
+  pub lines_more : i < n → good_lines line (n - i) text ≡ (good_line line text && good_lines line (n - (i + 1)) (drop (bytes_of line) text))
   unfolding good_lines
-  lines_more h = rw (turn i n h, drop-drop (bytes_of line) (i * bytes_of line) text, next i (bytes_of line)) refl
-    where
-      turn : (i n : ℕ) → i < n → n - i ≡ suc (n - (i + 1))
-      turn i n h = omega arith
+  lines_more h = rw (turn i n h) refl
 
-      next : (i b : ℕ) → i * b + b ≡ (i + 1) * b
-      next i b = omega arith
-
-  pub lines_none : n ≤ i → good_lines line (n - i) (drop (i * bytes_of line) text) ≡ true
+  pub lines_none : n ≤ i → good_lines line (n - i) text ≡ true
   unfolding good_lines
   lines_none h = rw (done i n h) refl
     where
       done : (i n : ℕ) → n ≤ i → n - i ≡ 0
       done i n h = omega arith
+
+-- the first of the lines that are left, and the others behind it
+pub lines_left : (i n b room : ℕ) → i < n → (n - i) * b ≤ room → b + (n - (i + 1)) * b ≤ room
+lines_left i n b room h r = let s = rw (turn i n h, suc-mul) at r in omega arith
 
 -- one line more
 rows_suc : (ks : List Kind) (line : Line) (i : ℕ) (text : List ℕ)

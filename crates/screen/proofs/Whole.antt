@@ -1,5 +1,5 @@
 -- A whole screen, test by test. Assumes nothing.
-use Prim.Native.Nat.{ℕ, ◌+◌, ◌*◌, ◌<◌, ◌≤◌}
+use Prim.Native.Nat.{ℕ, ◌+◌, ◌-◌, ◌*◌, ◌<◌, ◌≤◌}
 use native.Mathlib.Omega.{arith}
 use mathlib.Core.Path.{◌≡◌, refl, sym, ap, ◌∙◌}
 use mathlib.Core.Bool.{Bool, true, false, cond, ◌&&◌, and-false}
@@ -9,6 +9,7 @@ use lib.Seq.{sets, drop-drop}
 use lib.Dec.{eqb, leb, lit<}
 use Rattle.std.proofs.Common.{Ok, Err, unwrap_or}
 use Rattle.std.proofs.lemmas.Bool.{false≢true}
+use Rattle.std.proofs.lemmas.List.{take_rest}
 use borrow.Author.Tests.{le-leb, leb-true, eq-eqb, eqb-true}
 use Rattle.style_record.specs.Record.{style_words}
 use Rattle.tree_record.specs.Candidate.{candidate_width}
@@ -117,6 +118,49 @@ accepted text counts p f a b s g h =
 pub too_short : (text : List ℕ) → length text < FIRST_BYTES → good_line First text ≡ false
 unfolding good_line
 too_short text h = rw (first_width, get_or-eq_default text 0 {n = 110} (omega arith)) (and-false (good_fields (fields_of First) text))
+
+-- ---- each test that fails, by the counts as they are read
+
+-- a part of a slice, as the code has it
+abbrev from : ℕ → List ℕ → List ℕ
+from at text = take (length text - at) (drop at text)
+
+abbrev count_read : List ℕ → ℕ → ℕ
+count_read text j = unwrap_or (word_of Code (take COLUMNS (drop (COLUMNS * j) text))) 0
+
+module _ (text : List ℕ) where
+  pub refused_short : length text < FIRST_BYTES → Err BadScreenLine ≡ answer_of text
+  refused_short h = refused text (λ s. false≢true (sym (too_short text h) ∙ (screen_told text _ refl s).first_line))
+
+  pub refused_first : good_line First text ≡ false → Err BadScreenLine ≡ answer_of text
+  refused_first f = refused text (λ s. false≢true (sym f ∙ (screen_told text _ refl s).first_line))
+
+  pub refused_items : (n : ℕ) → n ≡ count_read text ITEM_COUNT → MAX_ITEMS < n → Err BadScreenLine ≡ answer_of text
+  refused_items n p h = refused text (λ s. let e = p ∙ items_told text in let t = (screen_told text _ refl s).few_items in omega arith)
+
+  pub refused_candidates : (m : ℕ) → m ≡ count_read text CANDIDATE_COUNT → MAX_CANDIDATES < m → Err BadScreenLine ≡ answer_of text
+  refused_candidates m q h = refused text (λ s. let e = q ∙ candidates_told text in let t = (screen_told text _ refl s).few_candidates in omega arith)
+
+  module _ (n : ℕ) (p : n ≡ count_read text ITEM_COUNT) where
+    pub refused_item_lines : good_lines Item n (from FIRST_BYTES text) ≡ false → Err BadScreenLine ≡ answer_of text
+    refused_item_lines f = refused text (λ s. false≢true (sym (rw (take_rest, p ∙ items_told text) at f) ∙ (screen_told text _ refl s).item_lines))
+
+    module _ (m : ℕ) (q : m ≡ count_read text CANDIDATE_COUNT) where
+      pub refused_length : (length text ≡ FIRST_BYTES + n * ITEM_BYTES + m * CANDIDATE_BYTES → ⊥) → Err BadScreenLine ≡ answer_of text
+      refused_length f = refused text (λ s. f (rw (p ∙ items_told text, q ∙ candidates_told text) (screen_told text _ refl s).bytes))
+
+      pub refused_candidate_lines : good_lines Candidate m (from (FIRST_BYTES + n * ITEM_BYTES) text) ≡ false → Err BadScreenLine ≡ answer_of text
+      refused_candidate_lines f = refused text (λ s. false≢true (sym (rw (take_rest, p ∙ items_told text, q ∙ candidates_told text) at f) ∙ (screen_told text _ refl s).candidate_lines))
+
+      -- and where none does
+      pub accepted_counts : good_line First text ≡ true
+          → n ≤ MAX_ITEMS
+          → m ≤ MAX_CANDIDATES
+          → length text ≡ FIRST_BYTES + n * ITEM_BYTES + m * CANDIDATE_BYTES
+          → good_lines Item n (from FIRST_BYTES text) ≡ true
+          → good_lines Candidate m (from (FIRST_BYTES + n * ITEM_BYTES) text) ≡ true
+          → Ok (record { items = n; candidates = m }) ≡ answer_of text
+      accepted_counts f a b s g h = accepted text (record { items = n; candidates = m }) (rw (p ∙ items_told text, q ∙ candidates_told text) refl) f a b s (rw take_rest at g) (rw take_rest at h)
 
 -- ---- what an answer tells
 

@@ -4,7 +4,7 @@ use native.Mathlib.Nat.{zero-lt-suc, lt_of_le_of_lt}
 use mathlib.Core.Path.{◌≡◌, refl, sym, ap, ◌∙◌}
 use mathlib.Core.Bool.{Bool, true, false, not, cond, ◌&&◌}
 use mathlib.Core.List.{List, [], ◌∷◌, ◌++◌}
-use Rattle.std.proofs.Common.{None, Some}
+use Rattle.std.proofs.Common.{Option, None, Some, unwrap_or}
 use lib.ListN.{length, replicate}
 use lib.Dec.{T, eqb, lit≤, lit<}
 use lib.Ieee.{Float, nan, inf, fin, is_nan, of_bits, to_bits, round, binary32}
@@ -13,33 +13,29 @@ use lib.Ieee.Exact.{HasValue}
 use borrow.Author.Tests.{eqb-true, le-leb, le-ltb}
 use Rattle.util.specs.Eighths.{whole, eighths, float_of_count}
 use Rattle.util.proofs.Unique.{counts, count_float}
-use Rattle.boxlist_lines.specs.declared.Ink.TheVariants.{Digits}
 use Rattle.boxlist_lines.specs.Column.{COLUMN, cells, count_ink, code_ink, eighths_text, code_text}
 use Rattle.screen_fields.specs.declared.format.Kind.TheVariants.{Code, Eighths}
 use Rattle.screen_fields.specs.Format.{COLUMNS}
-use Rattle.screen_fields.specs.Field.{unblank, is_digit, spelled, unsigned, signed, numeral_of, code_of, present_word, float_of, word_of}
+use Rattle.screen_fields.specs.Field.{unblank, is_digit, spelled, spelled_size, unsigned, signed, numeral_of, code_of, present_word, float_of, word_of}
 use Rattle.screen_fields.specs.Laws.{all_digits, decimal, minus, plus, none, Spelling, FieldShape, NoTrailingBlank, SignedZero, CodeBack, CountBack, FloatBack, ZeroBack, ListedCount, ListedCode}
-use Rattle.screen_fields.proofs.Back.{no_number, same_sign, same_size, plain_back, minus_back}
+use Rattle.screen_fields.proofs.Back.{no_number, both_told, digits, plain_back, minus_back}
 
 -- ---- the shape of a field
 
-spelled_shape : (bs : List ℕ) (s t : Bool) (v n : ℕ) → spelled s v bs ≡ whole t n → (s ≡ t) × (all_digits bs ≡ true) × (decimal v bs ≡ n)
+spelled_shape : (bs : List ℕ) (v n : ℕ) → spelled v bs ≡ Some n → (all_digits bs ≡ true) × (decimal v bs ≡ n)
 unfolding spelled all_digits decimal
-spelled_shape [] s t v n e = same s t v n e
+spelled_shape [] v n e = (refl, ap (λ (o : Option ℕ). unwrap_or o 0) e)
+spelled_shape (b ∷ bs) v n e = go (is_digit b) (spelled_shape bs (v * 10 + (b - 48)) n) e
   where
-    same : (s t : Bool) (v n : ℕ) → whole s v ≡ whole t n → (s ≡ t) × (true ≡ true) × (v ≡ n)
-    same s t v n e = (same_sign s t v n e, refl, same_size s t v n e)
-spelled_shape (b ∷ bs) s t v n e = go (is_digit b) (spelled_shape bs s t (v * 10 + (b - 48)) n) e
-  where
-    go : (c : Bool) → (spelled s (v * 10 + (b - 48)) bs ≡ whole t n → (s ≡ t) × (all_digits bs ≡ true) × (decimal (v * 10 + (b - 48)) bs ≡ n))
-        → cond c (spelled s (v * 10 + (b - 48)) bs) None ≡ whole t n → (s ≡ t) × ((c && all_digits bs) ≡ true) × (decimal (v * 10 + (b - 48)) bs ≡ n)
+    go : (c : Bool) → (spelled (v * 10 + (b - 48)) bs ≡ Some n → (all_digits bs ≡ true) × (decimal (v * 10 + (b - 48)) bs ≡ n))
+        → cond c (spelled (v * 10 + (b - 48)) bs) None ≡ Some n → ((c && all_digits bs) ≡ true) × (decimal (v * 10 + (b - 48)) bs ≡ n)
     go true f e = f e
-    go false f e = absurd (no_number t n e)
+    go false f e = cc
 
 unsigned_shape : (bs : List ℕ) (s t : Bool) (n : ℕ) → unsigned s bs ≡ whole t n → (s ≡ t) × (0 < length bs) × (all_digits bs ≡ true) × (decimal 0 bs ≡ n)
-unfolding unsigned
+unfolding unsigned spelled_size
 unsigned_shape [] s t n e = absurd (no_number t n e)
-unsigned_shape (b ∷ bs) s t n e = let r = spelled_shape (b ∷ bs) s t 0 n e in (r.0, zero-lt-suc (length bs), r.1, r.2)
+unsigned_shape (b ∷ bs) s t n e = let r = both_told (spelled 0 (b ∷ bs)) s t n e in let d = spelled_shape (b ∷ bs) 0 n r.1 in (r.0, zero-lt-suc (length bs), d.0, d.1)
 
 signed_shape : (k : ℕ) (bs all : List ℕ) (t : Bool) (n : ℕ) → all ≡ replicate k 32 ++ bs → signed bs ≡ whole t n → Spelling all t n
 unfolding signed
@@ -78,19 +74,19 @@ field_shape bs s n e = unblank_shape bs bs 0 s n refl e
 
 -- ---- a trailing blank
 
-spelled_blank : (xs : List ℕ) (s : Bool) (v : ℕ) → spelled s v (xs ++ (32 ∷ [])) ≡ None
+spelled_blank : (xs : List ℕ) (v : ℕ) → spelled v (xs ++ (32 ∷ [])) ≡ None
 unfolding spelled is_digit
-spelled_blank [] s v = refl
-spelled_blank (x ∷ xs) s v = go (is_digit x) (spelled_blank xs s (v * 10 + (x - 48)))
+spelled_blank [] v = refl
+spelled_blank (x ∷ xs) v = go (is_digit x) (spelled_blank xs (v * 10 + (x - 48)))
   where
-    go : (c : Bool) → spelled s (v * 10 + (x - 48)) (xs ++ (32 ∷ [])) ≡ None → cond c (spelled s (v * 10 + (x - 48)) (xs ++ (32 ∷ []))) None ≡ None
+    go : (c : Bool) → spelled (v * 10 + (x - 48)) (xs ++ (32 ∷ [])) ≡ None → cond c (spelled (v * 10 + (x - 48)) (xs ++ (32 ∷ []))) None ≡ None
     go true e = e
     go false e = refl
 
 unsigned_blank : (xs : List ℕ) (s : Bool) → unsigned s (xs ++ (32 ∷ [])) ≡ None
-unfolding unsigned
-unsigned_blank [] s = spelled_blank [] s 0
-unsigned_blank (x ∷ xs) s = spelled_blank (x ∷ xs) s 0
+unfolding unsigned spelled_size
+unsigned_blank [] s = rw (spelled_blank [] 0) refl
+unsigned_blank (x ∷ xs) s = rw (spelled_blank (x ∷ xs) 0) refl
 
 signed_blank : (x : ℕ) (xs : List ℕ) → signed (x ∷ (xs ++ (32 ∷ []))) ≡ None
 unfolding signed
@@ -117,7 +113,7 @@ minus_zero_word : to_bits binary32 (eighths true 0) ≡ 0
 minus_zero_word = unfold eighths to_bits round in refl
 
 pub signed_zero : SignedZero
-unfolding word_of code_of float_of present_word float_of_count numeral_of unblank signed unsigned spelled is_digit
+unfolding word_of code_of float_of present_word float_of_count numeral_of unblank signed unsigned spelled_size spelled is_digit
 signed_zero Code = (refl, refl)
 signed_zero Eighths = (ap Some minus_zero_word, ap Some zero_word)
 
@@ -127,7 +123,7 @@ pub code_back : CodeBack
 unfolding word_of code_of
 code_back w h = rw (plain_back 10 w (lt_of_le_of_lt h (lit< tt))) (rw (le-leb w 4294967295 h) refl)
 
-number_back : (s : Bool) (n : ℕ) → n ≤ 9999999 → numeral_of (cells COLUMNS (Digits s n)) ≡ whole s n
+number_back : (s : Bool) (n : ℕ) → n ≤ 9999999 → numeral_of (cells COLUMNS (digits s n)) ≡ whole s n
 number_back true n h = minus_back 9 n (lt_of_le_of_lt h (lit< tt))
 number_back false n h = plain_back 10 n (lt_of_le_of_lt h (lit< tt))
 
@@ -155,7 +151,7 @@ zero_back w s e =
 
 -- ---- the columns of the list
 
-listed : (s : Bool) (n : ℕ) → n ≤ 9999999 → numeral_of (cells COLUMN (Digits s n)) ≡ whole s n
+listed : (s : Bool) (n : ℕ) → n ≤ 9999999 → numeral_of (cells COLUMN (digits s n)) ≡ whole s n
 listed true n h = minus_back 6 n (lt_of_le_of_lt h (lit< tt))
 listed false n h = plain_back 7 n (lt_of_le_of_lt h (lit< tt))
 

@@ -4,24 +4,24 @@ use native.Mathlib.Omega.{arith}
 use mathlib.Core.Path.{◌≡◌, refl, ap, ◌∙◌}
 use mathlib.Core.Bool.{Bool, true, false, cond, ◌&&◌}
 use mathlib.Core.List.{List, [], ◌∷◌, ◌++◌}
-use Rattle.std.proofs.Common.{None}
+use Rattle.std.proofs.Common.{None, Some}
 use lib.Dec.{leb}
 use lib.ListN.{length, replicate}
 use borrow.Author.Tests.{ne_eqb, le-leb, le-ltb, leb-true}
 use Rattle.std.proofs.lemmas.Bool.{false≢true}
 use Rattle.util.specs.Eighths.{whole, float_of_count}
-use Rattle.screen_fields.specs.Field.{unblank, is_digit, spelled, unsigned, signed, numeral_of, code_of, present_word, float_of, word_of}
+use Rattle.screen_fields.specs.Field.{unblank, is_digit, spelled, spelled_size, unsigned, signed, numeral_of, code_of, present_word, float_of, word_of}
 use Rattle.screen_fields.specs.Laws.{all_digits, decimal, Sign, minus, plus, none, FieldRead, CodeRead, CountRead}
 
 -- ---- digits
 
-spelled_read : (ds : List ℕ) (s : Bool) (v : ℕ) → all_digits ds ≡ true → spelled s v ds ≡ whole s (decimal v ds)
+spelled_read : (ds : List ℕ) (v : ℕ) → all_digits ds ≡ true → spelled v ds ≡ Some (decimal v ds)
 unfolding spelled all_digits decimal
-spelled_read [] s v e = refl
-spelled_read (d ∷ ds) s v e = go (is_digit d) (spelled_read ds s (v * 10 + (d - 48))) e
+spelled_read [] v e = refl
+spelled_read (d ∷ ds) v e = go (is_digit d) (spelled_read ds (v * 10 + (d - 48))) e
   where
-    go : (c : Bool) → (all_digits ds ≡ true → spelled s (v * 10 + (d - 48)) ds ≡ whole s (decimal (v * 10 + (d - 48)) ds)) → (c && all_digits ds) ≡ true
-        → cond c (spelled s (v * 10 + (d - 48)) ds) None ≡ whole s (decimal (v * 10 + (d - 48)) ds)
+    go : (c : Bool) → (all_digits ds ≡ true → spelled (v * 10 + (d - 48)) ds ≡ Some (decimal (v * 10 + (d - 48)) ds)) → (c && all_digits ds) ≡ true
+        → cond c (spelled (v * 10 + (d - 48)) ds) None ≡ Some (decimal (v * 10 + (d - 48)) ds)
     go true f e = f e
     go false f e = absurd (false≢true e)
 
@@ -42,9 +42,9 @@ first_digit d ds e = digit_low d (go (is_digit d) e)
     go false e = absurd (false≢true e)
 
 unsigned_read : (ds : List ℕ) (s : Bool) → 0 < length ds → all_digits ds ≡ true → unsigned s ds ≡ whole s (decimal 0 ds)
-unfolding unsigned
+unfolding unsigned spelled_size
 unsigned_read [] s h e = absurd (omega arith)
-unsigned_read (d ∷ ds) s h e = spelled_read (d ∷ ds) s 0 e
+unsigned_read (d ∷ ds) s h e = rw (spelled_read (d ∷ ds) 0 e) refl
 
 -- ---- a sign, and blanks before it
 

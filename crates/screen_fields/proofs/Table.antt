@@ -1,5 +1,6 @@
 -- The fields of a line by their number: one computed test over the whole format. Assumes nothing.
-use Prim.Native.Nat.{ℕ, zero, suc, ◌+◌, ◌-◌, ◌%◌, ◌<◌}
+use Prim.Native.Nat.{ℕ, zero, suc, ◌+◌, ◌-◌, ◌%◌, ◌<◌, ◌≤◌}
+use native.Mathlib.Omega.{arith}
 use native.Mathlib.Nat.{add-zero, zero-add, add-suc, suc-add, le_of_suc-le-suc, not-suc-le-zero}
 use mathlib.Core.Path.{◌≡◌, refl, sym, subst, ◌∙◌}
 use mathlib.Core.Bool.{Bool, true, false, cond, not}
@@ -69,8 +70,8 @@ tested Candidate = tt
 told : (f : ℕ → Bool) (line : Line) → T (every f 0 (fields_of line)) → (j : ℕ) → j < length (fields_of line) → f j ≡ is_float (get_or (fields_of line) j Code)
 told f line t j h = subst (λ (m : ℕ). f m ≡ is_float (get_or (fields_of line) j Code)) (zero-add j) (from f (fields_of line) 0 t j h)
 
-pub float_at : (line : Line) (j : ℕ) → j < length (fields_of line) → is_float_at line j ≡ is_float (get_or (fields_of line) j Code)
-float_at line = told (is_float_at line) line (tested line)
+pub float_at : (line : Line) (j : ℕ) → j < length (fields_of line) → is_float (get_or (fields_of line) j Code) ≡ is_float_at line j
+float_at line j h = sym (told (is_float_at line) line (tested line) j h)
 
 pub float_is : (k : Kind) → is_float k ≡ true → Eighths ≡ k
 unfolding is_float
@@ -97,6 +98,11 @@ unfolding fields_of candidate_fields
 candidate_width_lem = refl
 
 pub ruleset line_widths = (first_width, item_width, candidate_width_lem)
+
+pub width_small : (line : Line) → length (fields_of line) ≤ style_words + reply_width
+width_small First = let e = first_width in omega arith
+width_small Item = let e = item_width in omega arith
+width_small Candidate = let e = candidate_width_lem in omega arith
 
 pub first_bytes : bytes_of First ≡ FIRST_BYTES
 unfolding bytes_of

@@ -1,8 +1,8 @@
 -- A field of the screen file: blanks, at most one sign, one or more digits; and the word it stands for. Assumes nothing.
-use Rattle.std.specs.Prelude.{ℕ, ◌+◌, ◌-◌, ◌*◌, Bool, true, false, cond, not, ◌&&◌, List, [], ◌∷◌, eqb, leb, Option, None, Some, Float}
+use Rattle.std.specs.Prelude.{ℕ, ◌+◌, ◌-◌, ◌*◌, Bool, true, false, cond, not, ◌&&◌, List, [], ◌∷◌, eqb, leb, Option, None, Some, option_map, Float}
 use Rattle.std.specs.Float.Ieee.{to_bits}
 use Rattle.std.specs.Float.{binary32}
-use Rattle.util.specs.Eighths.{whole, float_of_count}
+use Rattle.util.specs.Eighths.{float_of_count}
 use Rattle.screen_fields.specs.declared.format.Kind.{Kind}
 use Rattle.screen_fields.specs.declared.format.Kind.TheVariants.{Code, Eighths}
 use Rattle.util.specs.declared.eighths.Count.{Count}
@@ -19,14 +19,18 @@ unfoldable pub is_digit : ℕ → Bool
 is_digit b = leb 48 b && leb b 57
 
 -- the number that all these bytes spell, after digits that spell v
-unfoldable pub spelled : Bool → ℕ → List ℕ → Option Count
-spelled s v [] = whole s v
-spelled s v (b ∷ bs) = cond (is_digit b) (spelled s (v * 10 + (b - 48)) bs) None
+unfoldable pub spelled : ℕ → List ℕ → Option ℕ
+spelled v [] = Some v
+spelled v (b ∷ bs) = cond (is_digit b) (spelled (v * 10 + (b - 48)) bs) None
 
 -- one or more digits
+unfoldable pub spelled_size : List ℕ → Option ℕ
+spelled_size [] = None
+spelled_size (b ∷ bs) = spelled 0 (b ∷ bs)
+
+-- the same, with a sign beside it
 unfoldable pub unsigned : Bool → List ℕ → Option Count
-unsigned s [] = None
-unsigned s (b ∷ bs) = spelled s 0 (b ∷ bs)
+unsigned s bs = option_map (λ n. record { negative = s; size = n }) (spelled_size bs)
 
 -- at most one sign, `-` or `+`, then digits
 unfoldable pub signed : List ℕ → Option Count

@@ -84,10 +84,10 @@ pub record GoodField (k : Kind) (bs : List ℕ) : Type 0 where
 -- ---- a field written and read back
 
 abbrev pub CodeBack : Type 0
-CodeBack = (w : ℕ) → w ≤ 4294967295 → word_of Code (cells COLUMNS (Digits false w)) ≡ Some w
+CodeBack = (w : ℕ) → w ≤ 4294967295 → word_of Code (cells COLUMNS (Digits (record { negative = false; size = w }))) ≡ Some w
 
 abbrev pub CountBack : Type 0
-CountBack = (s : Bool) (n : ℕ) → n ≤ 9999999 → word_of Eighths (cells COLUMNS (Digits s n)) ≡ Some (to_bits binary32 (eighths s n))
+CountBack = (s : Bool) (n : ℕ) → n ≤ 9999999 → word_of Eighths (cells COLUMNS (Digits (record { negative = s; size = n }))) ≡ Some (to_bits binary32 (eighths s n))
 
 -- the word of a float that is a count of eighths comes back; of a zero, +0's
 abbrev pub FloatBack : Type 0

@@ -1,7 +1,7 @@
 // A field of the screen file, and the word it stands for.
-ghost use Rattle.std.specs.Prelude.{◌≡◌, ◌+◌, ◌≤◌, length, take, drop};
+ghost use Rattle.std.specs.Prelude.{◌≡◌, ◌≤◌, length};
 ghost use Rattle.screen_fields.specs.Format.{COLUMNS};
-ghost use Rattle.screen_fields.specs.Field.{unblank, unsigned, numeral_of, code_of, present_word, float_of, word_of};
+ghost use Rattle.screen_fields.specs.Field.{unblank, spelled_size, unsigned, signed, numeral_of, code_of, present_word, float_of, word_of};
 
 use crate::format::{COLUMNS, Kind};
 use util::eighths::Count;
@@ -20,11 +20,12 @@ fn unblank(field: &[u8]) -> &[u8]
     rest
 }
 
-// One or more digits, and nothing else.
-#[tactic(auto, unfolding(crate::specs::Field::unsigned, crate::specs::Field::spelled, crate::specs::Field::is_digit))]
-fn unsigned(digits: &[u8], negative: bool) -> Option<Count>
+// The size that one or more digits spell, with nothing else.
+// By a loop: std's `parse` takes a plus before the digits, and only a loop's invariant bounds the sum at each step, as a `try_fold` would need.
+#[tactic(auto, unfolding(crate::specs::Field::spelled_size, crate::specs::Field::spelled, crate::specs::Field::is_digit))]
+fn spelled_size(digits: &[u8]) -> Option<u64>
     requires { length digits.now ≤ COLUMNS }
-    ensures { result ≡ unsigned negative digits.now }
+    ensures { result ≡ spelled_size digits.now }
 {
     if digits.is_empty() {
         return None;
@@ -36,21 +37,30 @@ fn unsigned(digits: &[u8], negative: bool) -> Option<Count>
         }
         size = size * 10 + u64::from(*b - b'0');
     }
-    Some(Count { negative, size })
+    Some(size)
+}
+
+// Whether a minus stands in front, and what stands behind the sign, if there is one.
+#[tactic(auto, unfolding(crate::specs::Field::signed, crate::specs::Field::unsigned, crate::specs::Field::spelled_size))]
+fn split_sign(field: &[u8]) -> (bool, &[u8])
+    ensures sign { signed field.now ≡ unsigned result.0 result.1.now }
+    ensures bound { length result.1.now ≤ length field.now }
+{
+    match field {
+        [b'-', digits @ ..] => (true, digits),
+        [b'+', digits @ ..] => (false, digits),
+        digits => (false, digits),
+    }
 }
 
 // What a field spells, or none.
-#[tactic(auto, unfolding(crate::specs::Field::numeral_of, crate::specs::Field::signed))]
-fn numeral_of(field: &[u8]) -> Option<Count>
-    requires { length field.now ≤ COLUMNS }
+#[tactic(auto, unfolding(crate::specs::Field::numeral_of, crate::specs::Field::unsigned))]
+fn numeral_of(field: &[u8; COLUMNS]) -> Option<Count>
     ensures { result ≡ numeral_of field.now }
 {
-    match unblank(field) {
-        [] => None,
-        [b'-', digits @ ..] => unsigned(digits, true),
-        [b'+', digits @ ..] => unsigned(digits, false),
-        digits => unsigned(digits, false),
-    }
+    let (negative, digits) = split_sign(unblank(field));
+    let size = spelled_size(digits)?;
+    Some(Count { negative, size })
 }
 
 // A code: a whole number that a word holds.
@@ -69,7 +79,7 @@ fn code_of(numeral: Option<Count>) -> Option<u32>
 fn present_word(x: Option<f32>) -> Option<u32>
     ensures { result ≡ present_word x }
 {
-    x.map(|value| bits::to_word(value))
+    x.map(bits::to_word)
 }
 
 // A float, by its eighths.
@@ -81,13 +91,12 @@ fn float_of(numeral: Option<Count>) -> Option<u32>
     present_word(eighths::from_eighths(count))
 }
 
-// The word that the field at a place stands for, or none.
+// The word that a field stands for, or none. A match of two: which kind a field has is known only by its place in a line, when it is read.
 #[tactic(auto, unfolding(crate::specs::Field::word_of))]
-pub fn word_at(text: &[u8], at: usize, kind: Kind) -> Option<u32>
-    requires { at + COLUMNS ≤ length text.now }
-    ensures { result ≡ word_of kind (take COLUMNS (drop at text.now)) }
+pub fn word_of(field: &[u8; COLUMNS], kind: Kind) -> Option<u32>
+    ensures { result ≡ word_of kind field.now }
 {
-    let numeral = numeral_of(&text[at..at + COLUMNS]);
+    let numeral = numeral_of(field);
     match kind {
         Kind::Code => code_of(numeral),
         Kind::Eighths => float_of(numeral),

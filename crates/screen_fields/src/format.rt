@@ -40,7 +40,7 @@ pub const MAX_ITEMS: usize = 128;
 
 pub const MAX_CANDIDATES: usize = 256;
 
-// The bytes of a line: its fields and the line feed.
+// The bytes of a line: its fields and the line feed. Written out, as the lines of the printed list (boxlist_lines).
 pub const FIRST_BYTES: usize = COLUMNS * HEADER_WORDS + 1;
 
 pub const ITEM_BYTES: usize = COLUMNS * (STYLE_WORDS + REPLY_WORDS) + 1;
@@ -52,7 +52,7 @@ pub const MAX_BYTES: usize = FIRST_BYTES
     + MAX_ITEMS * ITEM_BYTES
     + MAX_CANDIDATES * CANDIDATE_BYTES;
 
-// How many fields a line has.
+// How many fields a line has. A table by the line, here and below: a trait with a type for each line would have every reader three times.
 #[tactic(auto, using(crate::proofs::Table::line_widths))]
 pub fn width_of(line: Line) -> usize
     ensures { result ≡ length (fields_of line) }
@@ -64,19 +64,17 @@ pub fn width_of(line: Line) -> usize
     }
 }
 
-// How many bytes a line has.
-#[tactic(auto, using(crate::proofs::Table::line_bytes))]
+// How many bytes a line has: its fields and the line feed.
+#[tactic(auto, using(crate::proofs::Table::width_small), unfolding(crate::specs::Format::bytes_of))]
 pub fn bytes_of(line: Line) -> usize
     ensures { result ≡ bytes_of line }
 {
-    match line {
-        Line::First => FIRST_BYTES,
-        Line::Item => ITEM_BYTES,
-        Line::Candidate => CANDIDATE_BYTES,
-    }
+    COLUMNS * width_of(line) + 1
 }
 
 // Whether a field holds a float, and not a code.
+// That j is below the line's width is a clause, here and in what reads fields: the width goes by the line, which no type has.
+#[tactic(auto, using(crate::proofs::Table::float_at, std::proofs::lemmas::Bool::Decides::nat_tests), unfolding(crate::proofs::Table::is_float_at))]
 fn is_float(line: Line, j: usize) -> bool
     requires { j < length (fields_of line) }
     ensures { result ≡ is_float (get_or (fields_of line) j Code) }

@@ -21,9 +21,9 @@ printed_bytes listing text before after r h p =
     rw (p.size, p.bytes) (front_of_sets before (printed listing text) fits)
 
 -- no more is read than there is room for, and that is enough
-pub whole : (listing : Listing) (left : Option (List ℕ)) (before after : Option (List ℕ)) (n : ℕ) (text : List ℕ) → MAX_BYTES + 1 ≡ length text
-    → IfSome left (λ xs. take n text ≡ take (length text) xs) → Appends before after (printed listing (take n text))
+pub whole : (listing : Listing) (left : Option (List ℕ)) (before after : Option (List ℕ)) (read room : List ℕ) → MAX_BYTES + 1 ≡ length room
+    → IfSome left (λ xs. read ≡ take (length room) xs) → Appends before after (printed listing read)
     → IfSome left (λ xs. Appends before after (printed listing xs))
-whole listing None before after n text room read printed_ = tt
-whole listing (Some xs) before after n text room read p =
-    subst (Appends before after) (ap (printed listing) (read ∙ ap (λ k. take k xs) (sym room)) ∙ cut_is_enough listing xs) p
+whole listing None before after read room long given p = tt
+whole listing (Some xs) before after read room long given p =
+    subst (Appends before after) (ap (printed listing) (given ∙ ap (λ k. take k xs) (sym long)) ∙ cut_is_enough listing xs) p

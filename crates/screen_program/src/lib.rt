@@ -8,7 +8,7 @@ ghost use Rattle.std.specs.Io.KnownBytes.{Appends, Keeps};
 ghost use Rattle.std.specs.Process.{exit_status};
 ghost use Rattle.screen_fields.specs.Format.{MAX_BYTES};
 ghost use Rattle.boxlist_print.specs.Printed.{printed};
-ghost use Rattle.screen_program.specs.Input.{bytes_of, IsNotRead};
+ghost use Rattle.screen_program.specs.Input.{IsNotRead};
 
 use boxlist_print::{LIST_BYTES, Listing};
 use screen_fields::format;
@@ -26,20 +26,21 @@ pub fn room() -> [u8; ROOM]
     [0; ROOM]
 }
 
-// What the input gave: so many bytes, up to its end or as many as there is room for; or a read that failed.
-pub fn read_input<R: Read>(input: &mut R, text: &mut [u8]) -> io::Result<usize>
-    ensures in_bounds { bytes_of result ≤ length text.new }
-    ensures read { IfOk result (λ n. IfSome (R.remaining input.old) (λ all. take n text.new ≡ take (length text.new) all)) }
+// What the input gave, up to its end or as much as there is room for; or a read that failed.
+// By hand: `read_to_end` fills a `Vec`, and there is no heap; `read_exact` fails on a shorter text.
+pub fn read_input<'a, R: Read>(input: &mut R, text: &'a mut [u8]) -> io::Result<&'a [u8]>
+    ensures in_bounds { IfOk result (λ read. length read.now ≤ length text.old) }
+    ensures read { IfOk result (λ read. IfSome (R.remaining input.old) (λ all. read.now ≡ take (length text.old) all)) }
 {
     let mut n: usize = 0;
     while n < text.len() {
         let more = input.read(&mut text[n..])?;
         if more == 0 {
-            return Ok(n);
+            break;
         }
         n += more;
     }
-    Ok(n)
+    Ok(&text[..n])
 }
 
 // How a program ended where it didn't print. A read that failed is no screen, and nothing is printed.
@@ -49,7 +50,8 @@ pub enum Failure {
     NotWritten(io::Error),
 }
 
-// The system's reason, without the number that std puts behind it.
+// The system's reason, without the number that std puts behind it. Into 256 bytes and no `String`: there is no heap, and `fmt` is given no
+// allocator.
 #[derive(Drop)]
 struct Reason<'a>(&'a io::Error);
 
@@ -76,6 +78,7 @@ impl fmt::Display for Failure {
 
 impl std::error::Error for Failure {}
 
+// How many bytes, since `list_screen` hands back no part of `out`: at `put_list` of boxlist_print stands why.
 fn print_list<W: Write>(listing: Listing, text: &[u8], output: &mut W) -> io::Result<()>
     ensures { OnOk result (Appends (W.contents output.old) (W.contents output.new) (printed listing text.now)) }
 {
@@ -93,9 +96,9 @@ pub fn run<R: Read, W: Write>(
     ensures prints { OnOk result (IfSome (R.remaining input.old) (λ text. Appends (W.contents output.old) (W.contents output.new) (printed listing text))) }
     ensures not_read { IfErr result (λ failure. IsNotRead failure → Keeps (W.contents output.old) (W.contents output.new)) }
 {
-    let mut text = room();
-    let n = read_input(input, &mut text).map_err(Failure::NotRead)?;
-    print_list(listing, &text[..n], output).map_err(Failure::NotWritten)
+    let mut room = room();
+    let text = read_input(input, &mut room).map_err(Failure::NotRead)?;
+    print_list(listing, text, output).map_err(Failure::NotWritten)
 }
 
 // The same, with a failure told to `errors`, behind the program's name. The status is 0 only where all was printed.

@@ -1,6 +1,5 @@
 -- A run that is played out has no open question: it asks at most three a box begun, each of those is one of the claimed candidates, and
 -- nothing is surfaced. Assumes nothing.
-use Rattle.std.specs.Prelude.{Float}
 use Prim.Native.Nat.{ℕ, zero, suc, ◌+◌, ◌*◌, ◌/◌, ◌≤◌}
 use native.Mathlib.Omega.{arith}
 use native.Mathlib.Nat.{add-zero, zero-add}
@@ -8,18 +7,21 @@ use mathlib.Core.Path.{◌≡◌, refl, sym, ap, ◌∙◌, subst}
 use mathlib.Core.Bool.{true}
 use mathlib.Core.List.{List, [], ◌∷◌, ◌++◌, foldl, foldl-append, map}
 use lib.ListN.{length, length-map}
+use Rattle.std.specs.Prelude.{Result, Ok, Err, Float}
 use Rattle.records.specs.Records.{records}
+use Rattle.records.proofs.Laws.{length_records}
 use Rattle.tree_record.specs.Candidate.{candidate_width, candidate_of}
 use Rattle.sweep.specs.Sweep.{first_candidates, candidates_in, keep}
 use Rattle.sweep.specs.declared.Filled.{Filled}
 use Rattle.sweep.proofs.Laws.{keep_splits}
 use Rattle.oof_box.specs.declared.question.Reply.{Reply}
+use Rattle.refusal.specs.declared.Refusal.{Refusal}
 use Rattle.run.specs.declared.Opening.{Opening}
 use Rattle.run.specs.declared.State.{State}
 use Rattle.run.specs.declared.Opened.{Opened}
 use Rattle.run.specs.declared.Counts.{Counts}
 use Rattle.run.specs.declared.Answer.{Answer}
-use Rattle.run.specs.declared.Answer.TheVariants.{Ask, Finish, Refused}
+use Rattle.run.specs.declared.Answer.TheVariants.{Ask, Finish}
 use Rattle.geometry.specs.declared.Rect.{Rect}
 use Rattle.run.specs.Call.{Lent, Outcome}
 use Rattle.run.specs.Run.{claims_of, closed, begun, opened, asking, finishing, proceeding, measured_on, laid_out, replied}
@@ -34,10 +36,10 @@ use Rattle.script.specs.Theorems.{RunEnds, RefusedOpeningStays}
 abbrev pub open_in : Outcome → ℕ
 open_in x = one_if_asked x.step.answer
 
-zero_or_one : (a : Answer) → (one_if_asked a ≡ 0 → ⊥) → one_if_asked a ≡ 1
-zero_or_one (Ask q) f = refl
-zero_or_one (Finish e) f = absurd (f refl)
-zero_or_one (Refused r) f = absurd (f refl)
+zero_or_one : (a : Result Answer Refusal) → (one_if_asked a ≡ 0 → ⊥) → one_if_asked a ≡ 1
+zero_or_one (Ok (Ask q)) f = refl
+zero_or_one (Ok (Finish e)) f = absurd (f refl)
+zero_or_one (Err r) f = absurd (f refl)
 
 no_one : {A : Type 0} {n : ℕ} → n ≡ 1 → n ≡ 0 → A
 no_one d e = absurd (omega (arith, d, e))
@@ -47,10 +49,10 @@ module _ (replies styles : List ℕ) where
   unfolding played_on
   stays x e = go x.step.answer e
     where
-      go : (a : Answer) → one_if_asked a ≡ 0 → played_by a replies styles x ≡ x
-      go (Ask q) e = no_one refl e
-      go (Finish f) e = refl
-      go (Refused r) e = refl
+      go : (a : Result Answer Refusal) → one_if_asked a ≡ 0 → played_by a replies styles x ≡ x
+      go (Ok (Ask q)) e = no_one refl e
+      go (Ok (Finish f)) e = refl
+      go (Err r) e = refl
 
   pub all_stay : (n : ℕ) (x : Outcome) → open_in x ≡ 0 → played n replies styles x ≡ x
   unfolding played
@@ -70,16 +72,16 @@ module _ (replies styles : List ℕ) (a : Asked) where
   unfolding played_on next asked_with
   once {x} {n} r e = go x.step.answer e
     where
-      go : (b : Answer) → one_if_asked b ≡ 1 → Reached a (played_by b replies styles x) (n + open_in (played_by b replies styles x))
-      go (Ask q) e =
+      go : (b : Result Answer Refusal) → one_if_asked b ≡ 1 → Reached a (played_by b replies styles x) (n + open_in (played_by b replies styles x))
+      go (Ok (Ask q)) e =
           let call : Call = record { reply = scripted_reply replies q; surfaced = []; lent = record { styles = styles; layouts = x.layouts; working = x.working; unclaimed = x.unclaimed } } in
           record {
             calls = r.calls ++ (call ∷ []);
             questions = ap (λ (z : Asked). z.questions) (foldl-append asked_with a r.calls (call ∷ [])) ∙ rw (r.questions, r.state) refl;
             state = ap (λ (z : Asked). z.state) (foldl-append asked_with a r.calls (call ∷ [])) ∙ rw r.state refl;
           }
-      go (Finish f) e = no_one e refl
-      go (Refused r) e = no_one e refl
+      go (Ok (Finish f)) e = no_one e refl
+      go (Err r) e = no_one e refl
 
   -- so many more
   many : (n : ℕ) {x : Outcome} {k : ℕ} → Reached a x k → open_in (played n replies styles x) ≡ 1 → Reached a (played n replies styles x) (k + n)
@@ -119,23 +121,18 @@ unfolding played played_on next
 played_filled replies styles zero x = refl
 played_filled replies styles (suc n) x = played_filled replies styles n (played_on replies styles x) ∙ go x.step.answer
   where
-    go : (a : Answer) → filled_in (played_by a replies styles x).step.state ≡ filled_in x.step.state
-    go (Ask q) = reply_filled x.step.state (scripted_reply replies q) _
-    go (Finish f) = refl
-    go (Refused r) = refl
+    go : (a : Result Answer Refusal) → filled_in (played_by a replies styles x).step.state ≡ filled_in x.step.state
+    go (Ok (Ask q)) = reply_filled x.step.state (scripted_reply replies q) _
+    go (Ok (Finish f)) = refl
+    go (Err r) = refl
 
 -- ---- and those are some of the candidates
-
-records_length : (w n : ℕ) (ws : List ℕ) → length (records w n ws) ≡ n
-unfolding records
-records_length w zero ws = refl
-records_length w (suc n) ws = ap suc (records_length w n _)
 
 claimed_few : (o : Opening) (candidates : List ℕ) → length (keep (claims_of o) true (candidates_in candidates)) ≤ length candidates / candidate_width
 unfolding candidates_in first_candidates
 claimed_few o candidates =
     let n = length candidates / candidate_width in
-    let all = length-map (records candidate_width n candidates) candidate_of ∙ records_length candidate_width n candidates in
+    let all = length-map (records candidate_width n candidates) candidate_of ∙ length_records candidate_width n candidates in
     omega (arith, keep_splits (claims_of o) (map candidate_of (records candidate_width n candidates)), all)
 
 opening_few : (o : Opening) (candidates : List ℕ) (lent : Lent) → (filled_in (opened o candidates lent).step.state).working ≤ length candidates / candidate_width

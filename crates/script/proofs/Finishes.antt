@@ -1,7 +1,7 @@
 -- No scripted reply is refused, so a run that is opened comes to its finish. The reply's kind is its question's; the slices have the
 -- opening's lengths, the styles its words; the working list holds the candidates that it checked; nothing is surfaced. And so the words of a
 -- finished run pass the tests of what reads it. Assumes nothing.
-use Rattle.std.specs.Prelude.{Option, None, Some, is_none, is_some, unwrap_or, Float}
+use Rattle.std.specs.Prelude.{Option, None, Some, is_none, is_some, unwrap_or, Result, Ok, Err, is_err, Float}
 use Prim.Native.Nat.{ℕ, zero, suc, ◌+◌, ◌*◌, ◌/◌, ◌≤◌}
 use native.Mathlib.Omega.{arith}
 use native.Mathlib.Nat.{add-zero, zero-add, mul-le-mul_left, mul-div-le, le_trans}
@@ -9,7 +9,8 @@ use mathlib.Core.Path.{◌≡◌, refl, sym, ap, ◌∙◌, subst}
 use mathlib.Core.Bool.{Bool, true, false, cond, not, ◌||◌}
 use mathlib.Core.List.{List, []}
 use lib.ListN.{length}
-use borrow.Author.Tests.{leb-true, not-false, le-ltb, eq-eqb, ne_eqb}
+use borrow.Author.Tests.{leb-true, le-leb, not-false, le-ltb, eq-eqb, ne_eqb}
+use Rattle.std.proofs.lemmas.Bool.{or_parts, or_from}
 use Rattle.util.proofs.Floats.{no}
 use Rattle.geometry.specs.Geometry.{both_present}
 use Rattle.geometry.specs.declared.Rect.{Rect}
@@ -18,7 +19,7 @@ use Rattle.refusal.specs.declared.Refusal.{Refusal}
 use Rattle.style.specs.declared.Style.{Style}
 use Rattle.style_record.specs.Record.{items}
 use Rattle.style_record.specs.Decode.{style_at}
-use Rattle.records.specs.Records.{records, room, written}
+use Rattle.records.specs.Records.{records, room, written, good_records, every}
 use Rattle.records.proofs.Laws.{written_length}
 use Rattle.tree.specs.declared.layout.OofCandidate.{OofCandidate}
 use Rattle.tree_record.specs.Candidate.{candidate_width}
@@ -26,9 +27,10 @@ use Rattle.sweep.specs.Sweep.{first_candidates, candidates_in, keep, list_words,
 use Rattle.sweep.specs.declared.Filled.{Filled}
 use Rattle.sweep.proofs.Steps.{appended_length}
 use Rattle.oof_common.specs.declared.sizing_keyword.SizingKeywordResolution.{SizingKeywordResolution}
-use Rattle.oof_common.specs.declared.sizing_keyword.SizingKeywordResolution.TheVariants.{Exact, Measure}
+use Rattle.oof_common.specs.declared.sizing_keyword.SizingKeywordResolution.TheVariants.{Measure}
 use Rattle.oof_resolve.specs.Resolved.{resolved_box}
 use Rattle.oof_resolve.specs.declared.ContainingBlock.{ContainingBlock}
+use Rattle.oof_box.specs.declared.question.Stage.{Stage}
 use Rattle.oof_box.specs.Box.{size_keywords, keyword_stretch}
 use Rattle.oof_box.specs.Cut.{no_replies, taken, keyword_asked, size_asked, is_first, stretched_by, asked_of, asked_after, sizing}
 use Rattle.oof_box.specs.declared.question.Reply.{Reply}
@@ -39,21 +41,18 @@ use Rattle.oof_box.specs.declared.question.Taken.{Taken}
 use Rattle.oof_box.specs.declared.question.Taken.TheVariants.{Kept, Laid}
 use Rattle.run.specs.declared.Opening.{Opening}
 use Rattle.run.specs.declared.State.{State}
-use Rattle.run.specs.declared.Progress.{Progress}
-use Rattle.run.specs.declared.Progress.TheVariants.{Asking, Finished}
 use Rattle.run.specs.declared.Opened.{Opened}
 use Rattle.run.specs.declared.Counts.{Counts}
 use Rattle.run.specs.declared.Step.{Step}
 use Rattle.run.specs.declared.Answer.{Answer}
-use Rattle.run.specs.declared.Answer.TheVariants.{Ask, Finish, Refused}
+use Rattle.run.specs.declared.Answer.TheVariants.{Ask, Finish}
 use Rattle.run.specs.Call.{Lent, Outcome}
 use Rattle.run.specs.Call as call
 use Rattle.run.specs.Refusals.{Verdict, accepted, ◌when◌else◌, ragged, bad_table, bad_list, bad_slices, other_lengths, bad_lent, lent_by, bad_style, bad_candidate, bad_candidates, list_full, above_lists, wrong_counts}
 use Rattle.run.specs.Run.{box_at_hand, asking, finishing, proceeding, claims_of, container_of, extents_of, opening_verdict, begun, opened, taken_by, reply_verdict, measured_on, laid_out, replied}
-use Rattle.run.specs.Theorems.{asked_at_opening, one_if_asked, is_refused, next}
-use Rattle.run.proofs.Ways.{NextWay, asks, ends, next_way, OpeningWay, begins, opening_way, passed, neither}
+use Rattle.run.specs.Theorems.{asked_at_opening, one_if_asked, next}
+use Rattle.run.proofs.Ways.{NextWay, asks, ends, next_way, OpeningWay, begins, opening_way, passed}
 use Rattle.run.proofs.Questions.{three_questions_a_box}
-use Rattle.placer_check.proofs.Steps.{none_bad}
 use Rattle.placer.proofs.Calls.{none_full}
 use Rattle.placer.proofs.Nodes.{good_below, keep_below}
 use Rattle.script.specs.Script.{scripted_reply, played_on, played, played_out}
@@ -107,12 +106,12 @@ module _ (o : Opening) (candidates : List ℕ) (lent : Lent) where
       let extent = passed _ _ _ (passed _ _ _ e).1 in
       let style = passed _ _ _ extent.1 in
       let candidate = passed _ _ _ style.1 in
-      let full = neither _ _ (passed _ _ _ candidate.1).0 in
+      let full = or_parts _ _ (passed _ _ _ candidate.1).0 in
       let inside = leb-true (0 + length (in_list true)) (length lent.working / candidate_width) (not-false _ full.0) in
       let outside = leb-true (0 + length (in_list false)) (length lent.unclaimed / candidate_width) (not-false _ full.1) in
       let fit : length (in_list true) ≤ length lent.working / candidate_width = omega (arith, inside) in
       record {
-        slices = (neither (bad_slices lent) _ extent.0).0;
+        slices = (or_parts (bad_slices lent) _ extent.0).0;
         style = style.0;
         working = fit;
         unclaimed = omega (arith, outside);
@@ -129,11 +128,16 @@ module _ (o : Opening) (candidates : List ℕ) (lent : Lent) where
 pub record Passes (styles : List ℕ) (x : Outcome) : Type 0 where
   pub finish : is_finish x.step.answer ≡ true
   pub slices : bad_lent x.step.state.opened.extents (call.lent styles x.layouts x.working x.unclaimed) ≡ false
-  pub progress : x.step.state.progress ≡ Finished
+  pub progress : x.step.state.progress ≡ None
   pub counts : above_lists x.working x.unclaimed x.step.state.counts.filled ≡ false
   pub listed : bad_candidate styles x.working x.step.state.counts.filled.working ≡ false
 
 -- ---- between two calls
+
+-- no records are good records
+none_bad : (styles list : List ℕ) → bad_candidate styles list 0 ≡ false
+unfolding bad_candidate good_records every
+none_bad styles list = rw (le-leb 0 (length list / candidate_width) (omega arith)) refl
 
 past : (r : Refusal) {test : Bool} {rest : Verdict} → test ≡ false → rest ≡ accepted → r when test else rest ≡ accepted
 unfolding ◌when◌else◌
@@ -145,9 +149,6 @@ fewer a b c = omega (arith, a, b, c)
 laid_length : (s : State) (overflow : Rect Float) (surfaced : List ℕ) (lent : Lent) → length (laid_out s overflow surfaced lent).layouts ≡ length lent.layouts
 unfolding laid_out
 laid_length s overflow surfaced lent = written_length lent.layouts _ _
-
-neither_of : {a b : Bool} → a ≡ false → b ≡ false → a || b ≡ false
-neither_of d e = rw (d, e) refl
 
 module _ (replies : List ℕ) (o : Opening) (candidates : List ℕ) (lent : Lent) (c : Checked o candidates lent) where
   abbrev working : List ℕ
@@ -219,7 +220,7 @@ module _ (replies : List ℕ) (o : Opening) (candidates : List ℕ) (lent : Lent
           (record { working = fits_working; unclaimed = fits_unclaimed; first = first; begun = begun_few; answered = few })
 
       -- no test turns a reply of the right kind down
-      accepts : (progress : Progress) (kept : Replies) (overflow : Rect Float) (given : Reply)
+      accepts : (progress : Option Stage) (kept : Replies) (overflow : Rect Float) (given : Reply)
           → let s : State = record { progress = progress; replies = kept; counts = counts; overflow = overflow; opened = run } in
           is_none (taken_by s given) ≡ false → reply_verdict s given [] (lending layouts) ≡ accepted
       unfolding reply_verdict
@@ -228,8 +229,8 @@ module _ (replies : List ℕ) (o : Opening) (candidates : List ℕ) (lent : Lent
           let listed : bad_candidate lent.styles working counts.filled.working ≡ false = rw held c.listed in
           let none : bad_candidates lent.styles (lent_by given []) ≡ false = rw (lent_none given) (none_bad lent.styles []) in
           let left : list_full (claims_of o) (lending layouts) counts.filled (lent_by given []) ≡ false = rw (lent_none given) room_left in
-          past _ (neither_of (neither_of slices_good lengths_kept_lem) whole)
-          (past _ (neither_of right counts_good) (past _ c.style (past _ (neither_of listed none) (past _ left refl))))
+          past _ (or_from _ _ (or_from _ _ slices_good lengths_kept_lem) whole)
+          (past _ (or_from _ _ right counts_good) (past _ c.style (past _ (or_from _ _ listed none) (past _ left refl))))
 
   -- a question is open, asked by the words of the opening and by what was replied to the box at hand
   record Going (x : Outcome) : Type 0 where
@@ -267,7 +268,7 @@ module _ (replies : List ℕ) (o : Opening) (candidates : List ℕ) (lent : Lent
       let long = lengths x.layouts e.layouts in
       record {
         finish = ended_finish x e;
-        slices = rw (e.step, e.lists.0, e.lists.1) (neither_of (slices_good x.layouts e.layouts) (lengths_kept_lem x.layouts e.layouts));
+        slices = rw (e.step, e.lists.0, e.lists.1) (or_from _ _ (slices_good x.layouts e.layouts) (lengths_kept_lem x.layouts e.layouts));
         progress = ap (λ (s : Step). s.state.progress) e.step;
         counts =
             rw (
@@ -322,7 +323,7 @@ module _ (replies : List ℕ) (o : Opening) (candidates : List ℕ) (lent : Lent
     asked = asked_after run.container (style_at lent.styles box.node) box g.kept
 
     abbrev state : State
-    state = record { progress = Asking asked.stage; replies = g.kept; counts = g.counts; overflow = g.overflow; opened = run }
+    state = record { progress = Some asked.stage; replies = g.kept; counts = g.counts; overflow = g.overflow; opened = run }
 
     abbrev given : Reply
     given = scripted_reply replies asked.question
@@ -342,7 +343,7 @@ module _ (replies : List ℕ) (o : Opening) (candidates : List ℕ) (lent : Lent
     right = asked_fits replies run.container (style_at lent.styles box.node) box g.kept g.kept
 
     verdict : reply_verdict state given [] (lending x.layouts) ≡ accepted
-    verdict = accepts x.layouts g.layouts g.counts g.held g.first g.most few (Asking asked.stage) g.kept g.overflow given right
+    verdict = accepts x.layouts g.layouts g.counts g.held g.first g.most few (Some asked.stage) g.kept g.overflow given right
 
     reached : open_in played_on_lem ≡ 1 → Reached (asked_at_opening o candidates lent) played_on_lem (g.counts.answered + 1 + 1)
     unfolding asking
@@ -391,10 +392,10 @@ module _ (replies : List ℕ) (o : Opening) (candidates : List ℕ) (lent : Lent
   finish_stays : (x : Outcome) → is_finish x.step.answer ≡ true → open_in x ≡ 0
   finish_stays x e = go x.step.answer e
     where
-      go : (a : Answer) → is_finish a ≡ true → one_if_asked a ≡ 0
-      go (Ask q) e = no e refl
-      go (Finish f) e = refl
-      go (Refused r) e = no e refl
+      go : (a : Result Answer Refusal) → is_finish a ≡ true → one_if_asked a ≡ 0
+      go (Ok (Ask q)) e = no e refl
+      go (Ok (Finish f)) e = refl
+      go (Err r) e = no e refl
 
   alive : (n : ℕ) (x : Outcome) → Alive x → Alive (played n replies lent.styles x)
   unfolding played
@@ -412,13 +413,13 @@ module _ (replies : List ℕ) (o : Opening) (candidates : List ℕ) (lent : Lent
 
 -- ---- a run that is opened finishes
 
-pub opened_passes : (o : Opening) (replies candidates : List ℕ) (lent : Lent) → is_refused (opened o candidates lent).step.answer ≡ false
+pub opened_passes : (o : Opening) (replies candidates : List ℕ) (lent : Lent) → is_err (opened o candidates lent).step.answer ≡ false
     → Passes lent.styles (played_out o replies candidates lent)
 unfolding played_out asking
 opened_passes o replies candidates lent e = go (opening_way o candidates lent)
   where
     go : OpeningWay o candidates lent → Passes lent.styles (played_out o replies candidates lent)
-    go (OpeningWay.turned_down r d) = no (ap (λ (x : Outcome). is_refused x.step.answer) d) e
+    go (OpeningWay.turned_down r d) = no (ap (λ (x : Outcome). is_err x.step.answer) d) e
     go (begins v d) = at_end (alive replies o candidates lent c _ (opened o candidates lent) (opened_alive replies o candidates lent c d))
       where
         c : Checked o candidates lent

@@ -2,38 +2,14 @@
 use Prim.Native.Nat.{ℕ, suc, ◌+◌, ◌-◌, ◌*◌, ◌/◌, ◌<◌, ◌≤◌}
 use native.Mathlib.Omega.{arith}
 use mathlib.Core.Path.{◌≡◌, refl, sym, ap, ◌∙◌}
-use mathlib.Core.List.{List, []}
+use mathlib.Core.List.{List}
 use lib.ListN.{length}
-use Rattle.oof_box.specs.declared.question.Question.{Question}
-use Rattle.oof_box.specs.declared.question.Reply.{Reply}
-use Rattle.refusal.specs.declared.Refusal.{Refusal}
-use Rattle.run.specs.declared.Answer.TheVariants.{Ask, Finish, Refused}
-use Rattle.run.specs.declared.Finish.{Finish as FinishOf}
 use Rattle.run.specs.declared.Opening.{Opening}
 use Rattle.run.specs.declared.Step.{Step}
 use Rattle.run.specs.Call.{Outcome, lent, outcome}
-use Rattle.run.specs.Run.{opened, replied}
-use Rattle.run.specs.Theorems.{next}
+use Rattle.run.specs.Run.{opened}
 use Rattle.tree_record.specs.Candidate.{candidate_width}
-use Rattle.script.specs.Script.{scripted_reply, played_on, played, played_out}
-
--- ---- one reply
-
-module _ (replies styles : List ℕ) (s : Step) (l w u : List ℕ) where
-  pub asked : {q : Question} {given : Reply} {surfaced : List ℕ} {r : Step} {l' w' u' : List ℕ}
-      → s.answer ≡ Ask q → given ≡ scripted_reply replies q → surfaced ≡ []
-      → outcome r l' w' u' ≡ replied s.state given surfaced (lent styles l w u)
-      → outcome r l' w' u' ≡ played_on replies styles (outcome s l w u)
-  unfolding played_on next
-  asked e given none p = rw (e, ← given, ← none) p
-
-  pub finished : {f : FinishOf} → s.answer ≡ Finish f → outcome s l w u ≡ played_on replies styles (outcome s l w u)
-  unfolding played_on
-  finished e = rw e refl
-
-  pub refused : {r : Refusal} → s.answer ≡ Refused r → outcome s l w u ≡ played_on replies styles (outcome s l w u)
-  unfolding played_on
-  refused e = rw e refl
+use Rattle.script.specs.Script.{played_on, played, played_out}
 
 -- ---- the loop
 

@@ -1,6 +1,6 @@
 -- A run played out with scripted replies (document 01, "Program boxlist": an item line has "measured width and height, overflow left
 -- right top bottom. .. No box surfaces any"). Read `played_out`, the last one, first. Assumes nothing.
-use Rattle.std.specs.Prelude.{ℕ, zero, suc, ◌+◌, ◌*◌, ◌/◌, List, [], length, Float}
+use Rattle.std.specs.Prelude.{ℕ, zero, suc, ◌+◌, ◌*◌, ◌/◌, List, [], length, Float, Result, Ok, Err}
 use Rattle.geometry.specs.declared.Rect.{Rect}
 use Rattle.geometry.specs.declared.Size.{Size}
 use Rattle.records.specs.Records.{float_at}
@@ -10,9 +10,10 @@ use Rattle.oof_box.specs.declared.question.Question.{Question}
 use Rattle.oof_box.specs.declared.question.Question.TheVariants.{MeasureBoth, MeasureWidth, MeasureHeight, LayOut}
 use Rattle.oof_box.specs.declared.question.Reply.{Reply}
 use Rattle.oof_box.specs.declared.question.Reply.TheVariants.{Both, Width, Height, LaidOut}
+use Rattle.refusal.specs.declared.Refusal.{Refusal}
 use Rattle.run.specs.declared.Opening.{Opening}
 use Rattle.run.specs.declared.Answer.{Answer}
-use Rattle.run.specs.declared.Answer.TheVariants.{Ask, Finish, Refused}
+use Rattle.run.specs.declared.Answer.TheVariants.{Ask, Finish}
 use Rattle.run.specs.Call.{Lent, Outcome}
 use Rattle.run.specs.Run.{opened}
 use Rattle.run.specs.Theorems.{next}
@@ -39,10 +40,10 @@ scripted_reply replies (LayOut q) = LaidOut (scripted_overflow replies q.node)
 
 -- ---- a run
 
-abbrev pub played_by : Answer → List ℕ → List ℕ → Outcome → Outcome
-played_by (Ask q) replies styles o = next styles o (record { reply = scripted_reply replies q; surfaced = [] })
-played_by (Finish f) replies styles o = o
-played_by (Refused r) replies styles o = o
+abbrev pub played_by : Result Answer Refusal → List ℕ → List ℕ → Outcome → Outcome
+played_by (Ok (Ask q)) replies styles o = next styles o (record { reply = scripted_reply replies q; surfaced = [] })
+played_by (Ok (Finish f)) replies styles o = o
+played_by (Err r) replies styles o = o
 
 -- the open question is given its scripted reply, with no surfaced record; a finish or a refusal stays
 unfoldable pub played_on : List ℕ → List ℕ → Outcome → Outcome

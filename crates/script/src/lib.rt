@@ -17,7 +17,8 @@ use util::bits;
 // At most two questions to measure a box, then one to lay it out.
 const QUESTIONS: usize = 3;
 
-// The float of word k of a node's replies; 0 beyond their end.
+// The float of word k of a node's replies; 0 beyond their end, as the definition reads them: each question gets a reply, also one of a node
+// whose record is not whole or not there.
 #[tactic(auto, unfolding(crate::specs::Script::scripted))]
 fn scripted(replies: &[u32], node: u32, k: usize) -> f32
     requires { k < reply_width }
@@ -27,6 +28,7 @@ fn scripted(replies: &[u32], node: u32, k: usize) -> f32
     bits::from_word(word.copied().unwrap_or(0))
 }
 
+// Document 01 names these words in a screen's item line, here and below.
 fn scripted_size(replies: &[u32], node: u32) -> Size<f32>
     ensures { result ≡ scripted_size replies.now node }
 {
@@ -60,6 +62,7 @@ fn scripted_reply(replies: &[u32], question: Question) -> Reply
 }
 
 // Gives the open question its scripted reply; a finish or a refusal stays.
+#[tactic(auto, unfolding(crate::specs::Script::played_on, run::specs::Theorems::next))]
 fn play_on(
     step: Step,
     replies: &[u32],
@@ -70,21 +73,11 @@ fn play_on(
 ) -> Step
     ensures { outcome result layouts.new working.new unclaimed.new ≡ played_on replies.now styles.now (outcome step layouts.old working.old unclaimed.old) }
 {
-    let state = step.state;
-    let answer = step.answer;
-    match answer {
-        Answer::Ask(question) => placer::reply(
-            state,
-            scripted_reply(replies, question),
-            &[],
-            styles,
-            layouts,
-            working,
-            unclaimed,
-        ),
-        Answer::Finish(_) => step,
-        Answer::Refused(_) => step,
+    if let Ok(Answer::Ask(question)) = step.answer {
+        let reply = scripted_reply(replies, question);
+        return placer::reply(step.state, reply, &[], styles, layouts, working, unclaimed);
     }
+    step
 }
 
 // Opens a run and plays it out.

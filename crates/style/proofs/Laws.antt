@@ -4,9 +4,10 @@ use native.Mathlib.Omega.{arith}
 use native.Mathlib.Nat.{mul-zero, mul-one}
 use mathlib.Core.Path.{◌≡◌, refl, sym, ap, ◌∙◌}
 use mathlib.Core.Bool.{Bool, true, false, cond, ◌||◌}
-use lib.Dec.{eqb}
+use lib.Dec.{eqb, lit<}
 use lib.Ieee.{Float}
 use borrow.Author.Tests.{eqb-true, ne_eqb}
+use Rattle.std.proofs.lemmas.Nat.{mod_below}
 use Rattle.style.specs.declared.resolve.Field.{Field}
 use Rattle.style.specs.declared.resolve.Field.TheVariants as field
 use Rattle.style.specs.declared.resolve.Resolved.{Resolved}
@@ -191,12 +192,9 @@ weight v (suc (suc m)) h = absurd (omega (arith, h))
 two_digits : (n : ℕ) → 1 * (n % 2) + 2 * (n / 2 % 2) ≡ n % 4
 two_digits n = omega arith
 
-digit : (n : ℕ) → n % 2 < 2
-digit n = omega arith
-
 bits_back : (n : ℕ) → bits_code (bit0 n) (bit1 n) ≡ n % 4
 unfolding bits_code
-bits_back n = rw (weight 1 (n % 2) (digit n), weight 2 (n / 2 % 2) (digit (n / 2))) (two_digits n)
+bits_back n = rw (weight 1 (n % 2) (mod_below n 2 (lit< tt)), weight 2 (n / 2 % 2) (mod_below (n / 2) 2 (lit< tt))) (two_digits n)
 
 pub bits_codes : BitsCodes
 bits_codes = (bits_there, bits_back)

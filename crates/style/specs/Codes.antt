@@ -2,10 +2,13 @@
 -- its list is refused before it is read; here it is read as the list's last. Flags, claims and containment are no codes but two bits, and of
 -- containment, 0 to 255, the other bits say nothing. Assumes nothing.
 use Rattle.std.specs.Prelude.{ℕ, ◌+◌, ◌/◌, ◌%◌, Bool, cond, eqb}
+use Rattle.style.specs.declared.Position.{Position}
+use Rattle.style.specs.declared.Position.TheVariants as position
 use Rattle.style.specs.declared.BoxSizing.{BoxSizing}
 use Rattle.style.specs.declared.BoxSizing.TheVariants.{BorderBox, ContentBox}
 use Rattle.style.specs.declared.Overflow.{Overflow}
 use Rattle.style.specs.declared.Overflow.TheVariants.{Visible, Clip, Hidden, Scroll}
+use Rattle.style.specs.declared.ContainingBlockClaims.{ContainingBlockClaims}
 use Rattle.style.specs.declared.Contain.{Contain}
 use Rattle.style.specs.declared.Direction.{Direction}
 use Rattle.style.specs.declared.Direction.TheVariants.{Ltr, Rtl}
@@ -16,6 +19,13 @@ use Rattle.style.specs.declared.alignment.AlignmentSafety.TheVariants.{Default, 
 use Rattle.style.specs.declared.alignment.AlignItems.{AlignItems}
 
 -- ---- the codes
+
+unfoldable pub position_code : Position → ℕ
+position_code position.Static = 0
+position_code position.Relative = 1
+position_code position.Absolute = 2
+position_code position.Fixed = 3
+position_code position.Sticky = 4
 
 unfoldable pub sizing_code : BoxSizing → ℕ
 sizing_code BorderBox = 0
@@ -54,6 +64,13 @@ bits_code low high = cond low 1 0 + cond high 2 0
 
 -- ---- and back
 
+unfoldable pub position_of : ℕ → Position
+position_of n =
+    cond (eqb n 0) position.Static
+    (cond (eqb n 1) position.Relative
+    (cond (eqb n 2) position.Absolute
+    (cond (eqb n 3) position.Fixed position.Sticky)))
+
 unfoldable pub sizing_of : ℕ → BoxSizing
 sizing_of n = cond (eqb n 0) BorderBox ContentBox
 
@@ -88,6 +105,10 @@ bit0 w = eqb (w % 2) 1
 
 abbrev pub bit1 : ℕ → Bool
 bit1 w = eqb (w / 2 % 2) 1
+
+-- the claims of an opening: bit 0 absolute, bit 1 fixed
+abbrev pub claims_in : ℕ → ContainingBlockClaims
+claims_in code = record { absolute = bit0 code; fixed = bit1 code }
 
 -- bit 0 layout, bit 1 paint
 unfoldable pub contain_of : ℕ → Contain

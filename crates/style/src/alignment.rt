@@ -1,6 +1,6 @@
 // style/alignment.rs: self-alignment.
 ghost use Rattle.std.specs.Prelude.{◌≡◌};
-ghost use Rattle.style.specs.Codes.{keyword_of, safety_of, alignment_of};
+ghost use Rattle.style.specs.Codes.{keyword_of, safety_of, safety_code, alignment_of};
 ghost use Rattle.style.specs.Values.{keyword_relative, self_relative};
 
 use crate::Direction;
@@ -67,6 +67,15 @@ impl From<u32> for AlignmentSafety {
     }
 }
 
+// Its code.
+impl From<AlignmentSafety> for u32 {
+    ghost from_gives = { λ safety code. code ≡ safety_code safety };
+
+    fn from(safety: AlignmentSafety) -> u32 {
+        safety as u32
+    }
+}
+
 // Self-start and self-end by the containing block's start and end: exchanged where flipped.
 fn keyword_relative(keyword: AlignItemsKeyword, flipped: bool) -> AlignItemsKeyword
     ensures { result ≡ keyword_relative keyword flipped }
@@ -82,6 +91,7 @@ fn keyword_relative(keyword: AlignItemsKeyword, flipped: bool) -> AlignItemsKeyw
 
 impl AlignItems {
     // The two codes of a record. Keyword 10 is absent: normal, and the safety isn't read.
+    // No `From`: it would take a bare pair of words.
     pub fn from_codes(keyword: u32, safety: u32) -> AlignItems
         ensures { result ≡ alignment_of keyword safety }
     {
@@ -99,6 +109,7 @@ impl AlignItems {
 
     // Self-start and self-end resolved against the containing block: they change places in the inline axis where the
     // two directions differ.
+    // `inline` says which axis it is, as in the Rust, and no step: it is one part of the test.
     pub fn resolve_self_relative(
         self,
         item: Direction,
@@ -109,7 +120,7 @@ impl AlignItems {
     {
         AlignItems {
             keyword: keyword_relative(self.keyword, inline && item != container),
-            safety: self.safety,
+            ..self
         }
     }
 }

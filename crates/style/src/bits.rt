@@ -1,4 +1,5 @@
 // The two low bits of a word.
+// Two functions: no record reads a third bit, and one of both would ask its caller for a place below 32.
 ghost use Rattle.std.specs.Prelude.{◌≡◌};
 ghost use Rattle.style.specs.Codes.{bit0, bit1};
 

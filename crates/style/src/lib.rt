@@ -1,8 +1,8 @@
 // style/mod.rs: the style of an out-of-flow box, as far as its placement reads it.
-#![tactic(auto, unfolding(crate::specs::Codes::sizing_of, crate::specs::Codes::overflow_of, crate::specs::Codes::direction_of, crate::specs::Codes::safety_of, crate::specs::Codes::keyword_of, crate::specs::Codes::alignment_of, crate::specs::Codes::contain_of, crate::specs::Values::self_relative, crate::specs::Values::clamped_space, crate::specs::Values::definite_spaces, crate::specs::Resolve::by_tag, crate::specs::Resolve::resolved, crate::specs::Resolve::takes, crate::specs::Resolve::maybe_resolved, crate::specs::Resolve::resolved_rect, crate::specs::Resolve::resolved_size))]
+#![tactic(auto, unfolding(crate::specs::Codes::position_of, crate::specs::Codes::position_code, crate::specs::Codes::safety_code, crate::specs::Codes::overflow_code, crate::specs::Codes::direction_code, crate::specs::Codes::sizing_of, crate::specs::Codes::overflow_of, crate::specs::Codes::direction_of, crate::specs::Codes::safety_of, crate::specs::Codes::keyword_of, crate::specs::Codes::alignment_of, crate::specs::Codes::contain_of, crate::specs::Values::self_relative, crate::specs::Values::clamped_space, crate::specs::Values::definite_spaces, crate::specs::Resolve::by_tag, crate::specs::Resolve::resolved, crate::specs::Resolve::takes, crate::specs::Resolve::maybe_resolved, crate::specs::Resolve::resolved_rect, crate::specs::Resolve::resolved_size))]
 
 ghost use Rattle.std.specs.Prelude.{◌≡◌};
-ghost use Rattle.style.specs.Codes.{sizing_of, overflow_of, direction_of, contain_of};
+ghost use Rattle.style.specs.Codes.{position_of, position_code, sizing_of, overflow_of, overflow_code, direction_of, direction_code, claims_in, contain_of};
 ghost use Rattle.style.specs.Values.{claims, is_scroll_container, any_scroll_container, contains_overflow, is_rtl};
 
 use crate::alignment::AlignItems;
@@ -24,11 +24,47 @@ pub enum Position {
     Sticky,
 }
 
+// The code of a record: 0 to 4 in the order above.
+impl From<u32> for Position {
+    ghost from_gives = { λ code r. r ≡ position_of code };
+
+    fn from(code: u32) -> Position {
+        match code {
+            0 => Position::Static,
+            1 => Position::Relative,
+            2 => Position::Absolute,
+            3 => Position::Fixed,
+            _ => Position::Sticky,
+        }
+    }
+}
+
+// Its code.
+impl From<Position> for u32 {
+    ghost from_gives = { λ position code. code ≡ position_code position };
+
+    fn from(position: Position) -> u32 {
+        position as u32
+    }
+}
+
 // Which out-of-flow positions a box is the containing block of.
-#[derive(Clone, Copy)]
+#[derive(Clone, Copy, Default)]
 pub struct ContainingBlockClaims {
     pub absolute: bool,
     pub fixed: bool,
+}
+
+// The word of an opening: bit 0 absolute, bit 1 fixed.
+impl From<u32> for ContainingBlockClaims {
+    ghost from_gives = { λ code r. r ≡ claims_in code };
+
+    fn from(code: u32) -> ContainingBlockClaims {
+        ContainingBlockClaims {
+            absolute: bits::bit0(code),
+            fixed: bits::bit1(code),
+        }
+    }
 }
 
 impl ContainingBlockClaims {
@@ -62,8 +98,9 @@ impl From<u32> for BoxSizing {
     }
 }
 
-#[derive(Clone, Copy, PartialEq, Eq)]
+#[derive(Clone, Copy, PartialEq, Eq, Default)]
 pub enum Overflow {
+    #[default]
     Visible,
     Clip,
     Hidden,
@@ -84,6 +121,15 @@ impl From<u32> for Overflow {
     }
 }
 
+// Its code.
+impl From<Overflow> for u32 {
+    ghost from_gives = { λ overflow code. code ≡ overflow_code overflow };
+
+    fn from(overflow: Overflow) -> u32 {
+        overflow as u32
+    }
+}
+
 impl Overflow {
     pub fn is_scroll_container(self) -> bool
         ensures { result ≡ is_scroll_container self }
@@ -92,7 +138,7 @@ impl Overflow {
     }
 }
 
-// Whether either axis makes a scroll container.
+// Whether either axis makes a scroll container. Two make one bool, which no map does.
 pub fn any_scroll_container(overflow: Point<Overflow>) -> bool
     ensures { result ≡ any_scroll_container overflow }
 {
@@ -100,7 +146,7 @@ pub fn any_scroll_container(overflow: Point<Overflow>) -> bool
 }
 
 // Layout and paint containment; the other bits of the record's word are not read.
-#[derive(Clone, Copy)]
+#[derive(Clone, Copy, Default)]
 pub struct Contain {
     pub layout: bool,
     pub paint: bool,
@@ -126,8 +172,9 @@ impl Contain {
     }
 }
 
-#[derive(Clone, Copy, PartialEq, Eq)]
+#[derive(Clone, Copy, PartialEq, Eq, Default)]
 pub enum Direction {
+    #[default]
     Ltr,
     Rtl,
 }
@@ -141,6 +188,15 @@ impl From<u32> for Direction {
             0 => Direction::Ltr,
             _ => Direction::Rtl,
         }
+    }
+}
+
+// Its code.
+impl From<Direction> for u32 {
+    ghost from_gives = { λ direction code. code ≡ direction_code direction };
+
+    fn from(direction: Direction) -> u32 {
+        direction as u32
     }
 }
 

@@ -25,6 +25,8 @@ pub enum SizingKeyword {
     Stretch,
 }
 
+// What a length comes to.
+// One enum of four cases: as a `Result<Option<..>, ..>` of a number or a keyword, each match of it would go three deep.
 #[derive(Clone, Copy, PartialEq)]
 pub enum Resolved {
     NotAllowed,
@@ -52,6 +54,7 @@ impl Resolved {
     }
 
     // The number of pixels, if it comes to one.
+    // A method: `Option::from` wouldn't say that a keyword is dropped.
     pub fn value(self) -> Option<f32>
         ensures { result ≡ value_of self }
     {
@@ -86,6 +89,7 @@ impl Field {
 }
 
 // The tags that only sizes take, in the size: content is auto, the others are sizing keywords.
+// The match is on the tag's number and by the field as an argument, here and below: document 01 has that form ("match on the tag number").
 fn in_size(length: CompactLength, basis: f32) -> Resolved
     ensures { result ≡ in_size length.tag length.value basis }
 {
@@ -117,11 +121,12 @@ pub fn resolve(field: Field, length: CompactLength, basis: f32) -> Resolved
 
 impl Field {
     // Whether the field takes a tag, that is whether `resolve` allows it, whatever the values and the basis.
+    // The tag is a number, as in `CompactLength`.
     pub fn takes(self, tag: u32) -> bool
         ensures { result ≡ takes self tag }
     {
         let length = CompactLength {
-            tag: tag,
+            tag,
             value: 0.0,
             second: 0.0,
         };
@@ -136,21 +141,15 @@ pub fn maybe_resolve(field: Field, length: CompactLength, basis: f32) -> Option<
     resolve(field, length, basis).value()
 }
 
-// Four sides: left and right against one basis, top and bottom against another.
+// Four sides: left and right against the width, top and bottom against the height.
 pub fn maybe_resolve_rect(
     field: Field,
     sides: Rect<CompactLength>,
-    basisx: f32,
-    basisy: f32,
+    basis: Size<f32>,
 ) -> Rect<Option<f32>>
-    ensures { result ≡ resolved_rect field sides basisx basisy }
+    ensures { result ≡ resolved_rect field sides basis.width basis.height }
 {
-    Rect {
-        left: maybe_resolve(field, sides.left, basisx),
-        right: maybe_resolve(field, sides.right, basisx),
-        top: maybe_resolve(field, sides.top, basisy),
-        bottom: maybe_resolve(field, sides.bottom, basisy),
-    }
+    sides.zip_size(basis, |length, basis| maybe_resolve(field, length, basis))
 }
 
 // Width and height, each against its own basis.
@@ -161,8 +160,5 @@ pub fn maybe_resolve_size(
 ) -> Size<Option<f32>>
     ensures { result ≡ resolved_size field size basis }
 {
-    Size {
-        width: maybe_resolve(field, size.width, basis.width),
-        height: maybe_resolve(field, size.height, basis.height),
-    }
+    size.zip_map(basis, |length, basis| maybe_resolve(field, length, basis))
 }

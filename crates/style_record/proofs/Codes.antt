@@ -3,8 +3,8 @@ use Prim.Native.Nat.{ℕ, ◌+◌, ◌-◌, ◌<◌, ◌≤◌}
 use native.Mathlib.Omega.{arith}
 use native.Mathlib.Nat.{eq-or-lt_of_le}
 use mathlib.Core.Logic.{⊎_elim}
-use mathlib.Core.Path.{◌≡◌, refl, subst}
-use mathlib.Core.Bool.{Bool, true, false, cond, not, ◌&&◌}
+use mathlib.Core.Path.{◌≡◌, refl, sym, subst}
+use mathlib.Core.Bool.{Bool, true, false, cond, not, ◌&&◌, and-true}
 use lib.Dec.{eqb, ltb}
 use borrow.Author.Tests.{le-ltb}
 use Rattle.style_record.specs.Record.{Kind, tag, number, up_to, ratio, keyword, safety, contain, kind_of, code_kinds, after_lengths, style_words}
@@ -45,10 +45,6 @@ module _ (P : ℕ → Type 0) (k : ℕ) where
 
 -- ---- a word up to the last code, and one above it
 
-alone : (b : Bool) → b ≡ b && true
-alone true = refl
-alone false = refl
-
 -- no tag stands after the lengths
 abbrev IsCode : Kind → Type 0
 IsCode (tag f) = ⊥
@@ -67,9 +63,9 @@ by_last : (kind : Kind) (before w : ℕ) → IsCode kind → w < 4294967296 → 
 unfolding breaks_as last_code is_ignored safety_breaks
 by_last (tag f) before w none p = absurd none
 by_last number before w _ p = rw (le-ltb 4294967295 w (omega (arith, p))) refl
-by_last (up_to last) before w _ p = alone (ltb last w)
+by_last (up_to last) before w _ p = sym (and-true (ltb last w))
 by_last ratio before w _ p = rw (le-ltb 4294967295 w (omega (arith, p))) refl
-by_last keyword before w _ p = alone (ltb 10 w)
+by_last keyword before w _ p = sym (and-true (ltb 10 w))
 by_last safety before w _ p = excused (eqb before 10) (ltb 2 w)
   where
     excused : (absent above : Bool) → cond absent false above ≡ above && not absent
@@ -77,7 +73,7 @@ by_last safety before w _ p = excused (eqb before 10) (ltb 2 w)
     excused true false = refl
     excused false true = refl
     excused false false = refl
-by_last contain before w _ p = alone (ltb 255 w)
+by_last contain before w _ p = sym (and-true (ltb 255 w))
 
 pub codes_by_the_last : CodesByTheLast
 codes_by_the_last k before w from below p = by_last (kind_of k) before w (codes k from below) p

@@ -14,28 +14,7 @@ use Rattle.std.specs.Prelude.{Option, None, Some, Result, Ok, ⊤}
 
 -- a number of a stretch is its first, or one of the rest
 here_or_later : (k j : ℕ) → k ≤ j → (k ≡ j) ⊎ (k + 1 ≤ j)
-here_or_later k j p = ⊎_elim (λ e. inl e) (λ q. inr (later k j q)) (eq-or-lt_of_le p)
-  where
-    later : (k j : ℕ) → k < j → k + 1 ≤ j
-    later k j q = omega arith
-
-none_there : (k j : ℕ) → k ≤ j → j < k + 0 → ⊥
-none_there k j p q = omega arith
-
-rest_of : (k n j : ℕ) → j < k + suc n → j < k + 1 + n
-rest_of k n j p = omega arith
-
-within : (k n j : ℕ) → j < k + 1 + n → j < k + suc n
-within k n j p = omega arith
-
-starts : (k n : ℕ) → k < k + suc n
-starts k n = omega arith
-
-not_before : (k j : ℕ) → k ≤ j → j < k → ⊥
-not_before k j p q = omega arith
-
-sooner : (k j : ℕ) → k + 1 ≤ j → k ≤ j
-sooner k j p = omega arith
+here_or_later k j p = ⊎_elim (λ e. inl e) (λ q. inr (omega arith)) (eq-or-lt_of_le p)
 
 -- ---- the n words of a record from word k on
 
@@ -45,17 +24,17 @@ data Words (r : ℕ → ℕ) (n k : ℕ) : Option ℕ → Type 0 where
 
 -- one more in front that breaks no rule
 in_front : (r : ℕ → ℕ) (n k : ℕ) (c : Option ℕ) → breaks_rule r k ≡ false → Words r n (k + 1) c → Words r (suc n) k c
-in_front r n k _ e (none a) = none (λ j p q. ⊎_elim (λ (i : k ≡ j). subst (λ (x : ℕ). breaks_rule r x ≡ false) i e) (λ l. a j l (rest_of k n j q)) (here_or_later k j p))
+in_front r n k _ e (none a) = none (λ j p q. ⊎_elim (λ (i : k ≡ j). subst (λ (x : ℕ). breaks_rule r x ≡ false) i e) (λ l. a j l (omega arith)) (here_or_later k j p))
 in_front r n k _ e (first w p q b a) =
-    first w (sooner k w p) (within k n w q) b (λ j s t. ⊎_elim (λ (i : k ≡ j). subst (λ (x : ℕ). breaks_rule r x ≡ false) i e) (λ l. a j l t) (here_or_later k j s))
+    first w (omega arith) (omega arith) b (λ j s t. ⊎_elim (λ (i : k ≡ j). subst (λ (x : ℕ). breaks_rule r x ≡ false) i e) (λ l. a j l t) (here_or_later k j s))
 
 words_of : (r : ℕ → ℕ) (n k : ℕ) → Words r n k (first_from r n k)
 unfolding first_from
-words_of r zero k = none (λ j p q. absurd (none_there k j p q))
+words_of r zero k = none (λ j p q. absurd (omega arith))
 words_of r (suc n) k = go (breaks_rule r k) refl (words_of r n (k + 1))
   where
     go : (b : Bool) → breaks_rule r k ≡ b → Words r n (k + 1) (first_from r n (k + 1)) → Words r (suc n) k (cond b (Some k) (first_from r n (k + 1)))
-    go true e v = first k (omega arith) (starts k n) e (λ j p q. absurd (not_before k j p q))
+    go true e v = first k (omega arith) (omega arith) e (λ j p q. absurd (omega arith))
     go false e v = in_front r n k (first_from r n (k + 1)) e v
 
 -- ---- an item
@@ -82,18 +61,18 @@ data Items (s : List ℕ) (n i : ℕ) : Result ⊤ BadWord → Type 0 where
       → Items s n i (bad_at h k)
 
 good_in_front : (s : List ℕ) (n i : ℕ) (c : Result ⊤ BadWord) → AllGood s i → Items s n (i + 1) c → Items s (suc n) i c
-good_in_front s n i _ e (none a) = none (λ h p q. ⊎_elim (λ (x : i ≡ h). subst (AllGood s) x e) (λ l. a h l (rest_of i n h q)) (here_or_later i h p))
+good_in_front s n i _ e (none a) = none (λ h p q. ⊎_elim (λ (x : i ≡ h). subst (AllGood s) x e) (λ l. a h l (omega arith)) (here_or_later i h p))
 good_in_front s n i _ e (first h k p q t b w a) =
-    first h k (sooner i h p) (within i n h q) t b w (λ g u v. ⊎_elim (λ (x : i ≡ g). subst (AllGood s) x e) (λ l. a g l v) (here_or_later i g u))
+    first h k (omega arith) (omega arith) t b w (λ g u v. ⊎_elim (λ (x : i ≡ g). subst (AllGood s) x e) (λ l. a g l v) (here_or_later i g u))
 
 items_of : (s : List ℕ) (n i : ℕ) → Items s n i (checked_from s n i)
 unfolding checked_from or_rest
-items_of s zero i = none (λ h p q. absurd (none_there i h p q))
+items_of s zero i = none (λ h p q. absurd (omega arith))
 items_of s (suc n) i = go (first_broken s i) (item_is s i) (items_of s n (i + 1))
   where
     go : (c : Option ℕ) → ItemIs s i c → Items s n (i + 1) (checked_from s n (i + 1)) → Items s (suc n) i (or_rest i c (checked_from s n (i + 1)))
     go _ (item_good a) v = good_in_front s n i (checked_from s n (i + 1)) a v
-    go _ (item_bad k t b w) v = first i k (omega arith) (starts i n) t b w (λ g u v. absurd (not_before i g u v))
+    go _ (item_bad k t b w) v = first i k (omega arith) (omega arith) t b w (λ g u v. absurd (omega arith))
 
 -- ---- a table
 

@@ -9,6 +9,7 @@ use lib.Dec.{ltb}
 use lib.ListN.{get_or, length, length-append, get_or-append}
 use lib.Seq.{get_or-append-add}
 use borrow.Author.Tests.{ltb-true, ltb-false}
+use Rattle.std.proofs.lemmas.Bool.{cases_order}
 use Rattle.util.proofs.Floats.{no}
 use Rattle.style_record.specs.Record.{style_words, item, items}
 use Rattle.style_record.specs.Check.{breaks_rule, breaks, checked}
@@ -16,10 +17,10 @@ use Rattle.style_record.specs.Laws.{AllGood, NoneBreaks, First, FirstItemWins, F
 use Rattle.style_record.specs.declared.check.BadWord.{BadWord}
 use Rattle.std.specs.Prelude.{Result, Ok, Err, ⊤}
 use Rattle.style_record.proofs.First.{TableIs, good, bad, table_is}
-use Rattle.style_record.proofs.Laws.{order, good_is_none, bad_is_first}
+use Rattle.style_record.proofs.Laws.{good_is_none, bad_is_first}
 
 pub first_item_wins : FirstItemWins
-first_item_wins s i k j l e there inside breaking = ⊎_elim inl (λ q. ⊎_elim same (λ p. no breaking (f.items_before j p l inside)) q) (order i j)
+first_item_wins s i k j l e there inside breaking = ⊎_elim same (λ q. ⊎_elim inl (λ p. no breaking (f.items_before j p l inside)) q) (cases_order i j)
   where
     f : First s i k
     f = (bad_is_first s i k).0 e

@@ -1,12 +1,9 @@
 -- The laws of `specs/Laws.antt`. Assumes nothing.
-use Prim.Native.Nat.{ℕ, ◌<◌}
-use native.Mathlib.Nat.{eq-or-lt_of_le}
-use mathlib.Core.Logic.{◌⊎◌, inl, inr, ⊎_elim}
+use Prim.Native.Nat.{ℕ}
+use mathlib.Core.Logic.{⊎_elim}
 use mathlib.Core.Path.{◌≡◌, refl, subst}
-use mathlib.Core.Bool.{Bool, true, false}
 use mathlib.Core.List.{List}
-use lib.Dec.{leb}
-use borrow.Author.Tests.{leb-true, leb-false}
+use Rattle.std.proofs.lemmas.Bool.{cases_order}
 use Rattle.util.proofs.Floats.{no}
 use Rattle.style_record.specs.Record.{length_kinds, code_kinds, item}
 use Rattle.style_record.specs.Check.{breaks, first_broken, bad_at, checked}
@@ -48,25 +45,18 @@ good_is_none s = (λ e. there (checked s) (table_is s) e, λ a. back (checked s)
     back _ (good a) n = refl
     back _ (bad i k f) n = no f.breaks_it (n i f.item_there k f.word_there)
 
-pub order : (a b : ℕ) → (a < b) ⊎ ((a ≡ b) ⊎ (b < a))
-order a b = go (leb a b) refl
-  where
-    go : (x : Bool) → leb a b ≡ x → (a < b) ⊎ ((a ≡ b) ⊎ (b < a))
-    go true e = ⊎_elim (λ (p : a ≡ b). inr (inl p)) (λ p. inl p) (eq-or-lt_of_le (leb-true a b e))
-    go false e = inr (inr (leb-false a b e))
-
 -- there is one first at most
 one_item : (s : List ℕ) (i j k l : ℕ) → First s i k → First s j l → i ≡ j
 one_item s i j k l f g =
-    ⊎_elim (λ p. no f.breaks_it (g.items_before i p k f.word_there))
-    (λ q. ⊎_elim (λ e. e) (λ p. no g.breaks_it (f.items_before j p l g.word_there)) q)
-    (order i j)
+    ⊎_elim (λ e. e)
+    (λ q. ⊎_elim (λ p. no f.breaks_it (g.items_before i p k f.word_there)) (λ p. no g.breaks_it (f.items_before j p l g.word_there)) q)
+    (cases_order i j)
 
 one_word : (s : List ℕ) (i k l : ℕ) → First s i k → First s i l → k ≡ l
 one_word s i k l f g =
-    ⊎_elim (λ p. no f.breaks_it (g.words_before k p))
-    (λ q. ⊎_elim (λ e. e) (λ p. no g.breaks_it (f.words_before l p)) q)
-    (order k l)
+    ⊎_elim (λ e. e)
+    (λ q. ⊎_elim (λ p. no f.breaks_it (g.words_before k p)) (λ p. no g.breaks_it (f.words_before l p)) q)
+    (cases_order k l)
 
 pub bad_is_first : BadIsFirst
 bad_is_first s i k = (λ e. there (checked s) (table_is s) e, λ f. back (checked s) (table_is s) f)

@@ -93,9 +93,6 @@ written_back y f =
 
 -- ---- a record that breaks no rule, decoded and written
 
-at_most : (n w : ℕ) → ltb n w ≡ false → w ≤ n
-at_most n w e = ltb-false n w e
-
 ratio_word_lem : (p w : ℕ) → p ≤ 1 → (present_code (cond (eqb p 0) None (Some (of_bits binary32 w))) ≡ p) × (ratio_bits (cond (eqb p 0) None (Some (of_bits binary32 w))) ≡ cond (eqb p 0) 0 (to_bits binary32 (of_bits binary32 w)))
 unfolding present_code ratio_bits
 ratio_word_lem zero w h = (refl, refl)
@@ -107,7 +104,7 @@ abbrev align_if : Bool → ℕ → ℕ → AlignItems
 align_if b k w = cond b (record { keyword = keyword.Normal; safety = safety.Default }) (record { keyword = keyword_of k; safety = safety_of w })
 
 present : (k : ℕ) → ltb 10 k ≡ false → eqb k 10 ≡ false → k ≤ 9
-present k p e = below k (at_most 10 k p) (eqb-false k 10 e)
+present k p e = below k (ltb-false 10 k p) (eqb-false k 10 e)
   where
     below : (k : ℕ) → k ≤ 10 → (k ≡ 10 → ⊥) → k ≤ 9
     below k p n = omega arith
@@ -116,7 +113,7 @@ module _ (k w : ℕ) (p : ltb 10 k ≡ false) (q : safety_breaks k w ≡ false) 
   align_if_lem : (b : Bool) → eqb k 10 ≡ b → (keyword_code (align_if b k w).keyword ≡ cond b 0 k) × (safety_code (align_if b k w).safety ≡ cond b 0 w)
   unfolding keyword_code safety_code safety_breaks
   align_if_lem true e = (refl, refl)
-  align_if_lem false e = (keyword_codes.1 k (present k p e), safety_codes.1 w (at_most 2 w (rw e at q)))
+  align_if_lem false e = (keyword_codes.1 k (present k p e), safety_codes.1 w (ltb-false 2 w (rw e at q)))
 
   keyword_word : keyword_code (alignment_of k w).keyword ≡ cond (eqb k 10) 0 k
   unfolding alignment_of
@@ -140,7 +137,7 @@ module _ (r : ℕ → ℕ) (good : (k : ℕ) → k < style_words → breaks_rule
 
   code_word : (last k : ℕ) → k < style_words → kind_of k ≡ up_to last → r k ≤ last
   unfolding breaks_as
-  code_word last k h e = at_most last (r k) (rw e at (rule k h))
+  code_word last k h e = ltb-false last (r k) (rw e at (rule k h))
 
   pub decoded_back : encoded (style_of r) ≡ kept_from r style_words 0
   unfolding style_of length_at rect_at size_at align_at ratio_at overflow_at contain_of length_words_of rect_words_of size_words_of align_words_of encoded kept_from kept_as kind_of code_kinds length_kinds length_field breaks_as

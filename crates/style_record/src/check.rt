@@ -6,7 +6,7 @@ ghost use Rattle.style_record.specs.Codes.{last_code, is_ignored};
 
 use crate::words;
 use crate::words::STYLE_WORDS;
-use records::record_at;
+use records::whole_records;
 use style::resolve::Field;
 
 // The first item of a table with a word that breaks a rule, and its first such word, in record order from 0.
@@ -16,7 +16,8 @@ pub struct BadWord {
     pub word: usize,
 }
 
-// The last code of word k, after the lengths. The ratio and the scrollbar width are floats, which may be any word.
+// The last code of word k, after the lengths. By the word's number, here and below: an enum of the kinds would be made of the number by the same
+// match, only to be matched once more. The ratio and the scrollbar width are floats, which may be any word.
 #[tactic(auto, unfolding(crate::specs::Codes::last_code, crate::specs::Record::kind_of, crate::specs::Record::length_kinds, crate::specs::Record::code_kinds))]
 fn last_code(k: usize) -> u32
     ensures { result ≡ last_code (kind_of k) }
@@ -60,13 +61,13 @@ fn code_breaks(item: &[u32; STYLE_WORDS], k: usize) -> bool
 
 // The whole table, items that no candidate refers to included, up to the first word that breaks a rule; a trailing part of a record is
 // not looked at. An item's tags are walked as document 01 has them: insets and margins, padding and borders, then the sizes, of which min
-// and max take what the size does.
+// and max take what the size does. The labelled break out of both walks is document 01's form, so an item's words are no function of their own. Three loops over tags:
+// one over the fields takes three times as long (bench/README.md).
 pub fn check_styles(styles: &[u32]) -> Result<(), BadWord>
     ensures { result ≡ checked styles.now }
 {
     let mut found = Ok(());
-    'items: for item in 0..styles.len() / STYLE_WORDS {
-        let record = record_at::<STYLE_WORDS>(styles, item);
+    'items: for (item, record) in whole_records::<STYLE_WORDS>(styles).iter().enumerate() {
         for word in (words::INSET..words::PADDING).step_by(words::LENGTH_WORDS) {
             if !Field::InsetOrMargin.takes(record[word]) {
                 found = Err(BadWord { item, word });

@@ -12,7 +12,8 @@ use style::compact_length::CompactLength;
 use style::{BoxSizing, Contain, Direction, Overflow, Style, bits};
 use util::bits as floats;
 
-// Each of these reads an item's words, from word k on where a k is given.
+// Each of these reads an item's words, from word k on where a k is given: a length cut out of them as an array would cost an `unwrap` each. A
+// rectangle and a size have their fields by name, so that one function for both would read more than it says.
 
 #[tactic(auto, unfolding(crate::specs::Decode::length_at))]
 fn length_at(item: &[u32; STYLE_WORDS], k: usize) -> CompactLength
@@ -50,16 +51,15 @@ fn size_at(item: &[u32; STYLE_WORDS], k: usize) -> Size<CompactLength>
     }
 }
 
+// Document 01's record: a word says whether there is a ratio, and the next one is it.
 #[tactic(auto, unfolding(crate::specs::Decode::ratio_at))]
 fn ratio_at(item: &[u32; STYLE_WORDS]) -> Option<f32>
     ensures { result ≡ ratio_at (slice_index item.now) }
 {
-    if item[words::RATIO_PRESENT] == 0 {
-        return None;
-    }
-    Some(floats::from_word(item[words::RATIO]))
+    (item[words::RATIO_PRESENT] != 0).then(|| floats::from_word(item[words::RATIO]))
 }
 
+// No `From`: neither type is this crate's.
 #[tactic(auto, unfolding(crate::specs::Decode::style_of, crate::specs::Decode::align_at, crate::specs::Decode::overflow_at))]
 fn style_of(item: &[u32; STYLE_WORDS]) -> Style
     ensures { result ≡ style_of (slice_index item.now) }
@@ -89,6 +89,7 @@ fn style_of(item: &[u32; STYLE_WORDS]) -> Style
 }
 
 // The style of an item.
+#[tactic(auto, using(crate::proofs::Same::style_of_item))]
 pub fn style_at(styles: &[u32], node: usize) -> Style
     requires { style_words * node + style_words ≤ length styles.now }
     ensures { result ≡ style_at styles.now node }

@@ -18,8 +18,8 @@ use Rattle.tree.specs.declared.layout.AxisStaticEdge.TheVariants.{Start, Center,
 use Rattle.tree.specs.declared.layout.OofCandidate.{OofCandidate}
 use Rattle.records.specs.Records.{whole, record_at, records, every, wrong, breaks, good, good_records}
 use Rattle.records.proofs.Laws.{word_of_record, record_of_records, every_is, good_is_unbroken, rear_back}
-use Rattle.style.specs.Codes.{safety_code}
-use Rattle.tree_record.specs.Codes.{position_code, edge_code}
+use Rattle.style.specs.Codes.{position_code, safety_code}
+use Rattle.tree.specs.Codes.{edge_code}
 use Rattle.tree_record.specs.Candidate.{candidate_width, layer_count, candidate_kinds, candidate_words}
 use Rattle.tree_record.proofs.Laws.{candidate_widths}
 use Rattle.sweep.specs.Sweep.{list_words, appended}

@@ -1,24 +1,26 @@
--- One step of each loop, and what a sweep leaves, by its tests. Assumes nothing.
-use Prim.Native.Nat.{ℕ, suc, ◌+◌, ◌-◌, ◌*◌, ◌/◌, ◌<◌, ◌≤◌}
+-- What a chain over the records keeps, one record more in a list, and what a sweep leaves, by its tests. Assumes nothing.
+use Prim.Native.Nat.{ℕ, suc, ◌+◌, ◌*◌, ◌/◌, ◌<◌}
 use native.Mathlib.Omega.{arith}
-use native.Mathlib.Nat.{add-zero, sub-zero, mul-add, mul-suc}
+use native.Mathlib.Nat.{zero-add, mul-add, mul-suc}
 use mathlib.Core.Path.{◌≡◌, refl, sym, ap, ◌∙◌}
 use mathlib.Core.Bool.{Bool, true, false, cond, ◌&&◌}
 use mathlib.Core.List.{List, [], ◌∷◌, ◌++◌, map, append-nil, append_assoc}
-use lib.ListN.{length, get_or, drop, length-append}
-use Rattle.std.specs.Prelude.{Option, Some, None, Ok, Err, Float}
+use lib.ListN.{length, get_or, length-append}
+use Rattle.std.proofs.lemmas.List.{length-map, map-append}
+use Rattle.std.proofs.Common.{Bor}
+use Rattle.std.proofs.lemmas.List.FromFn.{length-enumerate_from, get_or-enumerate_from}
+use Rattle.std.specs.List.{enumerate_from}
+use Rattle.std.specs.Prelude.{Option, Some, None, Ok, Err, Float, filter}
 use Rattle.geometry.specs.declared.Point.{Point}
 use Rattle.refusal.specs.declared.Refusal.TheVariants.{ListFull}
 use Rattle.style.specs.declared.ContainingBlockClaims.{ContainingBlockClaims}
-use Rattle.style.specs.declared.Position.{Position}
 use Rattle.tree.specs.declared.layout.OofCandidate.{OofCandidate}
 use Rattle.tree.specs.Static.{translated}
-use Rattle.records.specs.Records.{record_at, records, room, written}
-use Rattle.records.proofs.Laws.{records_step, written_length, written_twice}
+use Rattle.records.specs.Records.{records, room, written}
+use Rattle.records.proofs.Laws.{written_length, written_twice}
 use Rattle.tree_record.specs.Candidate.{candidate_width, candidate_of, candidate_words}
-use Rattle.tree_record.specs.Codes.{position_of}
+use Rattle.style.specs.Codes.{position_of}
 use Rattle.tree_record.proofs.Laws.{candidate_widths}
-use Rattle.tree_record.proofs.Places.{candidate_place}
 use Rattle.sweep.specs.Sweep.{first_candidates, candidates_in, moved, side, keep, list_words, appended, Outcome, swept}
 use Rattle.sweep.specs.declared.Filled.{Filled}
 
@@ -30,14 +32,6 @@ moved_position None c = refl
 moved_position (Some location) c = refl
 
 module _ (by : ContainingBlockClaims) (list : Bool) where
-  pub keep_in : (c : OofCandidate) → side by list c.position ≡ true → keep by list (c ∷ []) ≡ c ∷ []
-  unfolding keep
-  keep_in c e = rw e refl
-
-  pub keep_out : (c : OofCandidate) → side by list c.position ≡ false → keep by list (c ∷ []) ≡ []
-  unfolding keep
-  keep_out c e = rw e refl
-
   pub keep_first : (c : OofCandidate) (cs : List OofCandidate) → keep by list (c ∷ cs) ≡ keep by list (c ∷ []) ++ keep by list cs
   unfolding keep
   keep_first c cs = go (side by list c.position)
@@ -46,37 +40,40 @@ module _ (by : ContainingBlockClaims) (list : Bool) where
       go true = refl
       go false = refl
 
-  -- a move changes no position
-  pub kept_moved : (s : Option (Point Float)) (cs : List OofCandidate) → length (keep by list (map (moved s) cs)) ≡ length (keep by list cs)
-  unfolding keep
-  kept_moved s [] = refl
-  kept_moved s (c ∷ cs) =
-      ap
-      (λ (p : Position). length (cond (side by list p) (moved s c ∷ keep by list (map (moved s) cs)) (keep by list (map (moved s) cs))))
-      (moved_position s c)
-      ∙ go (keep by list (map (moved s) cs)) (keep by list cs) (kept_moved s cs) (side by list c.position)
+  -- whether the candidate of a record goes there, by its word
+  abbrev pub goes_there : List ℕ → Bool
+  goes_there r = side by list (position_of (get_or r 2 0))
+
+  pub keep_of_records : (rs : List (List ℕ)) → keep by list (map candidate_of rs) ≡ map candidate_of (filter goes_there rs)
+  unfolding keep candidate_of
+  keep_of_records [] = refl
+  keep_of_records (r ∷ rs) = ap (λ (l : List OofCandidate). cond (goes_there r) (candidate_of r ∷ l) l) (keep_of_records rs) ∙ go (goes_there r)
     where
-      go : (xs ys : List OofCandidate) → length xs ≡ length ys → (b : Bool) → length (cond b (moved s c ∷ xs) xs) ≡ length (cond b (c ∷ ys) ys)
-      go xs ys e true = ap suc e
-      go xs ys e false = e
+      go : (b : Bool) → cond b (candidate_of r ∷ map candidate_of (filter goes_there rs)) (map candidate_of (filter goes_there rs)) ≡ map candidate_of (cond b (r ∷ filter goes_there rs) (filter goes_there rs))
+      go true = refl
+      go false = refl
 
--- ---- the candidates from i on
+  pub count_of_records : (rs : List (List ℕ)) → length (filter goes_there rs) ≡ length (keep by list (map candidate_of rs))
+  count_of_records rs = sym (ap length (keep_of_records rs) ∙ length-map (filter goes_there rs) candidate_of)
 
-abbrev pub from : List ℕ → ℕ → ℕ → List OofCandidate
-from ws n i = map candidate_of (records candidate_width (n - i) (drop (candidate_width * i) ws))
+  -- a move changes no position, so that it may come after
+  pub keep_moved : (s : Option (Point Float)) (cs : List OofCandidate) → keep by list (map (moved s) cs) ≡ map (moved s) (keep by list cs)
+  unfolding keep moved
+  keep_moved s [] = refl
+  keep_moved s (c ∷ cs) =
+      rw (moved_position s c) (ap (λ (l : List OofCandidate). cond (side by list c.position) (moved s c ∷ l) l) (keep_moved s cs) ∙ go (side by list c.position))
+    where
+      go : (b : Bool) → cond b (moved s c ∷ map (moved s) (keep by list cs)) (map (moved s) (keep by list cs)) ≡ map (moved s) (cond b (c ∷ keep by list cs) (keep by list cs))
+      go true = refl
+      go false = refl
 
-pub from_step : (ws : List ℕ) (n i : ℕ) → i < n → from ws n i ≡ candidate_of (record_at candidate_width ws i) ∷ from ws n (i + 1)
-from_step ws n i h = rw (turn i n h, records_step candidate_width (n - (i + 1)) ws i) refl
-  where
-    turn : (i n : ℕ) → i < n → n - i ≡ suc (n - (i + 1))
-    turn i n h = omega arith
+  pub kept_moved : (s : Option (Point Float)) (cs : List OofCandidate) → length (keep by list (map (moved s) cs)) ≡ length (keep by list cs)
+  kept_moved s cs = ap length (keep_moved s cs) ∙ length-map (keep by list cs) (moved s)
 
-pub from_end : (ws : List ℕ) (n i : ℕ) → n ≤ i → from ws n i ≡ []
-unfolding records
-from_end ws n i h = rw (none i n h) refl
-  where
-    none : (i n : ℕ) → n ≤ i → n - i ≡ 0
-    none i n h = omega arith
+-- the candidates of a slice are those of its whole records
+pub candidates_of_records : (ws : List ℕ) (rs : List (List ℕ)) → rs ≡ records candidate_width (length ws / candidate_width) ws → map candidate_of rs ≡ candidates_in ws
+unfolding candidates_in first_candidates
+candidates_of_records ws rs e = ap (map candidate_of) e
 
 -- ---- lists of words
 
@@ -108,63 +105,48 @@ appended_twice ws k xs ys =
     ∙ written_twice ws (candidate_width * k) (list_words xs) (list_words ys)
     ∙ ap (λ (m : ℕ). written (appended ws k xs) m (list_words ys)) (ap (λ (m : ℕ). candidate_width * k + m) (words_length xs) ∙ sym (mul-add candidate_width k (length xs)))
 
--- ---- one record
+pub appended_push : (ws : List ℕ) (k n : ℕ) (cs : List OofCandidate) (c : OofCandidate) → n ≡ length cs
+    → written (appended ws k cs) (candidate_width * (k + n)) (candidate_words c) ≡ appended ws k (cs ++ c ∷ [])
+appended_push ws k n cs c e = rw e (sym (appended_twice ws k cs (c ∷ []) ∙ appended_one (appended ws k cs) (k + length cs) c))
 
-module _ (by : ContainingBlockClaims) (list : Bool) (c : OofCandidate) where
-  pub one_in : side by list c.position ≡ true → length (keep by list (c ∷ [])) ≡ 1
-  one_in e = ap length (keep_in by list c e)
+-- one more of the records that were enumerated
+pub appended_next : (g : List ℕ → OofCandidate) (ws l : List ℕ) (k i : ℕ) (ps : List (ℕ × Bor (List ℕ))) (p : ℕ × Bor (List ℕ))
+    → l ≡ appended ws k (map (λ p. g p.1.now) ps) → i ≡ length ps
+    → written l (candidate_width * (k + i)) (candidate_words (g p.1.now)) ≡ appended ws k (map (λ p. g p.1.now) (ps ++ p ∷ []))
+appended_next g ws l k i ps p e h =
+    rw e (appended_push ws k i (map (λ p. g p.1.now) ps) (g p.1.now) (h ∙ sym (length-map ps (λ p. g p.1.now))))
+    ∙ ap (appended ws k) (sym (map-append (λ (p : ℕ × Bor (List ℕ)). g p.1.now) ps (p ∷ [])))
 
-  pub one_out : side by list c.position ≡ false → length (keep by list (c ∷ [])) ≡ 0
-  one_out e = ap length (keep_out by list c e)
+-- all that is appended
+pub kept_of_records : (by : ContainingBlockClaims) (list : Bool) (s : Option (Point Float)) (ws : List ℕ) (rs : List (List ℕ))
+    → rs ≡ records candidate_width (length ws / candidate_width) ws
+    → map (λ r. moved s (candidate_of r)) (filter (goes_there by list) rs) ≡ keep by list (map (moved s) (candidates_in ws))
+kept_of_records by list s ws rs e =
+    twice (filter (goes_there by list) rs) ∙ ap (map (moved s)) (sym (keep_of_records by list rs)) ∙ sym (keep_moved by list s (map candidate_of rs))
+    ∙ ap (λ (cs : List OofCandidate). keep by list (map (moved s) cs)) (candidates_of_records ws rs e)
+  where
+    twice : (rs : List (List ℕ)) → map (λ r. moved s (candidate_of r)) rs ≡ map (moved s) (map candidate_of rs)
+    twice [] = refl
+    twice (r ∷ rs) = ap (λ (l : List OofCandidate). moved s (candidate_of r) ∷ l) (twice rs)
 
-  -- what appending it answers and leaves
-  abbrev pub Appended : Option (Point Float) → List ℕ → ℕ → ℕ → List ℕ → Type 0
-  Appended s ws k r after = (r ≡ k + length (keep by list (c ∷ []))) × (after ≡ appended ws k (keep by list (moved s c ∷ [])))
+-- which of the enumerated records this one is
+pub turned : (ys : List (List ℕ)) (n : ℕ) (p : ℕ × List ℕ) → (n < length (enumerate_from 0 ys)) × (p ≡ get_or (enumerate_from 0 ys) n p) → (n < length ys) × (p.0 ≡ n)
+turned ys n p h =
+    let l : n < length ys = rw (length-enumerate_from 0 ys) at h.0 in
+    (l, ap (λ (q : ℕ × List ℕ). q.0) (h.1 ∙ get_or-enumerate_from 0 ys n p l) ∙ zero-add n)
 
-  pub append_in : (s : Option (Point Float)) (ws : List ℕ) (k : ℕ) → side by list c.position ≡ true
-      → Appended s ws k (k + 1) (written ws (candidate_width * k) (candidate_words (moved s c)))
-  append_in s ws k e = (
-    ap (λ (m : ℕ). k + m) (sym (one_in e)),
-    sym (ap (appended ws k) (keep_in by list (moved s c) (ap (side by list) (moved_position s c) ∙ e)) ∙ appended_one ws k (moved s c)),
-  )
+-- what is appended, by the records that were enumerated
+pub enumerated : (g : List ℕ → OofCandidate) (ps : List (ℕ × Bor (List ℕ))) (ys : List (List ℕ))
+    → map (λ p. (p.0, p.1.now)) ps ≡ enumerate_from 0 ys → map (λ p. g p.1.now) ps ≡ map g ys
+enumerated g ps ys e = sym (again ps) ∙ ap (map (λ (q : ℕ × List ℕ). g q.1)) e ∙ each 0 ys
+  where
+    again : (ps : List (ℕ × Bor (List ℕ))) → map (λ (q : ℕ × List ℕ). g q.1) (map (λ p. (p.0, p.1.now)) ps) ≡ map (λ p. g p.1.now) ps
+    again [] = refl
+    again (p ∷ ps) = ap (λ (l : List OofCandidate). g p.1.now ∷ l) (again ps)
 
-  pub append_out : (s : Option (Point Float)) (ws : List ℕ) (k : ℕ) → side by list c.position ≡ false → Appended s ws k k ws
-  append_out s ws k e = (
-    sym (ap (λ (m : ℕ). k + m) (one_out e) ∙ add-zero k),
-    sym (ap (appended ws k) (keep_out by list (moved s c) (ap (side by list) (moved_position s c) ∙ e)) ∙ appended_none ws k),
-  )
-
--- the position of record i, by its word
-pub position_at : (ws : List ℕ) (i : ℕ) → (candidate_of (record_at candidate_width ws i)).position ≡ position_of (get_or ws (candidate_width * i + 2) 0)
-position_at ws i = ap (λ (c : OofCandidate). c.position) (candidate_place ws i)
-
--- ---- the loops
-
-pub from_start : (ws : List ℕ) → candidates_in ws ≡ from ws (length ws / candidate_width) 0
-unfolding candidates_in first_candidates
-from_start ws = rw sub-zero refl
-
-module _ (by : ContainingBlockClaims) (list : Bool) where
-  pub count_step : (ws : List ℕ) (n i : ℕ) → i < n
-      → length (keep by list (from ws n i)) ≡ length (keep by list (candidate_of (record_at candidate_width ws i) ∷ [])) + length (keep by list (from ws n (i + 1)))
-  count_step ws n i h =
-      ap (λ (cs : List OofCandidate). length (keep by list cs)) (from_step ws n i h)
-      ∙ ap length (keep_first by list (candidate_of (record_at candidate_width ws i)) (from ws n (i + 1)))
-      ∙ length-append (keep by list (candidate_of (record_at candidate_width ws i) ∷ [])) (keep by list (from ws n (i + 1)))
-
-  -- a list that holds m records after one candidate
-  pub append_step : (s : Option (Point Float)) (ws l after : List ℕ) (k m n i : ℕ) → i < n
-      → m ≡ k + length (keep by list (candidate_of (record_at candidate_width ws i) ∷ []))
-      → after ≡ appended l k (keep by list (moved s (candidate_of (record_at candidate_width ws i)) ∷ []))
-      → appended l k (keep by list (map (moved s) (from ws n i))) ≡ appended after m (keep by list (map (moved s) (from ws n (i + 1))))
-  append_step s ws l after k m n i h p q =
-      let c = candidate_of (record_at candidate_width ws i) in
-      let rest = map (moved s) (from ws n (i + 1)) in
-      ap (λ (cs : List OofCandidate). appended l k (keep by list (map (moved s) cs))) (from_step ws n i h)
-      ∙ ap (appended l k) (keep_first by list (moved s c) rest)
-      ∙ appended_twice l k (keep by list (moved s c ∷ [])) (keep by list rest)
-      ∙ ap (λ (m : ℕ). appended (appended l k (keep by list (moved s c ∷ []))) (k + m) (keep by list rest)) (kept_moved by list s (c ∷ []))
-      ∙ sym (rw (q, p) refl)
+    each : (n : ℕ) (ys : List (List ℕ)) → map (λ (q : ℕ × List ℕ). g q.1) (enumerate_from n ys) ≡ map g ys
+    each n [] = refl
+    each n (y ∷ ys) = ap (λ (l : List OofCandidate). g y ∷ l) (each (n + 1) ys)
 
 pub appended_length : (ws : List ℕ) (k : ℕ) (cs : List OofCandidate) → length (appended ws k cs) ≡ length ws
 appended_length ws k cs = written_length ws (candidate_width * k) (list_words cs)

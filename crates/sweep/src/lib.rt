@@ -6,14 +6,15 @@ ghost use Rattle.tree_record.specs.Candidate.{candidate_width};
 ghost use Rattle.sweep.specs.Sweep.{moved, side, keep, candidates_in, appended, Leaves, swept};
 
 use geometry::Point;
+use records::whole_records;
 use refusal::Refusal;
 use style::{ContainingBlockClaims, Position};
 use tree::layout::OofCandidate;
+use tree_record::candidate;
 use tree_record::candidate::CANDIDATE_WORDS;
-use tree_record::{candidate, codes};
 
-// How many records each list holds.
-#[derive(Clone, Copy)]
+// How many records each list holds. The lists are lent anew at each call (document 01), so that only their counts are the state's.
+#[derive(Clone, Copy, Default)]
 pub struct Filled {
     pub working: usize,
     pub unclaimed: usize,
@@ -30,35 +31,28 @@ fn moved(shift: Option<Point<f32>>, c: OofCandidate) -> OofCandidate
     }
 }
 
-// Whether a candidate of a position goes to the list of the claimed ones, or else to that of the others.
+// Whether a candidate of a position goes to the list of the claimed ones, or else to that of the others. A flag, here and below: for a closure
+// in its place each contract would have to say of each position what it answers, as `side` does by the flag. Claims and flag are no struct, which
+// `sweep` would make twice, and of which each contract would name both fields.
 #[tactic(auto, unfolding(crate::specs::Sweep::side))]
 fn goes(claims: ContainingBlockClaims, claimed: bool, position: Position) -> bool
     ensures { result ≡ side claims claimed position }
 {
-    if claimed {
-        return claims.for_position(position);
-    }
-    !claims.for_position(position)
+    claims.for_position(position) == claimed
 }
 
 // How many candidates of a slice go to a list.
 fn count(claims: ContainingBlockClaims, claimed: bool, candidates: &[u32]) -> usize
     ensures { result ≡ length (keep claims claimed (candidates_in candidates.now)) }
 {
-    let mut count = 0;
-    for i in 0..candidates.len() / CANDIDATE_WORDS {
-        if goes(
-            claims,
-            claimed,
-            codes::position_of(candidates[CANDIDATE_WORDS * i + 2]),
-        ) {
-            count += 1;
-        }
-    }
-    count
+    whole_records::<CANDIDATE_WORDS>(candidates)
+        .iter()
+        .filter(|words| goes(claims, claimed, Position::from(words[2])))
+        .count()
 }
 
 // Appends the candidates of a slice that go to a list, in order, behind the `held` records that it holds.
+// The whole list, and how many it holds: of the rest `&mut list[..]` the caller would have to prove again what it leaves of the front.
 fn append(
     claims: ContainingBlockClaims,
     claimed: bool,
@@ -70,18 +64,17 @@ fn append(
     requires { candidate_width * (held + length (keep claims claimed (candidates_in candidates.now))) ≤ length list.old }
     ensures { list.new ≡ appended list.old held (keep claims claimed (map (moved shift) (candidates_in candidates.now))) }
 {
-    let mut next = held;
-    for i in 0..candidates.len() / CANDIDATE_WORDS {
-        let c = candidate::candidate_at(candidates, i);
-        if goes(claims, claimed, c.position) {
-            candidate::write_candidate(list, next, moved(shift, c));
-            next += 1;
-        }
+    let kept = whole_records::<CANDIDATE_WORDS>(candidates)
+        .iter()
+        .filter(|words| goes(claims, claimed, Position::from(words[2])));
+    for (i, words) in kept.enumerate() {
+        let c = candidate::candidate_of(words);
+        candidate::write_candidate(list, held + i, moved(shift, c));
     }
 }
 
 // Sweeps the whole records of a slice, and says how many records each list then holds. Where either list would overflow, refusal 5, and no
-// word is written.
+// word is written. A line for each list: they are two parameters, and what is swept to one is what isn't to the other.
 pub fn sweep(
     claims: ContainingBlockClaims,
     shift: Option<Point<f32>>,

@@ -20,13 +20,9 @@ fn words_of(bytes: &[u8; BOX_BYTES]) -> [u32; BOX_WORDS]
     ensures { box_words ≡ length result }
 {
     let mut words = [0; BOX_WORDS];
-    for (i, word) in words.iter_mut().enumerate() {
-        *word = u32::from_le_bytes([
-            bytes[4 * i],
-            bytes[4 * i + 1],
-            bytes[4 * i + 2],
-            bytes[4 * i + 3],
-        ]);
+    let (fours, _) = bytes.as_chunks::<4>();
+    for (word, four) in words.iter_mut().zip(fours) {
+        *word = u32::from_le_bytes(*four);
     }
     words
 }

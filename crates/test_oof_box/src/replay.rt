@@ -40,14 +40,20 @@ const QUESTIONS: usize = LAYOUT + LAYOUT_WORDS;
 
 pub const BOX_WORDS: usize = QUESTIONS + 12;
 
+// The floats of N words, by their place, here and below: a part cut out would have its length said in each contract.
+fn floats_at<const N: usize>(w: &[u32; BOX_WORDS], at: usize) -> [f32; N]
+    requires { at + N ≤ box_words }
+{
+    let words: [u32; N] = *w[at..].first_chunk().unwrap();
+    words.map(bits::from_word)
+}
+
 fn container_of(w: &[u32; BOX_WORDS]) -> ContainingBlock {
+    let [width, height, x, y] = floats_at::<4>(w, AREA);
     ContainingBlock {
         area: OofPositioningArea {
-            size: size_at(w, AREA),
-            offset: Point {
-                x: bits::from_word(w[AREA + 2]),
-                y: bits::from_word(w[AREA + 3]),
-            },
+            size: Size { width, height },
+            offset: Point { x, y },
         },
         direction: Direction::from(w[AREA + 4]),
         overflow: Point {
@@ -57,19 +63,14 @@ fn container_of(w: &[u32; BOX_WORDS]) -> ContainingBlock {
     }
 }
 
-fn candidate_of(w: &[u32]) -> OofCandidate
-    requires { length w.now ≡ box_words }
-{
-    candidate::candidate_at(&w[CANDIDATE..], 0)
+fn candidate_of(w: &[u32; BOX_WORDS]) -> OofCandidate {
+    candidate::candidate_of(w[CANDIDATE..].first_chunk().unwrap())
 }
 
 // ---- questions in words, as the recorded ones
 
 fn known_word(size: Option<f32>) -> u32 {
-    match size {
-        None => 0xFFFF_FFFF,
-        Some(x) => bits::to_word(x),
-    }
+    size.map_or(0xFFFF_FFFF, bits::to_word)
 }
 
 fn space_word(space: AvailableSpace) -> u32 {
@@ -80,49 +81,34 @@ fn space_word(space: AvailableSpace) -> u32 {
     }
 }
 
-// A question's kind, and its four words.
-fn question_words(
-    kind: u32,
-    known: Size<Option<f32>>,
-    space: Size<AvailableSpace>,
-) -> (u32, [u32; 4]) {
-    let words = [
+// A question's four words.
+fn question_words(known: Size<Option<f32>>, space: Size<AvailableSpace>) -> [u32; 4] {
+    [
         known_word(known.width),
         known_word(known.height),
         space_word(space.width),
         space_word(space.height),
-    ];
-    (kind, words)
+    ]
 }
 
-fn words_of(question: Question) -> (u32, [u32; 4]) {
+fn words_of(question: Question) -> [u32; 4] {
     match question {
-        Question::MeasureBoth(input) => question_words(0, input.known, input.space),
-        Question::MeasureWidth(input) => question_words(1, input.known, input.space),
-        Question::MeasureHeight(input) => question_words(2, input.known, input.space),
-        Question::LayOut(input) => question_words(3, input.size.some(), input.space),
+        Question::MeasureBoth(input)
+        | Question::MeasureWidth(input)
+        | Question::MeasureHeight(input) => question_words(input.known, input.space),
+        Question::LayOut(input) => question_words(input.size.some(), input.space),
     }
 }
 
-// The digit of a stage, and the kind of its question.
-fn stage_code(stage: Stage) -> u32 {
-    match stage {
-        Stage::KeywordBoth => 1,
-        Stage::KeywordWidth => 2,
-        Stage::KeywordHeight => 3,
-        Stage::Fill => 4,
-        Stage::LayOut => 5,
-    }
-}
-
-fn kind_of(stage: Stage) -> u32 {
-    match stage {
-        Stage::KeywordBoth => 0,
-        Stage::KeywordWidth => 1,
-        Stage::KeywordHeight => 2,
-        Stage::Fill => 0,
-        Stage::LayOut => 3,
-    }
+// Whether a question is of the kind that its stage asks.
+fn is_of_stage(asked: Asked) -> bool {
+    matches!(
+        (asked.stage, asked.question),
+        (Stage::KeywordBoth | Stage::Fill, Question::MeasureBoth(_))
+            | (Stage::KeywordWidth, Question::MeasureWidth(_))
+            | (Stage::KeywordHeight, Question::MeasureHeight(_))
+            | (Stage::LayOut, Question::LayOut(_))
+    )
 }
 
 // Zeros are equal.
@@ -136,8 +122,9 @@ fn same(a: &[u32], b: &[u32]) -> bool {
 
 // Whether the question is the recorded one, with stage and kind.
 fn is_recorded(asked: Asked, stage: u32, recorded: &[u32]) -> bool {
-    let (kind, words) = words_of(asked.question);
-    stage_code(asked.stage) == stage && kind == kind_of(asked.stage) && same(&words, recorded)
+    asked.stage as u32 + 1 == stage
+        && is_of_stage(asked)
+        && same(&words_of(asked.question), recorded)
 }
 
 // ---- replies
@@ -145,19 +132,8 @@ fn is_recorded(asked: Asked, stage: u32, recorded: &[u32]) -> bool {
 fn size_at(w: &[u32; BOX_WORDS], at: usize) -> Size<f32>
     requires { at + 2 ≤ box_words }
 {
-    Size {
-        width: bits::from_word(w[at]),
-        height: bits::from_word(w[at + 1]),
-    }
-}
-
-fn overflow_of(w: &[u32; BOX_WORDS]) -> Rect<f32> {
-    Rect {
-        left: bits::from_word(w[OVERFLOW]),
-        right: bits::from_word(w[OVERFLOW + 1]),
-        top: bits::from_word(w[OVERFLOW + 2]),
-        bottom: bits::from_word(w[OVERFLOW + 3]),
-    }
+    let [width, height] = floats_at::<2>(w, at);
+    Size { width, height }
 }
 
 fn reply_to(stage: Stage, w: &[u32; BOX_WORDS]) -> Reply {
@@ -166,26 +142,17 @@ fn reply_to(stage: Stage, w: &[u32; BOX_WORDS]) -> Reply {
         Stage::KeywordWidth => Reply::Width(bits::from_word(w[KEYWORD])),
         Stage::KeywordHeight => Reply::Height(bits::from_word(w[KEYWORD])),
         Stage::Fill => Reply::Both(size_at(w, FILL)),
-        Stage::LayOut => Reply::LaidOut(overflow_of(w)),
+        Stage::LayOut => Reply::LaidOut(layout::rect_at(w, OVERFLOW)),
     }
 }
 
 // ---- what is found
 
-fn is_finish(finish: Rect<f32>, w: &[u32; BOX_WORDS]) -> bool {
-    let words = [
-        bits::to_word(finish.left),
-        bits::to_word(finish.right),
-        bits::to_word(finish.top),
-        bits::to_word(finish.bottom),
-    ];
-    same(&words, &w[FINISH..STAGES])
-}
-
 // The layout's words, and the finish rectangle of a run of one box.
 fn is_found(found: OofBoxLayout, w: &[u32; BOX_WORDS]) -> bool {
     let words = layout::layout_words(found.layout);
-    same(&words, &w[LAYOUT..QUESTIONS]) && is_finish(Rect::ZERO.union(found.contribution), w)
+    same(&words, &w[LAYOUT..QUESTIONS])
+        && Rect::ZERO.union(found.contribution) == layout::rect_at(w, FINISH)
 }
 
 // Whether a box asks, lays out and contributes what was recorded.
@@ -193,10 +160,10 @@ pub(crate) fn agrees(w: &[u32; BOX_WORDS]) -> bool {
     let style = decode::style_at(w, 0);
     let candidate = candidate_of(w);
     let container = container_of(w);
-    let mut replies = Replies::NONE;
+    let mut replies = Replies::default();
     let mut path = w[STAGES];
     for recorded in w[QUESTIONS..].chunks_exact(4) {
-        let asked = dialogue::next_question(container, style, candidate, replies);
+        let asked = dialogue::next_question(&container, &style, &candidate, replies);
         if !is_recorded(asked, path % 8, recorded) {
             return false;
         }
@@ -209,7 +176,7 @@ pub(crate) fn agrees(w: &[u32; BOX_WORDS]) -> bool {
             }
             Some(Taken::Laid(overflow)) => {
                 let found = dialogue::layout_oof_box(
-                    container, style, candidate, replies, overflow,
+                    &container, &style, &candidate, replies, overflow,
                 );
                 return path < 8 && is_found(found, w);
             }

@@ -37,16 +37,7 @@ fn print_rect(rt: &impl Print, row: u8, rect: Rect<f32>) -> io::Result<()> {
 
 // ---- rows 12 and 13: the contribution
 
-const VISIBLE: Point<Overflow> = Point {
-    x: Overflow::Visible,
-    y: Overflow::Visible,
-};
-
-const UNCONTAINED: Contain = Contain {
-    layout: false,
-    paint: false,
-};
-
+// Of a box that is visible in both axes and not contained.
 fn contribution(x: f32, size: Size<f32>, right: f32, scrolls: bool) -> Rect<f32> {
     let location = Point { x, y: 0.0 };
     let own = Rect {
@@ -59,8 +50,8 @@ fn contribution(x: f32, size: Size<f32>, right: f32, scrolls: bool) -> Rect<f32>
         location,
         size,
         own,
-        VISIBLE,
-        UNCONTAINED,
+        Point::default(),
+        Contain::default(),
         scrolls,
     )
 }

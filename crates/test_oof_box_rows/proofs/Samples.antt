@@ -9,10 +9,10 @@ use Rattle.util.specs.Maybe.{map_add, map_larger, at_most, at_least, clamped, ma
 use Rattle.geometry.specs.Geometry.{rect_or_zero, sum_x, sum_y, sums, rect_sum, union_of, smaller_size, definite, both_present, first_size, filled_size, added_size, raised_size, clamped_size, clamped_floats, completed, with_ratio}
 use Rattle.style.specs.Resolve.{by_tag, resolved, takes, maybe_resolved, resolved_rect, resolved_size}
 use Rattle.style.specs.Values.{self_relative, clamped_space, clamped_spaces, definite_spaces}
-use Rattle.style.specs.Codes.{sizing_of, overflow_of, direction_of, safety_of, keyword_of, alignment_of, contain_of}
+use Rattle.style.specs.Codes.{position_of, sizing_of, overflow_of, direction_of, safety_of, keyword_of, alignment_of, contain_of}
 use Rattle.style_record.specs.Record.{length_field, length_kinds, code_kinds, kind_of, items}
 use Rattle.style_record.specs.Decode.{length_at, rect_at, size_at, align_at, ratio_at, overflow_at, style_of, style_at}
-use Rattle.tree_record.specs.Codes.{position_of, edge_of}
+use Rattle.tree.specs.Codes.{edge_of}
 use Rattle.tree_record.specs.Candidate.{axis_of, candidate_of, candidate_words}
 use Rattle.tree_record.specs.Layout.{rect_of, layout_of, layout_words}
 use Rattle.oof_axis.specs.Axis.{from_resolved, align_in, centered_block, static_block, inset_block, start_is_weaker, repaired, block, both_insets, stretch_fit, stretching, stretches, is_stretch, halves, filled_margins, margins, is_normal, align_edge, limit, kept_within, self_aligned, static_aligned, position_in, position, placement}

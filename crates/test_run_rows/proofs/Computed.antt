@@ -9,7 +9,7 @@ use Rattle.test_run_rows.specs.Readings.{px, minus, length_of, lengths, item, si
 use Rattle.util.specs.Order.{zero_of, before, larger, smaller, magnitude}
 use Rattle.util.specs.Maybe.{map_add, map_larger, at_most, at_least, clamped, map_clamped}
 use Rattle.geometry.specs.Geometry.{rect_or_zero, sum_x, sum_y, sums, rect_sum, union_of, smaller_size, definite, both_present, first_size, filled_size, added_size, raised_size, clamped_size, clamped_floats, completed, with_ratio}
-use Rattle.style.specs.Codes.{sizing_code, overflow_code, direction_code, safety_code, keyword_code, bits_code, sizing_of, overflow_of, direction_of, safety_of, keyword_of, alignment_of, contain_of}
+use Rattle.style.specs.Codes.{position_code, position_of, sizing_code, overflow_code, direction_code, safety_code, keyword_code, bits_code, sizing_of, overflow_of, direction_of, safety_of, keyword_of, alignment_of, contain_of}
 use Rattle.style.specs.Values.{self_relative, clamped_space, clamped_spaces, definite_spaces}
 use Rattle.style.specs.Resolve.{by_tag, resolved, takes, maybe_resolved, resolved_rect, resolved_size}
 use Rattle.records.specs.Records.{record_at, records, room, written, wrong, canonical_word, canonical_from, every, breaks, good, good_records}
@@ -17,7 +17,7 @@ use Rattle.style_record.specs.Record.{length_field, length_kinds, code_kinds, ki
 use Rattle.style_record.specs.Check.{safety_breaks, breaks_as, breaks_rule, breaks as breaks', first_from, first_broken, or_rest, checked_from, checked}
 use Rattle.style_record.specs.Decode.{length_at, rect_at, size_at, align_at, ratio_at, overflow_at, style_of, style_at}
 use Rattle.tree.specs.Static.{from_alignment, shifted_axis, translated}
-use Rattle.tree_record.specs.Codes.{position_code, position_of, edge_code, edge_of}
+use Rattle.tree.specs.Codes.{edge_code, edge_of}
 use Rattle.tree_record.specs.Candidate.{axis_of, candidate_of, candidate_words}
 use Rattle.tree_record.specs.Layout.{rect_of, layout_of, layout_words}
 use Rattle.sweep.specs.Sweep.{first_candidates, candidates_in, moved, side, keep, list_words, swept}

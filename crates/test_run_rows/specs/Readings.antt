@@ -1,6 +1,6 @@
 -- Inputs that tell the readings of document 01 apart, each with its answer: numbers are those of docs/DECISIONS.md. The area is 100 by 100
 -- at 0, left-to-right, and claims absolute boxes only, unless said. Assumes nothing.
-use Rattle.std.specs.Prelude.{ℕ, zero, suc, ◌+◌, ◌*◌, Bool, true, ◌&&◌, List, [], ◌∷◌, ◌++◌, pos, get_or, replicate, set}
+use Rattle.std.specs.Prelude.{ℕ, zero, suc, ◌+◌, ◌*◌, Bool, true, ◌&&◌, List, [], ◌∷◌, ◌++◌, pos, get_or, replicate, set, Some}
 use Rattle.std.specs.Float.Ieee.{of_int, to_bits}
 use Rattle.std.specs.Float.{binary32}
 use Rattle.records.specs.Records.{record_at, written}
@@ -8,7 +8,6 @@ use Rattle.style_record.specs.Record.{code_words, style_words, tag_word, ratio_w
 use Rattle.tree_record.specs.Candidate.{candidate_width, layer_word}
 use Rattle.tree_record.specs.Layout.{layout_width}
 use Rattle.oof_box.specs.declared.question.Stage.TheVariants.{LayOut}
-use Rattle.run.specs.declared.Progress.TheVariants.{Asking}
 use Rattle.run.specs.declared.State.{State}
 use Rattle.run.specs.Call.{Lent, Outcome}
 use Rattle.run.specs.Run.{opened, replied}
@@ -137,7 +136,7 @@ with_counts s working unclaimed begun answered =
     }
 
 unfoldable pub at_lay_out : State → State
-at_lay_out s = record { progress = Asking LayOut; replies = s.replies; counts = s.counts; overflow = s.overflow; opened = s.opened }
+at_lay_out s = record { progress = Some LayOut; replies = s.replies; counts = s.counts; overflow = s.overflow; opened = s.opened }
 
 -- ---- what is found
 

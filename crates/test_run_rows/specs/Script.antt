@@ -1,7 +1,8 @@
 -- A run in words, and whether the definition of a call gives it. Assumes nothing.
-use Rattle.std.specs.Prelude.{ℕ, Bool, true, false, cond, ◌&&◌, List, [], ◌∷◌, ◌++◌, eqb, Float, get_or, length, replicate, None, Option, Some}
+use Rattle.std.specs.Prelude.{ℕ, Bool, true, false, cond, ◌&&◌, List, [], ◌∷◌, ◌++◌, eqb, Float, get_or, length, replicate, Result, Ok, Err, None, Option, Some}
 use Rattle.std.specs.Float.Ieee.{of_bits, to_bits}
 use Rattle.std.specs.Float.{binary32}
+use Rattle.refusal.specs.declared.Refusal.{Refusal}
 use Rattle.refusal.specs.Refusal.{number_of}
 use Rattle.style.specs.declared.available_space.AvailableSpace.{AvailableSpace}
 use Rattle.style.specs.declared.available_space.AvailableSpace.TheVariants.{Definite, MinContent, MaxContent}
@@ -12,7 +13,7 @@ use Rattle.oof_box.specs.declared.question.Question.TheVariants.{MeasureBoth, Me
 use Rattle.oof_box.specs.declared.question.Reply.TheVariants.{Both, Width, Height, LaidOut}
 use Rattle.run.specs.declared.Opening.{Opening}
 use Rattle.run.specs.declared.Answer.{Answer}
-use Rattle.run.specs.declared.Answer.TheVariants.{Ask, Finish, Refused}
+use Rattle.run.specs.declared.Answer.TheVariants.{Ask, Finish}
 use Rattle.run.specs.Call.{Lent, Outcome}
 use Rattle.run.specs.Run.{opened}
 use Rattle.run.specs.Theorems.{Heard, next}
@@ -87,10 +88,10 @@ question_words (LayOut l) =
     ∷ []
 
 -- 4: a finish, with overflow and count; 5: a refusal, with its number
-unfoldable pub answer_words : Answer → List ℕ
-answer_words (Ask q) = question_words q
-answer_words (Finish f) = 4 ∷ (rect_words f.overflow ++ (f.count ∷ []))
-answer_words (Refused r) = 5 ∷ number_of r ∷ []
+unfoldable pub answer_words : Result Answer Refusal → List ℕ
+answer_words (Ok (Ask q)) = question_words q
+answer_words (Ok (Finish f)) = 4 ∷ (rect_words f.overflow ++ (f.count ∷ []))
+answer_words (Err r) = 5 ∷ number_of r ∷ []
 
 -- the answers of an opening and of the replies after it, in turn; then the layouts and both lists, as the last call left them
 unfoldable pub told : List ℕ → Outcome → List Heard → List (List ℕ)

@@ -7,6 +7,7 @@ ghost use Rattle.screen.specs.Screen.{FewLines};
 use boxlist_lines::list;
 use boxlist_lines::list::Row;
 use geometry::{Point, Rect, Size};
+use refusal::Refusal;
 use screen::{LineCounts, ScreenLists};
 use screen_fields::format;
 use screen_program::{read_input, room};
@@ -15,6 +16,7 @@ use std::rt::Files;
 use std::{env, io};
 use style_record::words::STYLE_WORDS;
 use tree_record::candidate::CANDIDATE_WORDS;
+use tree_record::layout;
 use util::bits;
 
 // Words in decimal.
@@ -37,14 +39,9 @@ fn print_sum(rt: &impl Print, name: &str, words: &[u32]) -> io::Result<()> {
     println!(rt; "{name} {} words, sum {}", words.len(), checksum(words))
 }
 
-// Floats by their words.
-fn rect(left: u32, right: u32, top: u32, bottom: u32) -> Rect<f32> {
-    Rect {
-        left: bits::from_word(left),
-        right: bits::from_word(right),
-        top: bits::from_word(top),
-        bottom: bits::from_word(bottom),
-    }
+// Left, right, top, bottom by their words.
+fn rect(words: [u32; 4]) -> Rect<f32> {
+    layout::rect_at(&words, 0)
 }
 
 // The overflow line of the printed list.
@@ -62,31 +59,25 @@ fn print_row(
     size: [u32; 2],
     margin: Rect<f32>,
 ) -> io::Result<()> {
-    let [x, y] = location;
-    let [width, height] = size;
+    let [x, y] = location.map(bits::from_word);
+    let [width, height] = size.map(bits::from_word);
     let mut row = [0u8; list::ROW];
     list::put_row(
         &mut row,
         0,
         Row {
             node,
-            location: Point {
-                x: bits::from_word(x),
-                y: bits::from_word(y),
-            },
-            size: Size {
-                width: bits::from_word(width),
-                height: bits::from_word(height),
-            },
+            location: Point { x, y },
+            size: Size { width, height },
             margin,
         },
     );
     rt.write_all(&row)
 }
 
-fn print_refusal(rt: &impl Print, number: u32) -> io::Result<()> {
+fn print_refusal(rt: &impl Print, refusal: Refusal) -> io::Result<()> {
     let mut line = [0u8; list::REFUSAL];
-    list::put_refusal(&mut line, 0, number);
+    list::put_refusal(&mut line, 0, u32::from(refusal));
     rt.write_all(&line)
 }
 
@@ -113,12 +104,8 @@ fn show_words(rt: &impl Print, counts: LineCounts, lists: &ScreenLists) -> io::R
         &lists.candidates[..counts.candidates * CANDIDATE_WORDS],
     )?;
     let [width, height, x, y, _, _, _, _, items, _] = lists.header;
-    let sides = rect(
-        lists.replies[2],
-        lists.replies[3],
-        lists.replies[4],
-        lists.replies[5],
-    );
+    let [_, _, left, right, top, bottom, ..] = lists.replies;
+    let sides = rect([left, right, top, bottom]);
     print_row(rt, items, [x, y], [width, height], sides)?;
     print_overflow(rt, sides)
 }
@@ -128,7 +115,7 @@ fn show(rt: &impl Print, text: &[u8]) -> io::Result<()> {
     let mut lists = ScreenLists::filled(7);
     match screen::read_screen(text, &mut lists) {
         Ok(counts) => show_words(rt, counts, &lists),
-        Err(refusal) => print_refusal(rt, u32::from(refusal)),
+        Err(refusal) => print_refusal(rt, refusal),
     }
 }
 
@@ -137,9 +124,8 @@ fn show_file(rt: &(impl Files + Print + Eprint), name: &str) -> io::Result<()> {
     match File::open(rt, name) {
         Ok(mut file) => {
             println!(rt; "-- {name}")?;
-            let mut text = room();
-            let n = read_input(&mut file, &mut text)?;
-            show(rt, &text[..n])
+            let mut room = room();
+            show(rt, read_input(&mut file, &mut room)?)
         }
         Err(error) => eprintln!(rt; "{name}: {error}"),
     }
@@ -157,16 +143,16 @@ fn show_rows(rt: &impl Print) -> io::Result<()> {
         0,
         [0x4396_0000, 0x41A0_0000],
         [0x4348_0000, 0x42C8_0000],
-        rect(0x4348_0000, 0x4348_0000, 0, 0),
+        rect([0x4348_0000, 0x4348_0000, 0, 0]),
     )?;
-    print_overflow(rt, rect(0, 0x43FA_0000, 0, 0x42F0_0000))?;
+    print_overflow(rt, rect([0, 0x43FA_0000, 0, 0x42F0_0000]))?;
     // 9,999,999 and 10,000,000 eighths, both signs; both zeros; a sixteenth; the smallest float
     print_row(
         rt,
         9999999,
         [0x4998_967F, 0xC998_967F],
         [0x4998_9680, 0xC998_9680],
-        rect(0, 0x8000_0000, 0x3D80_0000, 1),
+        rect([0, 0x8000_0000, 0x3D80_0000, 1]),
     )?;
     // an eighth, both signs; infinities; NaNs; 1 and -1
     print_row(
@@ -174,9 +160,9 @@ fn show_rows(rt: &impl Print) -> io::Result<()> {
         10000000,
         [0x3E00_0000, 0xBE00_0000],
         [0x7F80_0000, 0xFF80_0000],
-        rect(0x7FC0_0000, 0xFFFF_FFFF, 0x3F80_0000, 0xBF80_0000),
+        rect([0x7FC0_0000, 0xFFFF_FFFF, 0x3F80_0000, 0xBF80_0000]),
     )?;
-    print_refusal(rt, 1)
+    print_refusal(rt, Refusal::BadArea)
 }
 
 fn main(rt: HostRuntime) -> io::Result<()> {

@@ -4,6 +4,7 @@
 #![tactic(auto)]
 
 ghost use Rattle.std.specs.Prelude.{◌<◌, length};
+ghost use Rattle.style_record.specs.Record.{style_words};
 
 use std::io;
 use style_record::check::BadWord;
@@ -37,7 +38,8 @@ const TAG_COUNT: usize = 11;
 // Three tags that every field takes, then auto, then those of sizes only.
 const TAGS: [u32; TAG_COUNT] = [1, 5, 129, 3, 11, 15, 27, 35, 43, 59, 75];
 
-// How many codes each word after the lengths has; a float has as many words as a draw tells apart.
+// How many codes each word after the lengths has, in their order, as a record has them; a float has as many words as a draw tells apart.
+// A list of its own: drawn by the check's own numbers, the table would agree with whatever the check says.
 const COUNTS: [u32; words::CODE_WORDS] = [2, 65536, 2, 4, 2, 11, 3, 11, 3, 4, 4, 65536, 256];
 
 // The next of a fixed sequence.
@@ -52,7 +54,8 @@ fn tag(d: u32, tags: &[u32]) -> u32
     tags[(d / 65536) as usize % tags.len()]
 }
 
-// A word that breaks no rule as word k of a record, by a draw.
+// A word that breaks no rule as word k of a record, by a draw. The 0 in place of none is for no k of a record: with `COUNTS[..]` and `%` in place of `get` and
+// `checked_rem` it would have to be proved of each count that it is not 0.
 fn sample(k: usize, d: u32) -> u32 {
     if k < words::RATIO_PRESENT {
         if k % words::LENGTH_WORDS != 0 {
@@ -81,6 +84,7 @@ fn fill(table: &mut [u32]) {
 }
 
 // Prints what the check finds: a dash, or item and word.
+// `rt` goes beside the table, here and below: it is what may print, and a struct of both would borrow the table for as long as it prints.
 fn report(rt: &impl Print, table: &[u32]) -> io::Result<()> {
     match check::check_styles(table) {
         Ok(()) => print!(rt; " -"),
@@ -88,93 +92,60 @@ fn report(rt: &impl Print, table: &[u32]) -> io::Result<()> {
     }
 }
 
-// The table with one word replaced.
-fn replaced(rt: &impl Print, table: &mut [u32], place: usize, word: u32) -> io::Result<()> {
-    if place < table.len() {
-        let before = table[place];
-        table[place] = word;
-        let told = report(rt, table);
-        table[place] = before;
-        return told;
+// What the check finds in the table with some words replaced: the place of each, and its word.
+fn replaced(rt: &impl Print, table: &[u32; TABLE], words: &[(usize, u32)]) -> io::Result<()> {
+    let mut changed = *table;
+    for (place, word) in words {
+        if let Some(there) = changed.get_mut(*place) {
+            *there = *word;
+        }
     }
-    Ok(())
+    report(rt, &changed)
 }
 
-// The table with two words replaced.
-fn both_replaced(
-    rt: &impl Print,
-    table: &mut [u32],
-    place: usize,
-    word: u32,
-    other: usize,
-    code: u32,
-) -> io::Result<()> {
-    if other < table.len() {
-        let before = table[other];
-        table[other] = code;
-        let told = replaced(rt, table, place, word);
-        table[other] = before;
-        return told;
-    }
-    Ok(())
-}
-
-// Word k of an item by the code at j, and the item's word `other` by a code of its own. The item goes by k and j.
-fn one(
-    rt: &impl Print,
-    table: &mut [u32],
-    k: usize,
-    j: usize,
-    other: usize,
-    code: u32,
-) -> io::Result<()> {
-    if k < STYLE_WORDS && other < STYLE_WORDS && j < CODE_COUNT {
+// Word k by every code, and the item's word `other` by a code of its own. The item goes by k and the code's number.
+fn row(rt: &impl Print, table: &[u32; TABLE], k: usize, other: usize, code: u32) -> io::Result<()>
+    requires { (k < style_words) × (other < style_words) }
+{
+    for (j, word) in CODES.iter().enumerate() {
         let at = STYLE_WORDS * ((CODE_COUNT * k + j) * 37 % ITEMS);
-        both_replaced(rt, table, at + k, CODES[j], at + other, code)?;
-    }
-    Ok(())
-}
-
-// Word k by every code.
-fn row(rt: &impl Print, table: &mut [u32], k: usize, other: usize, code: u32) -> io::Result<()> {
-    for j in 0..CODE_COUNT {
-        one(rt, table, k, j, other, code)?;
+        replaced(rt, table, &[(at + other, code), (at + k, *word)])?;
     }
     println!(rt)
 }
 
 // Every word by every code. The other word is a float, which no code breaks.
-fn rows(rt: &impl Print, table: &mut [u32]) -> io::Result<()> {
+fn rows(rt: &impl Print, table: &[u32; TABLE]) -> io::Result<()> {
     for k in 0..STYLE_WORDS {
         row(rt, table, k, INSET_VALUE, 4290772993)?;
     }
     Ok(())
 }
 
-// The first part of the table only.
-fn part(rt: &impl Print, table: &[u32], n: usize) -> io::Result<()> {
-    if n <= table.len() {
-        report(rt, &table[..n])?;
-    }
-    Ok(())
-}
-
 // Safeties under an absent keyword, then under a keyword that is none.
-fn safeties(rt: &impl Print, table: &mut [u32]) -> io::Result<()> {
+fn safeties(rt: &impl Print, table: &[u32; TABLE]) -> io::Result<()> {
     row(rt, table, words::JUSTIFY_SAFETY, words::JUSTIFY, 10)?;
     row(rt, table, words::ALIGN_SAFETY, words::ALIGN, 10)?;
     row(rt, table, words::JUSTIFY_SAFETY, words::JUSTIFY, 11)
 }
 
 // Two words of one item, and of two items: the first in record order.
-fn pairs(rt: &impl Print, table: &mut [u32]) -> io::Result<()> {
+fn pairs(rt: &impl Print, table: &[u32; TABLE]) -> io::Result<()> {
     row(rt, table, PADDING_TOP, words::CONTAIN, 256)?;
     row(rt, table, words::CONTAIN, PADDING_TOP, 3)?;
     let late = 900 * STYLE_WORDS + INSET_RIGHT;
     let early = 30 * STYLE_WORDS + words::CONTAIN;
-    both_replaced(rt, table, late, 0, early, 256)?;
-    both_replaced(rt, table, early, 256, late, 0)?;
+    replaced(rt, table, &[(late, 0), (early, 256)])?;
+    replaced(rt, table, &[(early, 256), (late, 0)])?;
     println!(rt)
+}
+
+// What the check finds in the first words of a table. Not by `[..n]` at the calls: of so long an array that was written to, the length isn't found.
+fn part(rt: &impl Print, table: &[u32], n: usize) -> io::Result<()> {
+    match table.get(..n) {
+        None => Ok(()),
+        Some(first) => report(rt, first),
+    }
 }
 
 fn main(rt: HostRuntime) -> io::Result<()> {
@@ -182,21 +153,22 @@ fn main(rt: HostRuntime) -> io::Result<()> {
     fill(&mut table);
     report(&rt, &table)?;
     println!(rt)?;
-    rows(&rt, &mut table)?;
-    safeties(&rt, &mut table)?;
-    pairs(&rt, &mut table)?;
+    rows(&rt, &table)?;
+    safeties(&rt, &table)?;
+    pairs(&rt, &table)?;
     // item and word, not a place in the table; a safety behind keyword 9; a NaN for a ratio; the first item before the first word
-    replaced(&rt, &mut table, STYLE_WORDS, 2)?;
-    both_replaced(&rt, &mut table, words::JUSTIFY_SAFETY, 3, words::JUSTIFY, 9)?;
-    both_replaced(
+    replaced(&rt, &table, &[(STYLE_WORDS, 2)])?;
+    replaced(
         &rt,
-        &mut table,
-        words::RATIO_PRESENT,
-        1,
-        words::RATIO,
-        2143289344,
+        &table,
+        &[(words::JUSTIFY, 9), (words::JUSTIFY_SAFETY, 3)],
     )?;
-    both_replaced(&rt, &mut table, words::CONTAIN, 256, STYLE_WORDS, 2)?;
+    replaced(
+        &rt,
+        &table,
+        &[(words::RATIO, 2143289344), (words::RATIO_PRESENT, 1)],
+    )?;
+    replaced(&rt, &table, &[(STYLE_WORDS, 2), (words::CONTAIN, 256)])?;
     println!(rt)?;
     // a trailing part of a record is not looked at
     let before = table[STYLE_WORDS];

@@ -11,7 +11,8 @@ use style::ContainingBlockClaims;
 use style::alignment::{AlignItems, AlignItemsKeyword, AlignmentSafety};
 use sweep::Filled;
 use tree::layout::AxisStaticPosition;
-use tree_record::{candidate, codes, layout};
+use tree_record::candidate::CANDIDATE_WORDS;
+use tree_record::{candidate, layout};
 use util::bits;
 
 // Words in hex, 14 to a line.
@@ -35,16 +36,12 @@ fn print_aligned(rt: &impl Print, aligned: Result<AxisStaticPosition, Refusal>) 
     match aligned {
         Err(refusal) => println!(rt; "refused {}", u32::from(refusal)),
         Ok(position) => {
-            let align = position.align;
-            let edge = align.keyword;
-            let safety = align.safety;
-            let fallback = align.fallback;
             let words = [
                 bits::to_word(position.area.start),
                 bits::to_word(position.area.end),
-                codes::edge_code(edge),
-                codes::safety_code(safety),
-                codes::edge_code(fallback),
+                u32::from(position.align.keyword),
+                u32::from(position.align.safety),
+                u32::from(position.align.fallback),
             ];
             print_words(rt, &words)
         }
@@ -53,10 +50,7 @@ fn print_aligned(rt: &impl Print, aligned: Result<AxisStaticPosition, Refusal>) 
 
 // 10 to 52, right to left.
 fn align(rt: &impl Print, keyword: AlignItemsKeyword, safety: AlignmentSafety) -> io::Result<()> {
-    let alignment = AlignItems {
-        keyword: keyword,
-        safety: safety,
-    };
+    let alignment = AlignItems { keyword, safety };
     let area = Line {
         start: 10.0,
         end: 52.0,
@@ -82,7 +76,7 @@ fn print_good(rt: &impl Print, good: bool) -> io::Result<()> {
 }
 
 // An absolute box with -0 and a NaN that has a payload, a static one with another NaN, and a fixed one. Layers 255, 7 and 1.
-const ABSOLUTE: [u32; 14] = [
+const ABSOLUTE: [u32; CANDIDATE_WORDS] = [
     7,
     1,
     2,
@@ -99,7 +93,7 @@ const ABSOLUTE: [u32; 14] = [
     255,
 ];
 
-const STATIC: [u32; 14] = [
+const STATIC: [u32; CANDIDATE_WORDS] = [
     8,
     2,
     0,
@@ -116,7 +110,7 @@ const STATIC: [u32; 14] = [
     7,
 ];
 
-const FIXED: [u32; 14] = [
+const FIXED: [u32; CANDIDATE_WORDS] = [
     9,
     3,
     3,
@@ -138,13 +132,13 @@ fn candidates() -> [u32; 43]
     ensures { 43 ≡ length result }
 {
     let mut list = [0xABAB_ABAB; 43];
-    records::write(&mut list, 0, &ABSOLUTE);
-    records::write(&mut list, 14, &STATIC);
-    records::write(&mut list, 28, &FIXED);
+    records::write_record(&mut list, 0, &ABSOLUTE);
+    records::write_record(&mut list, 1, &STATIC);
+    records::write_record(&mut list, 2, &FIXED);
     list
 }
 
-// One sweep, and both lists after it.
+// One sweep, and both lists after it. `rt` is lent to each that prints, here and below, and of the list beside it a struct would be longer.
 fn print_sweep(
     rt: &impl Print,
     fixed_only: bool,
@@ -167,43 +161,35 @@ fn print_sweep(
 }
 
 fn filled(working: usize, unclaimed: usize) -> Filled {
-    Filled {
-        working: working,
-        unclaimed: unclaimed,
+    Filled { working, unclaimed }
+}
+
+// The three candidates of an opening, then the same surfaced by a box at (0, -2.5) whose area claims fixed ones only; then one record too many
+// for the working list, and for the unclaimed list.
+fn print_sweeps(rt: &impl Print, list: &[u32]) -> io::Result<()> {
+    let mut working = [0x1111_1111; 71];
+    let mut unclaimed = [0x2222_2222; 57];
+    let sweeps = [
+        (false, None, filled(0, 0)),
+        (true, Some(Point { x: 0.0, y: -2.5 }), filled(2, 1)),
+        (false, None, filled(4, 3)),
+        (true, None, filled(4, 3)),
+    ];
+    for (fixed_only, shift, filled) in sweeps {
+        print_sweep(
+            rt,
+            fixed_only,
+            shift,
+            list,
+            &mut working,
+            &mut unclaimed,
+            filled,
+        )?;
     }
+    Ok(())
 }
 
-// The three candidates of an opening, then the same surfaced by a box at (0, -2.5) whose area claims fixed ones only.
-fn print_accepted(
-    rt: &impl Print,
-    list: &[u32],
-    working: &mut [u32],
-    unclaimed: &mut [u32],
-) -> io::Result<()> {
-    let location = Point { x: 0.0, y: -2.5 };
-    print_sweep(rt, false, None, list, working, unclaimed, filled(0, 0))?;
-    print_sweep(
-        rt,
-        true,
-        Some(location),
-        list,
-        working,
-        unclaimed,
-        filled(2, 1),
-    )
-}
-
-// One record too many for the working list, then for the unclaimed list.
-fn print_refused(
-    rt: &impl Print,
-    list: &[u32],
-    working: &mut [u32],
-    unclaimed: &mut [u32],
-) -> io::Result<()> {
-    print_sweep(rt, false, None, list, working, unclaimed, filled(4, 3))?;
-    print_sweep(rt, true, None, list, working, unclaimed, filled(4, 3))
-}
-
+// `rt` goes beside the list, here and above: it is what may print, and has no part in what is printed.
 fn print_checks(rt: &impl Print, list: &[u32]) -> io::Result<()> {
     print_good(rt, candidate::are_good(list, 3, 10))?;
     print_good(rt, candidate::are_good(list, 3, 9))?;
@@ -235,10 +221,7 @@ fn main(rt: HostRuntime) -> io::Result<()> {
     align(&rt, AlignItemsKeyword::End, AlignmentSafety::Safe)?;
     align(&rt, AlignItemsKeyword::SelfEnd, AlignmentSafety::Safe)?;
     let list = candidates();
-    let mut working = [0x1111_1111; 71];
-    let mut unclaimed = [0x2222_2222; 57];
-    print_accepted(&rt, &list, &mut working, &mut unclaimed)?;
-    print_refused(&rt, &list, &mut working, &mut unclaimed)?;
+    print_sweeps(&rt, &list)?;
     print_checks(&rt, &list)?;
     print_layers(&rt)?;
     print_layout(&rt, &list)

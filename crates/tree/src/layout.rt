@@ -1,6 +1,7 @@
 // tree/layout.rs: where an out-of-flow box would stand in normal flow, and where it stands when laid out.
 ghost use Rattle.std.specs.Prelude.{◌≡◌};
 ghost use Rattle.style.specs.Values.{is_self_relative};
+ghost use Rattle.tree.specs.Codes.{edge_of, edge_code};
 ghost use Rattle.tree.specs.Static.{start_edge, end_edge, edge_for, fallback_of, from_alignment, shifted_axis, translated};
 
 use geometry::{Line, Point, Rect, Size};
@@ -14,6 +15,28 @@ pub enum AxisStaticEdge {
     Start,
     Center,
     End,
+}
+
+// The code of a record: 0 start, 1 center, 2 end.
+impl From<u32> for AxisStaticEdge {
+    ghost from_gives = { λ code r. r ≡ edge_of code };
+
+    fn from(code: u32) -> AxisStaticEdge {
+        match code {
+            0 => AxisStaticEdge::Start,
+            1 => AxisStaticEdge::Center,
+            _ => AxisStaticEdge::End,
+        }
+    }
+}
+
+// Its code.
+impl From<AxisStaticEdge> for u32 {
+    ghost from_gives = { λ edge code. code ≡ edge_code edge };
+
+    fn from(edge: AxisStaticEdge) -> u32 {
+        edge as u32
+    }
 }
 
 #[derive(Clone, Copy, PartialEq, Eq)]
@@ -109,7 +132,7 @@ impl AxisStaticPosition {
     {
         AxisStaticPosition {
             area: self.area.translate(offset),
-            align: self.align,
+            ..self
         }
     }
 }
@@ -127,6 +150,7 @@ pub struct OofCandidate {
 
 impl OofCandidate {
     // The areas moved from a child's border box to its parent's, the child standing at `offset` there.
+    // A line for each axis: a zip of points, with its contract, would have two uses of two lines each, this and `from_origin` of oof_place.
     pub fn translate(self, offset: Point<f32>) -> OofCandidate
         ensures { result ≡ translated self offset }
     {
@@ -141,7 +165,7 @@ impl OofCandidate {
 }
 
 // The area that insets are resolved against, by its size and its offset in the containing block's border box.
-#[derive(Clone, Copy, PartialEq)]
+#[derive(Clone, Copy, PartialEq, Default)]
 pub struct OofPositioningArea {
     pub size: Size<f32>,
     pub offset: Point<f32>,

@@ -22,8 +22,8 @@ use Rattle.style.specs.declared.alignment.AlignmentSafety.{AlignmentSafety}
 use Rattle.style.specs.declared.alignment.AlignmentSafety.TheVariants.{Default, Unsafe, Safe}
 use Rattle.tree.specs.declared.layout.AxisStaticEdge.{AxisStaticEdge}
 use Rattle.tree.specs.declared.layout.AxisStaticEdge.TheVariants.{Start, Center, End}
-use Rattle.tree_record.specs.Codes.{position_of, position_code, edge_of, edge_code}
-use Rattle.style.specs.Codes.{safety_of, safety_code}
+use Rattle.tree.specs.Codes.{edge_of, edge_code}
+use Rattle.style.specs.Codes.{position_of, position_code, safety_of, safety_code}
 use Rattle.tree_record.specs.Candidate.{candidate_width, candidate_kinds, axis_of, candidate_of, candidate_words}
 use Rattle.tree_record.specs.Layout.{rect_of, layout_of, layout_words}
 use Rattle.tree_record.specs.Laws.{CandidateWidths, DecodedFits, CandidateBack, RecordRewritten, LayoutWidths, FitsSize, FitsPoint, FitsRect, LayoutBack, LayoutRewritten}

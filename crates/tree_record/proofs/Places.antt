@@ -9,7 +9,7 @@ use lib.ListN.{get_or}
 use Rattle.records.specs.Records.{record_at}
 use Rattle.records.proofs.Laws.{word_of_record}
 use Rattle.tree.specs.declared.layout.OofCandidate.{OofCandidate}
-use Rattle.tree_record.specs.Codes.{position_of}
+use Rattle.style.specs.Codes.{position_of}
 use Rattle.tree_record.specs.Candidate.{candidate_width, layer_word, axis_of, candidate_of}
 
 module _ (w : ℕ) (ws : List ℕ) (i : ℕ) where

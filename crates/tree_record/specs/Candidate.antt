@@ -4,10 +4,10 @@ use Rattle.std.specs.Float.Ieee.{to_bits}
 use Rattle.std.specs.Float.{binary32}
 use Rattle.geometry.specs.Geometry.{◌to◌}
 use Rattle.records.specs.Records.{Kind, below, whole, float, float_at}
-use Rattle.style.specs.Codes.{safety_of, safety_code}
+use Rattle.style.specs.Codes.{position_of, position_code, safety_of, safety_code}
 use Rattle.tree.specs.declared.layout.AxisStaticPosition.{AxisStaticPosition}
 use Rattle.tree.specs.declared.layout.OofCandidate.{OofCandidate}
-use Rattle.tree_record.specs.Codes.{position_of, position_code, edge_of, edge_code}
+use Rattle.tree.specs.Codes.{edge_of, edge_code}
 
 abbrev pub candidate_width : ℕ
 candidate_width = 14

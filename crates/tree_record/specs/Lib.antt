@@ -1,4 +1,3 @@
-pub mod Codes
 pub mod Candidate
 pub mod Layout
 pub mod Laws

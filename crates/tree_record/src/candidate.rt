@@ -3,11 +3,11 @@ ghost use Rattle.std.specs.Prelude.{◌≡◌, ◌+◌, ◌*◌, ◌≤◌, leng
 ghost use Rattle.records.specs.Records.{record_at, written, good, good_records};
 ghost use Rattle.tree_record.specs.Candidate.{candidate_width, axis_kinds, candidate_kinds, axis_of, candidate_of, candidate_words};
 
-use crate::codes;
 use geometry::{Line, Point};
-use records::record_at;
+use records::{record_at, whole_records, write_record};
+use style::Position;
 use style::alignment::AlignmentSafety;
-use tree::layout::{AxisStaticAlign, AxisStaticPosition, OofCandidate};
+use tree::layout::{AxisStaticAlign, AxisStaticEdge, AxisStaticPosition, OofCandidate};
 use util::bits;
 
 // Where the layer stands: behind the words of y.
@@ -18,7 +18,8 @@ pub const CANDIDATE_WORDS: usize = 14;
 // Layers are 0 to 255.
 pub const LAYERS: u32 = 256;
 
-// Whether the codes of one axis, whose words begin at `at`, are in their lists: edge, safety, fallback edge.
+// Whether the codes of one axis, whose words begin at `at`, are in their lists: edge, safety, fallback edge. A place in the record, here and
+// below: five words cut out of it as an array would cost an `unwrap` at each call.
 #[tactic(auto, using(std::proofs::lemmas::Bool::Decides::nat_tests), unfolding(records::specs::Records::good, records::specs::Records::every, records::specs::Records::breaks, records::specs::Records::wrong))]
 fn is_axis_good(words: &[u32; CANDIDATE_WORDS], at: usize) -> bool
     requires { at + 5 ≤ candidate_width }
@@ -40,18 +41,13 @@ fn is_good(words: &[u32; CANDIDATE_WORDS], n: usize) -> bool
 }
 
 // Whether the first `count` records are there and keep to their rules.
+// The count is a lent state's, and may be above the list: so it is handed in beside the list, and tested here.
+#[tactic(auto, using(records::proofs::Laws::good_by_records))]
 pub fn are_good(words: &[u32], count: usize, n: usize) -> bool
     ensures { result ≡ good_records (candidate_kinds n) words.now count }
 {
-    if words.len() / CANDIDATE_WORDS < count {
-        return false;
-    }
-    for i in 0..count {
-        if !is_good(record_at::<CANDIDATE_WORDS>(words, i), n) {
-            return false;
-        }
-    }
-    true
+    let records = whole_records::<CANDIDATE_WORDS>(words);
+    count <= records.len() && records[..count].iter().all(|words| is_good(words, n))
 }
 
 // The static position in one axis, from five words on.
@@ -66,33 +62,40 @@ fn axis_at(words: &[u32; CANDIDATE_WORDS], at: usize) -> AxisStaticPosition
             end: bits::from_word(words[at + 1]),
         },
         align: AxisStaticAlign {
-            keyword: codes::edge_of(words[at + 2]),
+            keyword: AxisStaticEdge::from(words[at + 2]),
             safety: AlignmentSafety::from(words[at + 3]),
-            fallback: codes::edge_of(words[at + 4]),
+            fallback: AxisStaticEdge::from(words[at + 4]),
         },
+    }
+}
+
+// The candidate of a record.
+#[tactic(auto, unfolding(crate::specs::Candidate::candidate_of))]
+pub fn candidate_of(words: &[u32; CANDIDATE_WORDS]) -> OofCandidate
+    ensures { result ≡ candidate_of words.now }
+{
+    OofCandidate {
+        node: words[0],
+        order: words[1],
+        position: Position::from(words[2]),
+        place: Point {
+            x: axis_at(words, 3),
+            y: axis_at(words, 8),
+        },
+        layer: words[LAYER],
     }
 }
 
 // The candidate of record i.
-#[tactic(auto, unfolding(crate::specs::Candidate::candidate_of))]
 pub fn candidate_at(words: &[u32], i: usize) -> OofCandidate
     requires { candidate_width * i + candidate_width ≤ length words.now }
     ensures { result ≡ candidate_of (record_at candidate_width words.now i) }
 {
-    let record = record_at::<CANDIDATE_WORDS>(words, i);
-    OofCandidate {
-        node: record[0],
-        order: record[1],
-        position: codes::position_of(record[2]),
-        place: Point {
-            x: axis_at(record, 3),
-            y: axis_at(record, 8),
-        },
-        layer: record[LAYER],
-    }
+    candidate_of(record_at(words, i))
 }
 
-// A candidate's words.
+// A candidate's words: document 01's record, word by word, and no `From`, here and in `candidate_of`, since neither type is this crate's.
+// x's five, then y's: an array of each axis would be taken apart again here, as arrays are not joined.
 #[tactic(auto, unfolding(crate::specs::Candidate::candidate_words))]
 pub fn candidate_words(c: OofCandidate) -> [u32; CANDIDATE_WORDS]
     ensures { result ≡ candidate_words c }
@@ -102,25 +105,25 @@ pub fn candidate_words(c: OofCandidate) -> [u32; CANDIDATE_WORDS]
     [
         c.node,
         c.order,
-        codes::position_code(c.position),
+        u32::from(c.position),
         bits::to_word(x.area.start),
         bits::to_word(x.area.end),
-        codes::edge_code(x.align.keyword),
-        codes::safety_code(x.align.safety),
-        codes::edge_code(x.align.fallback),
+        u32::from(x.align.keyword),
+        u32::from(x.align.safety),
+        u32::from(x.align.fallback),
         bits::to_word(y.area.start),
         bits::to_word(y.area.end),
-        codes::edge_code(y.align.keyword),
-        codes::safety_code(y.align.safety),
-        codes::edge_code(y.align.fallback),
+        u32::from(y.align.keyword),
+        u32::from(y.align.safety),
+        u32::from(y.align.fallback),
         c.layer,
     ]
 }
 
-// Writes a candidate as record i.
+// Writes a candidate as record i. One line, as `write_layout` has: a trait of both would have no other use.
 pub fn write_candidate(words: &mut [u32], i: usize, c: OofCandidate)
     requires { candidate_width * i + candidate_width ≤ length words.old }
     ensures { words.new ≡ written words.old (candidate_width * i) (candidate_words c) }
 {
-    records::write(words, CANDIDATE_WORDS * i, &candidate_words(c));
+    write_record(words, i, &candidate_words(c));
 }

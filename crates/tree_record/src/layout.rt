@@ -5,7 +5,7 @@ ghost use Rattle.records.specs.Records.{record_at, written};
 ghost use Rattle.tree_record.specs.Layout.{layout_width, rect_of, layout_of, layout_words};
 
 use geometry::{Point, Rect, Size};
-use records::record_at;
+use records::{record_at, write_record};
 use tree::layout::Layout;
 use util::bits;
 
@@ -38,10 +38,11 @@ pub const MARGIN_BOTTOM: usize = 22;
 
 pub const LAYOUT_WORDS: usize = 23;
 
-// Left, right, top, bottom, from four words on.
+// Left, right, top, bottom, from the four words at a place on.
+// A place in the record, here and in its readers: four words cut out of it as an array would cost an `unwrap` each.
 #[tactic(auto, unfolding(crate::specs::Layout::rect_of))]
-fn rect_at(words: &[u32; LAYOUT_WORDS], at: usize) -> Rect<f32>
-    requires { at + 4 ≤ layout_width }
+pub fn rect_at(words: &[u32], at: usize) -> Rect<f32>
+    requires { at + 4 ≤ length words.now }
     ensures { result ≡ rect_of words.now at }
 {
     Rect {
@@ -80,7 +81,7 @@ pub fn layout_at(layouts: &[u32], node: usize) -> Layout
     }
 }
 
-// A layout's words.
+// A layout's words: document 01's record, word by word, and no `From`, since neither type is this crate's.
 #[tactic(auto, unfolding(crate::specs::Layout::layout_words))]
 pub fn layout_words(l: Layout) -> [u32; LAYOUT_WORDS]
     ensures { result ≡ layout_words l }
@@ -117,5 +118,5 @@ pub fn write_layout(layouts: &mut [u32], node: usize, l: Layout)
     requires { layout_width * node + layout_width ≤ length layouts.old }
     ensures { layouts.new ≡ written layouts.old (layout_width * node) (layout_words l) }
 {
-    records::write(layouts, LAYOUT_WORDS * node, &layout_words(l));
+    write_record(layouts, node, &layout_words(l));
 }

@@ -2,5 +2,4 @@
 #![tactic(auto)]
 
 pub mod candidate;
-pub mod codes;
 pub mod layout;

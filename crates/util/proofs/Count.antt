@@ -1,7 +1,9 @@
 -- Division of a whole number by 8, and the value of a count of eighths. Assumes nothing.
 use Rattle.std.proofs.Common.{◌≡◌, ℕ, zero, suc, ◌+◌, ◌*◌, ◌/◌, ◌%◌, ◌^◌, ◌<◌, ◌≤◌, Bool, true, false, cond, not, ◌&&◌, ◌||◌, eqb, ltb, leb, ℤ, pos, sym, refl, ap, ◌∙◌, le_trans, lt_of_lt_of_le, lt_of_le_of_lt, zero-lt-suc, mul_assoc, mul_comm, mul-pos, div-add-mod', zero-mul, mul-one, mul_right_comm, mul-div_cancel, arith, lit<, lit≤, shl_lt, ltb-false, ltb-true, le-ltb, lt-ltb, eq-eqb, eqb-true, le-leb, leb-true, None}
 use native.Mathlib.Nat.{eq_of_mul-eq-mul_right, mul-mod_left}
-use mathlib.Core.Bool.{beq, or-true}
+use mathlib.Core.Bool.{beq, or-true, false≢true}
+use Rattle.std.proofs.Math.Arith.{le-zero}
+use Rattle.std.proofs.lemmas.Bool.{and_parts}
 use lib.Ieee.{Float, nan, inf, fin, up, down, round, div, mul, neg, lt, eq, of_int, to_unsigned, of_bits, binary32}
 use lib.Ieee.Exact.{HasValue, round_exact}
 use lib.Ieee.Fits.{down_pos}
@@ -9,9 +11,6 @@ use lib.Ieee.Back.{round_whole}
 use lib.Ieee.Scale.{round_same}
 use Rattle.util.specs.Order.{magnitude}
 use Rattle.util.specs.Eighths.{whole, eighths, counted, count_of}
-
-apart : false ≡ true → ⊥
-apart z = let n : ◌≡◌ {A = ℕ} 0 1 = cc in omega arith
 
 -- ---- from a count to the float
 
@@ -94,11 +93,8 @@ below_zero true m e n v = go (ltb 0 n) refl
         lt-ltb 0 (m * up e * 1 + 0 * down e) (omega (arith, zero-mul (down e)))
     go false p =
         let h : n ≤ 0 = ltb-false 0 n p in
-        let k : n * down e ≡ 0 = ap (λ (x : ℕ). x * down e) (none n h) ∙ zero-mul (down e) in
+        let k : n * down e ≡ 0 = ap (λ (x : ℕ). x * down e) (le-zero h) ∙ zero-mul (down e) in
         le-ltb 0 (m * up e * 1 + 0 * down e) (omega (arith, zero-mul (down e)))
-      where
-        none : (n : ℕ) → n ≤ 0 → n ≡ 0
-        none n h = omega arith
 
 -- what is n eighths in size counts as n
 pub count_is : (x : Float) (n : ℕ) → n ≤ 9999999 → Mag x n → count_of x ≡ whole (lt x (of_bits binary32 0)) n
@@ -121,19 +117,15 @@ cross a b d d' n p e v =
     eq_of_mul-eq-mul_right d' p (b * 8) (n * d)
     (mul_right_comm b 8 d' ∙ ap (λ (x : ℕ). x * 8) (sym e) ∙ mul_right_comm a d 8 ∙ ap (λ (x : ℕ). x * d) v ∙ mul_right_comm n d' d)
 
-and_left : (a b : Bool) → (a && b) ≡ true → a ≡ true
-and_left true b e = refl
-and_left false b e = e
-
 pub same_size : (u x : Float) (t : Bool) (n : ℕ) → HasValue u t n 8 → eq u x ≡ true → Mag x n
 unfolding eq
 same_size nan x t n v e = absurd v
 same_size (inf r) x t n v e = absurd v
-same_size (fin r k f) nan t n v e = absurd (apart e)
-same_size (fin r k f) (inf s) t n v e = absurd (apart e)
+same_size (fin r k f) nan t n v e = absurd (false≢true e)
+same_size (fin r k f) (inf s) t n v e = absurd (false≢true e)
 same_size (fin r k f) (fin s m e) t n v p =
     cross (k * up f) (m * up e) (down e) (down f) n (down_pos f)
-    (eqb-true (k * up f * down e) (m * up e * down f) (and_left (eqb (k * up f * down e) (m * up e * down f)) (beq r s || eqb (k * up f * down e) 0) p)) v.1
+    (eqb-true (k * up f * down e) (m * up e * down f) (and_parts (eqb (k * up f * down e) (m * up e * down f)) (beq r s || eqb (k * up f * down e) 0) p).0) v.1
 
 pub sound : (x : Float) (g : Bool) (n : ℕ) → n ≤ 9999999 → lt x (of_bits binary32 0) ≡ g → eq (eighths g n) x ≡ true → whole g n ≡ count_of x
 sound x g n h p e = sym (count_is x n h (same_size (eighths g n) x (g && ltb 0 n) n (eighths_value g n h) e) ∙ rw p refl)
@@ -179,9 +171,6 @@ guess x = mul binary32 (magnitude x) (of_bits binary32 1090519040)
 guess_is : (x : Float) (q : ℕ) → q ≤ 9999999 → Mag x q → Guess (guess x) q
 guess_is x q h v = rw eight_is (record { sign = false; plain = refl; value = times8 (magnitude x) false q h (sized x q v) })
 
-zero_of : (q : ℕ) → ltb 0 q ≡ false → q ≡ 0
-zero_of q e = let h = ltb-false 0 q e in omega arith
-
 -- cut to q
 pub cut : (y : Float) (q : ℕ) → q ≤ 9999999 → Guess y q → to_unsigned 64 y ≡ q
 unfolding to_unsigned
@@ -190,7 +179,7 @@ cut (inf s) q h g = absurd g.value
 cut (fin false k f) q h g =
     let v : k * up f ≡ q * down f = sym (mul-one (k * up f)) ∙ g.value.1 in
     rw (v, mul-div_cancel q (down_pos f)) (omega arith)
-cut (fin true k f) q h g = sym (zero_of q (rw (← g.value.0) at g.plain))
+cut (fin true k f) q h g = sym (le-zero (ltb-false 0 q (rw (← g.value.0) at g.plain)))
 
 -- and tried with success
 level_of : (u x : Float) (t : Bool) (q : ℕ) → HasValue u t q 8 → Mag x q → (lt x (of_bits binary32 0) && ltb 0 q) ≡ t → eq u x ≡ true
@@ -207,14 +196,14 @@ level_of (fin r k f) (fin s m e) t q v w z =
   where
     go : (s r b : Bool) → ltb 0 q ≡ b → r ≡ ((s && b) && b) → (beq r s || eqb (k * up f * down e) 0) ≡ true
     go true true true p g = refl
-    go true false true p g = absurd (apart g)
+    go true false true p g = absurd (false≢true g)
     go true r false p g =
-        let z : q ≡ 0 = zero_of q p in
+        let z : q ≡ 0 = le-zero (ltb-false 0 q p) in
         let w : q * down f ≡ 0 = ap (λ (x : ℕ). x * down f) z ∙ zero-mul (down f) in
         let y : k * up f ≡ 0 = let u : k * up f * 8 ≡ q * down f = v.1 in omega arith in
         rw (eq-eqb (k * up f * down e) 0 (ap (λ (x : ℕ). x * down e) y ∙ zero-mul (down e))) (or-true (beq r true))
     go false false b p g = refl
-    go false true b p g = absurd (apart (sym g))
+    go false true b p g = absurd (false≢true (sym g))
 
 pub tried : (x : Float) (q : ℕ) → q ≤ 9999999 → Mag x q → eq (eighths (lt x (of_bits binary32 0)) q) x ≡ true
 tried x q h v = level_of (eighths (lt x (of_bits binary32 0)) q) x (lt x (of_bits binary32 0) && ltb 0 q) q (eighths_value (lt x (of_bits binary32 0)) q h) v refl
@@ -226,4 +215,4 @@ module _ (x : Float) where
   uncounted_large e = uncounted x (λ q v h. let k = cut (guess x) q h (guess_is x q h v) in omega arith)
 
   pub uncounted_part : eq (eighths (lt x (of_bits binary32 0)) (to_unsigned 64 (guess x))) x ≡ false → None ≡ count_of x
-  uncounted_part e = uncounted x (λ q v h. apart (sym (rw (cut (guess x) q h (guess_is x q h v)) at e) ∙ tried x q h v))
+  uncounted_part e = uncounted x (λ q v h. false≢true (sym (rw (cut (guess x) q h (guess_is x q h v)) at e) ∙ tried x q h v))

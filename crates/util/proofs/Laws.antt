@@ -13,12 +13,16 @@ use Rattle.util.proofs.Unique.{same_count, counts, count_float}
 use Rattle.util.specs.Order.{larger, smaller, before, zero_of, magnitude}
 use Rattle.util.specs.Maybe.{clamped, at_least, at_most}
 use Rattle.util.specs.Eighths.{whole, eighths}
-use Rattle.util.specs.Laws.{plus0, AtMostIsTransitive, LargerBounds, LargerIsOne, LargerCommutes, SmallerBounds, SmallerIsOne, SmallerCommutes, NanLoses, OnlyTwoNans, MinusZeroIsBelow, SmallerIsDual, MagnitudeIsEither, MagnitudeIsAtLeastZero, MagnitudeOfZeros, MagnitudeOfNan, MinWins, MaxBinds, MinAboveMax, WithinStays, NoBound, WordIsNan, NanWord, WordBack, FloatBack, EighthsAreExact, CountBack, EighthsBack, CountIsFound, CountIsSmall}
+use Rattle.util.specs.Laws.{plus0, AtOrAbove, AtMostIsTransitive, LargerBounds, LargerIsOne, LargerCommutes, SmallerBounds, SmallerIsOne, SmallerCommutes, NanLoses, OnlyTwoNans, MinusZeroIsBelow, SmallerIsDual, MagnitudeIsEither, MagnitudeIsAtLeastZero, MagnitudeOfZeros, MagnitudeOfNan, MinWins, MaxBinds, MinAboveMax, WithinStays, NoBound, WordIsNan, NanWord, WordBack, FloatBack, EighthsAreExact, CountBack, EighthsBack, CountIsFound, CountIsSmall}
 
 -- ---- the larger and the smaller
 
 pub at_most_is_transitive : AtMostIsTransitive
 at_most_is_transitive = le_trans
+
+-- what is at least a number that is at least e, is at least e
+pub onwards : (e low x : Float) → AtOrAbove e low → AtOrAbove low x → AtOrAbove e x
+onwards e low x h k p = let a = h p in let b = k a.0 in (b.0, at_most_is_transitive e low x a.1 b.1)
 
 abbrev Bound : Float → Float → Type 0
 Bound x r = (is_nan r ≡ false) × (le x r ≡ true)

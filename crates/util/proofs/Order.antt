@@ -1,17 +1,18 @@
 -- The order of floats, and that two floats, neither before the other, are one. Assumes nothing.
-use Rattle.std.proofs.Common.{◌≡◌, ℕ, zero, suc, ◌+◌, ◌*◌, ◌^◌, ◌<◌, Bool, true, false, ◌&&◌, ◌||◌, T, eqb, ℤ, pos, negsuc, sym, refl, ap, ◌∙◌, zero-lt-suc, mul-pos, one-mul, zero-mul, mul-one, arith, eqb→eq, ltb-false, ne_eqb, eqb-true, is_lt, cond, not, Less, Equal, Greater, subst, inl, inr}
+use Rattle.std.proofs.Common.{◌≡◌, ℕ, zero, suc, ◌*◌, ◌^◌, ◌<◌, Bool, true, false, ◌&&◌, ◌||◌, T, eqb, ℤ, pos, negsuc, sym, refl, ap, ◌∙◌, zero-lt-suc, mul-pos, one-mul, zero-mul, mul-one, arith, eqb→eq, ne_eqb, eqb-true, cond, subst, inl, inr}
 use mathlib.Core.Bool.{beq, and-false}
 use lib.Pow.{pow-lt}
 use lib.Dec.{not_T}
 use lib.Ieee.Bits.{is_true, is_false}
+use Rattle.std.proofs.lemmas.Bool.{and_parts}
 use Rattle.std.proofs.lemmas.Float as float
 use Rattle.std.proofs.lemmas.Float.{T_from_true, T_from_false}
 use lib.Ieee.{Float, nan, inf, fin, up, down, lt, eq, le, is_nan, below, level, fits, binary32}
 use lib.Ieee.Fits.{up_pos, down_pos}
 use Rattle.util.proofs.Floats.{no}
 use Rattle.util.proofs.Unique.{same, is_odd}
-use Rattle.std.specs.Float.{total_cmp, is_sign_negative, float_with_sign}
-use Rattle.util.specs.Order.{before, zero_of, magnitude}
+use Rattle.std.specs.Float.{is_sign_negative, float_with_sign}
+use Rattle.util.specs.Order.{before, larger, smaller, zero_of, magnitude}
 
 -- two numbers, neither below the other, are equal
 pub equal : (x y : Float) → is_nan x ≡ false → is_nan y ≡ false → lt x y ≡ false → lt y x ≡ false → eq x y ≡ true
@@ -87,18 +88,13 @@ zero_number s (fin t m e) p = refl
 pub zeros : (s t : Bool) (x y : Float) → zero_of s x ≡ true → zero_of t y ≡ true → eq x y ≡ true
 zeros s t x y p q = equal x y (zero_number s x p) (zero_number t y q) (zeros_level s t x y p q) (zeros_level t s y x q p)
 
-both : (p q : Bool) → p && q ≡ true → (p ≡ true) × (q ≡ true)
-both true true h = (refl, refl)
-both true false h = no h refl
-both false q h = no h refl
-
 pub before_by : (a b : Float) → before a b ≡ true → le a b ≡ true
 unfolding before
 before_by a b h = go (lt a b) refl h
   where
     go : (l : Bool) → lt a b ≡ l → l || (zero_of true a && zero_of false b) ≡ true → le a b ≡ true
     go true e h = lt_le a b e
-    go false e h = let z = both (zero_of true a) (zero_of false b) h in eq_le a b (zeros true false a b z.0 z.1)
+    go false e h = let z = and_parts (zero_of true a) (zero_of false b) h in eq_le a b (zeros true false a b z.0 z.1)
 
 pub not_before : (a b : Float) → before a b ≡ false → (lt a b ≡ false) × ((zero_of true a && zero_of false b) ≡ false)
 unfolding before
@@ -127,59 +123,15 @@ one_before a b h k = go (lt a b) refl (lt b a) refl h k
   where
     go : (l : Bool) → lt a b ≡ l → (g : Bool) → lt b a ≡ g → l || (zero_of true a && zero_of false b) ≡ true → g || (zero_of true b && zero_of false a) ≡ true → ⊥
     go true p true q h k = one_way a b p q
-    go true p false q h k = let z = both (zero_of true b) (zero_of false a) k in no p (zeros_level false true a b z.1 z.0)
-    go false p true q h k = let z = both (zero_of true a) (zero_of false b) h in no q (zeros_level false true b a z.1 z.0)
+    go true p false q h k = let z = and_parts (zero_of true b) (zero_of false a) k in no p (zeros_level false true a b z.1 z.0)
+    go false p true q h k = let z = and_parts (zero_of true a) (zero_of false b) h in no q (zeros_level false true b a z.1 z.0)
     go false p false q h k =
-        let y = both (zero_of true a) (zero_of false b) h in
-        let z = both (zero_of true b) (zero_of false a) k in
+        let y = and_parts (zero_of true a) (zero_of false b) h in
+        let z = and_parts (zero_of true b) (zero_of false a) k in
         one_sign a y.0 z.1
 
 some : (m : ℕ) (e d : ℤ) → 0 < suc m * up e * down d
 some m e d = mul-pos (mul-pos (zero-lt-suc m) (up_pos e)) (down_pos d)
-
--- of two numbers, the first not below, -0 and +0 are told apart by their signs
-signs : (s : Bool) (m : ℕ) (e : ℤ) (t : Bool) (n : ℕ) (d : ℤ) → lt (fin s m e) (fin t n d) ≡ false → (zero_of true (fin s m e) && zero_of false (fin t n d)) ≡ (s && not t)
-unfolding lt zero_of
-signs false zero e t n d h = refl
-signs false (suc m) e t n d h = refl
-signs true zero e true zero d h = refl
-signs true zero e true (suc n) d h = refl
-signs true (suc m) e true n d h = refl
-signs true zero e false zero d h = refl
-signs true zero e false (suc n) d h = absurd (omega (arith, some n d e, ltb-false 0 (0 * up e * down d + suc n * up d * down e) h))
-signs true (suc m) e false n d h = absurd (omega (arith, some m e d, ltb-false 0 (suc m * up e * down d + n * up d * down e) h))
-
--- the library's order of two numbers says that the first is less where it is before
-pub total_below : (a b : Float) → is_nan a ≡ false → is_nan b ≡ false → is_lt (total_cmp a b) ≡ before a b
-unfolding before lt is_nan zero_of is_sign_negative
-total_below nan b p q = no refl p
-total_below (inf s) nan p q = no refl q
-total_below (fin s m e) nan p q = no refl q
-total_below (inf true) (inf true) p q = refl
-total_below (inf true) (inf false) p q = refl
-total_below (inf false) (inf true) p q = refl
-total_below (inf false) (inf false) p q = refl
-total_below (inf true) (fin t n d) p q = refl
-total_below (inf false) (fin t n d) p q = refl
-total_below (fin s m e) (inf true) p q = sym (and-false (zero_of true (fin s m e)))
-total_below (fin s m e) (inf false) p q = refl
-total_below (fin s m e) (fin t n d) p q = settled s t (lt (fin s m e) (fin t n d)) (lt (fin t n d) (fin s m e)) _ not_zeros (signs s m e t n d)
-  where
-    not_zeros : lt (fin t n d) (fin s m e) ≡ true → (zero_of true (fin s m e) && zero_of false (fin t n d)) ≡ false
-    not_zeros g = go (zero_of true (fin s m e) && zero_of false (fin t n d)) refl
-      where
-        go : (z : Bool) → (zero_of true (fin s m e) && zero_of false (fin t n d)) ≡ z → z ≡ false
-        go false k = refl
-        go true k = let z = both _ _ k in no g (zeros_level false true (fin t n d) (fin s m e) z.1 z.0)
-
-    settled : (s t l g z : Bool) → (g ≡ true → z ≡ false) → (l ≡ false → z ≡ (s && not t))
-        → is_lt (cond l Less (cond g Greater (cond s (cond t Equal Less) (cond t Greater Equal)))) ≡ l || z
-    settled s t true g z h k = refl
-    settled s t false true z h k = sym (h refl)
-    settled true true false false z h k = sym (k refl)
-    settled true false false false z h k = sym (k refl)
-    settled false true false false z h k = sym (k refl)
-    settled false false false false z h k = sym (k refl)
 
 -- ---- two floats, neither before the other, are one
 
@@ -217,14 +169,11 @@ level_size s a t b h = eqb-true a b (go (eqb a b) (beq s t || eqb a 0) h)
     go true q h = refl
     go false q h = no h refl
 
-not_zero : (a : ℕ) → 0 < a → eqb a 0 ≡ false
-not_zero a p = ne_eqb a 0 (λ e. omega arith)
-
 pub level_sign : (s : Bool) (a : ℕ) (t : Bool) (b : ℕ) → 0 < a → level s a t b ≡ true → s ≡ t
 level_sign true a true b p h = refl
 level_sign false a false b p h = refl
-level_sign true a false b p h = no (rw (not_zero a p, and-false) at h) refl
-level_sign false a true b p h = no (rw (not_zero a p, and-false) at h) refl
+level_sign true a false b p h = no (rw (ne_eqb a 0 (λ e. omega arith), and-false) at h) refl
+level_sign false a true b p h = no (rw (ne_eqb a 0 (λ e. omega arith), and-false) at h) refl
 
 nought : (a b : ℕ) → 0 * a * b ≡ 0
 nought a b = ap (λ (x : ℕ). x * b) (zero-mul a) ∙ zero-mul b
@@ -261,3 +210,92 @@ one_number (fin s (suc m) e) (fin t (suc n) d) f g i h k =
 
 pub one_float : (x y : Float) → is_nan x ≡ false → is_nan y ≡ false → T (fits binary32 x) → T (fits binary32 y) → before x y ≡ false → before y x ≡ false → x ≡ y
 one_float x y p q f g h k = one_number x y f g (equal x y p q (not_before x y h).0 (not_before y x k).0) h k
+
+-- ---- the larger and the smaller, by the test of the code: a is below b, or equal to it and negative
+
+abbrev way : Float → Float → Bool
+way a b = lt a b || (eq a b && is_sign_negative a)
+
+zero_sign : (s : Bool) (x : Float) → zero_of s x ≡ true → is_sign_negative x ≡ s
+unfolding zero_of is_sign_negative
+zero_sign s nan p = no p refl
+zero_sign s (inf t) p = no p refl
+zero_sign true (fin true zero e) p = refl
+zero_sign true (fin false zero e) p = no p refl
+zero_sign false (fin true zero e) p = no p refl
+zero_sign false (fin false zero e) p = refl
+zero_sign s (fin t (suc m) e) p = no p refl
+
+way_le : (a b : Float) → way a b ≡ true → le a b ≡ true
+way_le a b h = go (lt a b) refl h
+  where
+    go : (l : Bool) → lt a b ≡ l → l || (eq a b && is_sign_negative a) ≡ true → le a b ≡ true
+    go true e h = lt_le a b e
+    go false e h = eq_le a b (and_parts (eq a b) (is_sign_negative a) h).0
+
+way_not_after : (a b : Float) → way a b ≡ true → before b a ≡ false
+unfolding before
+way_not_after a b w = go (before b a) refl
+  where
+    apart : (l : Bool) → lt b a ≡ l → l || (zero_of true b && zero_of false a) ≡ true → ⊥
+    apart true e h = not_above_lem b a e (way_le a b w)
+    apart false e h =
+        let z = and_parts (zero_of true b) (zero_of false a) h in
+        no (rw (zeros_level false true a b z.1 z.0, zero_sign false a z.1, and-false (eq a b)) at w) refl
+
+    go : (k : Bool) → before b a ≡ k → k ≡ false
+    go false e = refl
+    go true e = absurd (apart (lt b a) refl e)
+
+-- where it doesn't hold, a is not before b
+no_way : (a b : Float) → way a b ≡ false → before a b ≡ false
+unfolding before
+no_way a b w = go (lt a b) (eq a b) (is_sign_negative a) refl refl refl w
+  where
+    go : (l q s : Bool) → lt a b ≡ l → eq a b ≡ q → is_sign_negative a ≡ s → l || (q && s) ≡ false → l || (zero_of true a && zero_of false b) ≡ false
+    go true q s e f g h = no refl h
+    go false q s e f g h = at_zeros (zero_of true a && zero_of false b) refl
+      where
+        at_zeros : (z : Bool) → (zero_of true a && zero_of false b) ≡ z → z ≡ false
+        at_zeros false k = refl
+        at_zeros true k =
+            let z = and_parts (zero_of true a) (zero_of false b) k in
+            no refl (rw (sym f ∙ zeros true false a b z.0 z.1, sym g ∙ zero_sign true a z.0) at h)
+
+-- two that it holds for are one where the first is not before the second
+way_one : (a b : Float) → fits binary32 a ≡ true → fits binary32 b ≡ true → way a b ≡ true → before a b ≡ false → a ≡ b
+way_one a b f g w e =
+    let n = le_numbers a b (way_le a b w) in
+    one_float a b n.0 n.1 (T_from_true _ f) (T_from_true _ g) e (way_not_after a b w)
+
+module _ (a b : Float) where
+  left_to : (h : Bool) → (h ≡ false → a ≡ b) → b ≡ cond h b a
+  left_to true p = refl
+  left_to false p = sym (p refl)
+
+  given_to : (n m h : Bool) → m ≡ false → (h ≡ false → a ≡ b) → b ≡ cond n b (cond m a (cond h b a))
+  given_to true m h p e = refl
+  given_to false false h p e = left_to h e
+  given_to false true h p e = no refl p
+
+  kept_to : (n m h : Bool) → n ≡ false → h ≡ false → a ≡ cond n b (cond m a (cond h b a))
+  kept_to false true h p e = refl
+  kept_to false false false p e = refl
+  kept_to false false true p e = no refl e
+  kept_to true m h p e = no refl p
+
+  pub larger_second : fits binary32 a ≡ true → fits binary32 b ≡ true → way a b ≡ true → b ≡ larger a b
+  unfolding larger
+  larger_second f g w = given_to (is_nan a) (is_nan b) (before a b) (le_numbers a b (way_le a b w)).1 (way_one a b f g w)
+
+  pub larger_first : is_nan a ≡ false → way a b ≡ false → a ≡ larger a b
+  unfolding larger
+  larger_first p w = kept_to (is_nan a) (is_nan b) (before a b) p (no_way a b w)
+
+  pub smaller_second : fits binary32 a ≡ true → fits binary32 b ≡ true → way b a ≡ true → b ≡ smaller a b
+  unfolding smaller
+  smaller_second f g w = given_to (is_nan a) (is_nan b) (before b a) (le_numbers b a (way_le b a w)).0 (λ e. sym (way_one b a g f w e))
+
+  pub smaller_first : is_nan a ≡ false → way b a ≡ false → a ≡ smaller a b
+  unfolding smaller
+  smaller_first p w = kept_to (is_nan a) (is_nan b) (before b a) p (no_way b a w)

@@ -15,14 +15,16 @@ pub struct Count {
     pub size: u64,
 }
 
-// n eighths, negative or not. Zero has no sign.
+// The float of a count. Zero has no sign.
+// That it is at most 9,999,999 is a clause, here, in `to_eighths` and in `pixels::integer`, and no invariant of `Count`: one read from a field may be
+// larger, of which `from_eighths` gives none.
 #[tactic(auto, using(crate::proofs::Count::none_is, crate::proofs::Count::minus_is, crate::proofs::Count::plus_is))]
-fn exact(negative: bool, n: u64) -> f32
-    requires { n ≤ 9999999 }
-    ensures { result ≡ eighths negative n }
+fn exact(count: Count) -> f32
+    requires { count.size ≤ 9999999 }
+    ensures { result ≡ eighths count.negative count.size }
 {
-    let x = n as f32;
-    if negative && n != 0 {
+    let x = count.size as f32;
+    if count.negative && count.size != 0 {
         -x / 8.0
     } else {
         x / 8.0
@@ -34,7 +36,7 @@ pub fn from_eighths(count: Count) -> Option<f32>
     ensures { result ≡ float_of_count count.negative count.size }
 {
     if count.size <= LARGEST {
-        Some(exact(count.negative, count.size))
+        Some(exact(count))
     } else {
         None
     }
@@ -46,10 +48,12 @@ pub fn to_eighths(x: f32) -> Option<Count>
     ensures value { result ≡ count_of x }
     ensures small { IfSome result (λ c. c.size ≤ 9999999) }
 {
-    let size = saturating_f32_to_u64(sys::abs(x) * 8.0);
-    let negative = x < 0.0;
-    if size <= LARGEST && exact(negative, size) == x {
-        return Some(Count { negative, size });
+    let count = Count {
+        negative: x < 0.0,
+        size: saturating_f32_to_u64(sys::abs(x) * 8.0),
+    };
+    if count.size <= LARGEST && exact(count) == x {
+        return Some(count);
     }
     None
 }

@@ -5,6 +5,7 @@ ghost use Rattle.util.specs.Maybe.{at_most, at_least, clamped, map_clamped};
 use crate::sys;
 
 // The Rust's trait of this name, whose `maybe_add` and `maybe_max` are `map` of an Option here.
+// `min` and `max` stay two parameters, here and in the callers: each is a field of its own there, and a struct of both would be made at each call.
 pub trait MaybeMath {
     ghost clamp: { Self → Option Float → Option Float → Self };
 

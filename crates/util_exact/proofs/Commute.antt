@@ -1,31 +1,18 @@
 -- A sum of two floats is one float either way round, whatever they are: left plus right is right plus left. Assumes nothing.
+use Rattle.std.proofs.lemmas.Bool.Decides.{nat_tests}
 use mathlib.Core.Path.{◌≡◌, refl, ap, ◌∙◌}
 use mathlib.Core.Bool.{Bool, true, false, ◌&&◌, cond}
-use Prim.Native.Nat.{ℕ, ◌-◌, ◌*◌}
+use Prim.Native.Nat.{ℕ, ◌*◌}
 use native.Mathlib.Nat.{add_comm, mul_comm}
 use native.Mathlib.Omega.{arith}
-use lib.Dec.{ltb}
 use lib.Ieee.{Float, nan, inf, fin, up, down, round, sum, add, Format, binary32}
-use borrow.Author.Tests.{ltb-true, ltb-false}
 use Rattle.util.specs.Number.{◌⊕◌}
 
 -- of unlike signs: what is left has the sign of the larger, and no sign where they are equal
 unlike_commute : (f : Format) (s : Bool) (A B C : ℕ) → sum f s A (mathlib.Core.Bool.not s) B C ≡ sum f (mathlib.Core.Bool.not s) B s A C
 unfolding sum
-unlike_commute f true A B C = go (ltb A B) refl (ltb B A) refl
-  where
-    go : (t : Bool) → ltb A B ≡ t → (u : Bool) → ltb B A ≡ u → cond t (round f false (B - A) C) (round f (true && u) (A - B) C) ≡ cond u (round f true (A - B) C) (round f (false && t) (B - A) C)
-    go true e true g = absurd (omega (arith, ltb-true A B e, ltb-true B A g))
-    go true e false g = refl
-    go false e true g = refl
-    go false e false g = ap (λ (x : ℕ). round f false x C) (omega (arith, ltb-false A B e, ltb-false B A g))
-unlike_commute f false A B C = go (ltb A B) refl (ltb B A) refl
-  where
-    go : (t : Bool) → ltb A B ≡ t → (u : Bool) → ltb B A ≡ u → cond t (round f true (B - A) C) (round f (false && u) (A - B) C) ≡ cond u (round f false (A - B) C) (round f (true && t) (B - A) C)
-    go true e true g = absurd (omega (arith, ltb-true A B e, ltb-true B A g))
-    go true e false g = refl
-    go false e true g = refl
-    go false e false g = ap (λ (x : ℕ). round f false x C) (omega (arith, ltb-false A B e, ltb-false B A g))
+unlike_commute f true A B C = grind (arith, nat_tests)
+unlike_commute f false A B C = grind (arith, nat_tests)
 
 sum_commute : (f : Format) (s t : Bool) (A B C : ℕ) → sum f s A t B C ≡ sum f t B s A C
 unfolding sum

@@ -1,13 +1,15 @@
 -- Comparisons of exact floats are those of the integers. Assumes nothing.
-use mathlib.Core.Path.{◌≡◌, refl, sym, ap, ap₂, ◌∙◌}
-use mathlib.Core.Bool.{Bool, true, false, ◌&&◌, ◌||◌}
+use Rattle.std.proofs.lemmas.Bool.Decides.{nat_tests}
+use borrow.Author.Rules.{rules}
+use mathlib.Core.Path.{◌≡◌, sym, ap₂, ◌∙◌}
+use mathlib.Core.Bool.{and-true, Bool, true, false, ◌&&◌, ◌||◌}
 use Prim.Native.Nat.{ℕ, ◌+◌, ◌*◌, ◌<◌}
 use native.Mathlib.Nat.{mul-pos}
 use native.Mathlib.Omega.{arith}
 use lib.Dec.{eqb}
 use lib.Ieee.{Float, nan, inf, fin, up, down, lt, le, eq, below, level}
 use lib.Ieee.Fits.{down_pos}
-use borrow.Author.Tests.{eqb-true, eqb-false, le-ltb, eq-eqb, ne_eqb}
+use borrow.Author.Tests.{eqb-true, le-ltb, eq-eqb}
 use Rattle.util_exact.specs.Integer.{N, EqN}
 use Rattle.util_exact.specs.Value.{Signed, ◌≐◌}
 use Rattle.util_exact.proofs.Tests.{ltb_same, eqb_same, leb_split}
@@ -44,35 +46,20 @@ lt_exact {x = x} {y = y} {a = a} {d = d} h k = lt_val x y h.z k.z a d h.val k.va
 -- ---- equal
 
 size_eq : (A B C u v : ℕ) → 0 < C → A * 16 ≡ u * C → B * 16 ≡ v * C → A ≡ B → u ≡ v
-size_eq A B C u v D p q e = omega (arith, size_le A B u v C D p q (omega arith), size_le B A v u C D q p (omega arith))
+size_eq A B C u v D p q e = search rules
 
 eq_size : (A B C u v : ℕ) → A * 16 ≡ u * C → B * 16 ≡ v * C → u ≡ v → A ≡ B
-eq_size A B C u v p q e = let k : u * C ≡ v * C = ap (λ (x : ℕ). x * C) e in omega arith
-
-and_true : (t : Bool) → t && true ≡ t
-and_true true = refl
-and_true false = refl
+eq_size A B C u v p q e = search rules
 
 alike : (A B C u v X Y : ℕ) → 0 < C → A * 16 ≡ u * C → B * 16 ≡ v * C → (X ≡ Y → u ≡ v) → (u ≡ v → X ≡ Y) → eqb A B && true ≡ eqb X Y
-alike A B C u v X Y D p q f g = and_true (eqb A B) ∙ eqb_same A B X Y (λ x. g (size_eq A B C u v D p q x)) (λ x. eq_size A B C u v p q (f x))
+alike A B C u v X Y D p q f g = rw and-true (search (rules, eq_size, eqb_same, size_eq))
 
 -- of unlike signs: equal where both are zero
 unlike : (A B C u v X Y : ℕ) → 0 < C → A * 16 ≡ u * C → B * 16 ≡ v * C → (X ≡ Y → u + v ≡ 0) → (u + v ≡ 0 → X ≡ Y) → eqb A B && (false || eqb A 0) ≡ eqb X Y
-unlike A B C u v X Y D p q f g = go (eqb A B) refl (eqb A 0) refl
-  where
-    go : (t : Bool) → eqb A B ≡ t → (w : Bool) → eqb A 0 ≡ w → t && (false || w) ≡ eqb X Y
-    go true e true e' =
-        let k = size_eq A B C u v D p q (eqb-true A B e) in
-        let l : u ≡ 0 = size_eq A 0 C u 0 D p (omega arith) (eqb-true A 0 e') in
-        sym (eq-eqb X Y (g (omega arith)))
-    go true e false e' = sym (ne_eqb X Y (λ (w : X ≡ Y). eqb-false A 0 e' (eq_size A 0 C u 0 p (omega arith) (omega (arith, f w)))))
-    go false e w e' = sym (ne_eqb X Y (λ (w : X ≡ Y). eqb-false A B e (eq_size A B C u v p q (omega (arith, f w)))))
+unlike A B C u v X Y D p q f g = search rules
 
 level_val : (s t : Bool) (A B C u v : ℕ) (a d : N) → 0 < C → A * 16 ≡ u * C → B * 16 ≡ v * C → Signed s u a → Signed t v d → level s A t B ≡ eq_n a d
-level_val false false A B C u v a d D p q g h = alike A B C u v (a.p + d.n) (d.p + a.n) D p q (λ x. omega arith) (λ x. omega arith)
-level_val false true A B C u v a d D p q g h = unlike A B C u v (a.p + d.n) (d.p + a.n) D p q (λ x. omega arith) (λ x. omega arith)
-level_val true false A B C u v a d D p q g h = unlike A B C u v (a.p + d.n) (d.p + a.n) D p q (λ x. omega arith) (λ x. omega arith)
-level_val true true A B C u v a d D p q g h = alike A B C u v (a.p + d.n) (d.p + a.n) D p q (λ x. omega arith) (λ x. omega arith)
+level_val s t A B C u v a d D p q g h = grind (arith, nat_tests, alike, unlike)
 
 eq_val : (x y : Float) (u v : ℕ) (a d : N) → Val x a u → Val y d v → eq x y ≡ eq_n a d
 unfolding eq

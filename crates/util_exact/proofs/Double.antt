@@ -1,4 +1,5 @@
 -- Doubles and halves of exact floats. A half is one grade finer. Assumes nothing.
+use borrow.Author.Rules.{rules}
 use mathlib.Core.Path.{◌≡◌, refl, ap, ◌∙◌}
 use mathlib.Core.Bool.{true, false}
 use Prim.Native.Nat.{ℕ, ◌+◌, ◌*◌, ◌/◌, ◌^◌, ◌≤◌, ◌<◌}
@@ -22,15 +23,10 @@ two_form = refl
 
 dbl_val : (x : Float) (u : ℕ) (a : N) → Val x a u → 2 * u < 2 ^ 24 → Val (mul binary32 two x) (dbl_n a) (2 * u)
 unfolding mul
-dbl_val nan u a p l = absurd p
-dbl_val (inf s) u a p l = absurd p
-dbl_val (fin false m e) u a p l = round_val false (2 * (m * up e)) (1 * down e) (2 * u) (dbl_n a) (mul-pos (lit< tt) (down_pos e)) l (omega (arith, p.0)) (omega (arith, p.1))
-dbl_val (fin true m e) u a p l = round_val true (2 * (m * up e)) (1 * down e) (2 * u) (dbl_n a) (mul-pos (lit< tt) (down_pos e)) l (omega (arith, p.0)) (omega (arith, p.1))
+dbl_val x u a p l = search (rules, down_pos, mul-pos, round_val)
 
 pub dbl_exact : {g b : ℕ} {x : Float} {a : N} → Exact g b x a → 2 * b < 16777216 → Exact (2 * g) (2 * b) (2f ⊗ x) (dbl_n a)
-dbl_exact {g} {b} {x} {a} h l =
-    rw two_form
-    (record { z = 2 * h.z; val = dbl_val x h.z a h.val (omega (arith, h.small)); small = omega (arith, h.small); mult = dbl_mult g a h.mult })
+dbl_exact h l = grind (arith, dbl_mult, dbl_val, two_form)
 
 half_val : (x : Float) (u : ℕ) (a : N) → Val x a u → u < 2 ^ 24 → Multiple 2 a → Val (div binary32 x two) (half_n a) (u / 2)
 unfolding div half_n

@@ -1,4 +1,5 @@
 -- Operations, order and divisibility of integers that are formal differences, so that all algebra is `omega`'s. Assumes nothing.
+use borrow.Author.Rules.{rules}
 use mathlib.Core.Path.{◌≡◌, refl}
 use mathlib.Core.Bool.{Bool, true, false}
 use Prim.Native.Nat.{ℕ, ◌+◌, ◌*◌, ◌/◌, min, max}
@@ -6,7 +7,6 @@ use native.Mathlib.Omega.{arith}
 use lib.Dec.{ltb, leb, eqb}
 use borrow.Author.Tests.{ltb-true, ltb-false}
 use Rattle.util_exact.specs.Integer.{N, zero_n, add_n, EqN}
-use Rattle.util_exact.proofs.Tests.{ltb_same, leb_same}
 
 -- ---- operations
 
@@ -44,10 +44,10 @@ abbrev pub eq_n : N → N → Bool
 eq_n a b = eqb (a.p + b.n) (b.p + a.n)
 
 pub lt_cong : (a d a' d' : N) → EqN a a' → EqN d d' → lt_n a d ≡ lt_n a' d'
-lt_cong a d a' d' e f = ltb_same (a.p + d.n) (d.p + a.n) (a'.p + d'.n) (d'.p + a'.n) (λ h. omega arith) (λ h. omega arith)
+lt_cong a d a' d' e f = search rules
 
 pub le_cong : (a d a' d' : N) → EqN a a' → EqN d d' → le_n a d ≡ le_n a' d'
-le_cong a d a' d' e f = leb_same (a.p + d.n) (d.p + a.n) (a'.p + d'.n) (d'.p + a'.n) (λ h. omega arith) (λ h. omega arith)
+le_cong a d a' d' e f = search rules
 
 pub mag_cong : (a a' : N) → EqN a a' → EqN (mag_n a) (mag_n a')
 mag_cong a a' e = omega arith

@@ -1,8 +1,9 @@
 -- Adding -0 changes no f32: a float that fits is rounded to itself. Assumes nothing.
+use Rattle.std.proofs.lemmas.Bool.Decides.{nat_tests}
 use mathlib.Core.Path.{◌≡◌, refl, sym, ap, ◌∙◌, subst}
-use mathlib.Core.Bool.{Bool, true, false, ◌&&◌, cond}
+use mathlib.Core.Bool.{Bool, true, false, ◌&&◌}
 use Prim.Native.Nat.{ℕ, zero, suc, ◌+◌, ◌-◌, ◌*◌, ◌%◌, ◌^◌, ◌≤◌, ◌<◌}
-use native.Mathlib.Nat.{add-zero, sub-zero, zero-mul, mul-one, one-mul, mul_assoc, mul_right_comm, mul-pos, mul-lt-mul_of_pos_right, lt_of_mul-lt-mul_right, le_of_suc-le-suc, lt_of_not-le, not-le_of_lt, sub-add_cancel, zero-lt-suc, lt_irrefl}
+use native.Mathlib.Nat.{add-zero, sub-zero, zero-mul, mul-one, one-mul, mul_assoc, mul_right_comm, mul-pos, mul-lt-mul_of_pos_right, lt_of_mul-lt-mul_right, le_of_suc-le-suc, lt_of_not-le, not-le_of_lt, sub-add_cancel, zero-lt-suc}
 use native.Mathlib.Omega.{arith}
 use lib.IntN.{ℤ, pos, negsuc}
 use lib.Dec.{T, eqb, leb, ltb, leb→le, ltb→lt}
@@ -10,7 +11,6 @@ use lib.Pow.{pow-add, pow_pos, pow-lt}
 use lib.Ieee.{Float, nan, inf, fin, up, down, round, sum, add, fits, of_bits, binary32}
 use lib.Ieee.Exact.{HasValue, round_exact}
 use lib.Ieee.Fits.{up_pos, down_pos, and_l, and_r, round-fits}
-use borrow.Author.Tests.{ltb-true}
 use Rattle.util.proofs.Order.{zero_place}
 use Rattle.util.proofs.Unique.{same, is_odd}
 use Rattle.util_exact.specs.Value.{−0f}
@@ -43,7 +43,7 @@ rounded s m e t =
 -- ---- and there is one float of that value
 
 none : (a b : ℕ) → 0 < b → 0 * a ≡ b → ⊥
-none a b h e = lt_irrefl 0 (subst (λ (x : ℕ). 0 < x) (sym e ∙ zero-mul a) h)
+none a b h e = omega arith
 
 one : (s : Bool) (m : ℕ) (e : ℤ) (y : Float) → T (fits binary32 (fin s (suc m) e)) → T (fits binary32 y) → HasValue y s (suc m * up e) (down e) → y ≡ fin s (suc m) e
 one s m e nan t u v = absurd v
@@ -63,12 +63,7 @@ itself s (suc m) e t = one s m e (round binary32 s (suc m * up e) (down e)) t (r
 
 sum_nothing : (s : Bool) (a c : ℕ) → sum binary32 s a true 0 c ≡ round binary32 s a c
 unfolding sum
-sum_nothing true a c = ap (λ (x : ℕ). round binary32 true x c) (add-zero a)
-sum_nothing false a c = go (ltb a 0) refl
-  where
-    go : (b : Bool) → ltb a 0 ≡ b → cond b (round binary32 true (0 - a) c) (round binary32 (false && ltb 0 a) (a - 0) c) ≡ round binary32 false a c
-    go true e = absurd (omega (arith, ltb-true a 0 e))
-    go false e = ap (λ (x : ℕ). round binary32 false x c) (sub-zero a)
+sum_nothing s a c = grind (arith, nat_tests, add-zero, sub-zero)
 
 minus_zero : −0f ≡ fin true 0 (pos 0)
 unfolding of_bits

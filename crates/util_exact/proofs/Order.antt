@@ -1,13 +1,14 @@
 -- The larger, the smaller and the magnitude of exact floats. Assumes nothing.
-use mathlib.Core.Path.{◌≡◌, refl, sym, ◌∙◌}
-use mathlib.Core.Bool.{Bool, true, false, cond}
+use borrow.Author.Rules.{rules}
+use mathlib.Core.Path.{◌≡◌, sym, ◌∙◌}
+use mathlib.Core.Bool.{true, false}
 use Prim.Native.Nat.{ℕ, zero, suc, ◌+◌, ◌*◌, ◌≤◌}
 use native.Mathlib.Nat.{eq_of_mul-eq-mul_right}
 use native.Mathlib.Omega.{arith}
 use lib.Ieee.{Float, nan, inf, fin, up, down, le, is_nan}
 use lib.Ieee.Fits.{down_pos}
 use borrow.Author.Tests.{leb-true}
-use Rattle.util.specs.Order.{before, larger, smaller, magnitude}
+use Rattle.util.specs.Order.{larger, smaller, magnitude}
 use Rattle.util.proofs.Order.{before_by, not_before_le}
 use Rattle.util_exact.specs.Integer.{N}
 use Rattle.util_exact.proofs.Integers.{max_n, min_n, mag_n, mag_mult}
@@ -16,9 +17,7 @@ use Rattle.util_exact.proofs.Compare.{le_exact}
 
 is_number : (x : Float) (a : N) (z : ℕ) → Val x a z → is_nan x ≡ false
 unfolding is_nan
-is_number nan a z v = absurd v
-is_number (inf s) a z v = refl
-is_number (fin s m e) a z v = refl
+is_number x a z v = search rules
 
 pub no_nan : {g b : ℕ} {x : Float} {a : N} → Exact g b x a → is_nan x ≡ false
 no_nan {x = x} {a = a} h = is_number x a h.z h.val
@@ -28,19 +27,11 @@ at_most {a = a} {d = d} h k e = leb-true (a.p + d.n) (d.p + a.n) (sym (le_exact 
 
 pub larger_exact : {g b : ℕ} {x y : Float} {a d : N} → Exact g b x a → Exact g b y d → Exact g b (larger x y) (max_n a d)
 unfolding larger
-larger_exact {g} {b} {x} {y} {a} {d} h k = rw (no_nan h, no_nan k) (go (before x y) refl)
-  where
-    go : (t : Bool) → before x y ≡ t → Exact g b (cond t y x) (max_n a d)
-    go true e = recast (omega (arith, at_most h k (before_by x y e))) k
-    go false e = recast (omega (arith, at_most k h (not_before_le x y (no_nan h) (no_nan k) e))) h
+larger_exact h k = grind (arith, at_most, before_by, no_nan, not_before_le, recast)
 
 pub smaller_exact : {g b : ℕ} {x y : Float} {a d : N} → Exact g b x a → Exact g b y d → Exact g b (smaller x y) (min_n a d)
 unfolding smaller
-smaller_exact {g} {b} {x} {y} {a} {d} h k = rw (no_nan h, no_nan k) (go (before y x) refl)
-  where
-    go : (t : Bool) → before y x ≡ t → Exact g b (cond t y x) (min_n a d)
-    go true e = recast (omega (arith, at_most k h (before_by y x e))) k
-    go false e = recast (omega (arith, at_most h k (not_before_le y x (no_nan k) (no_nan h) e))) h
+smaller_exact h k = grind (arith, at_most, before_by, no_nan, not_before_le, recast)
 
 zero_size_lem : (u z : ℕ) (e : lib.IntN.ℤ) → 0 * u * 16 ≡ z * down e → z ≡ 0
 zero_size_lem u z e h = eq_of_mul-eq-mul_right (down e) (down_pos e) z 0 (omega arith)
@@ -55,4 +46,4 @@ magnitude_val (fin false (suc m) e) z a v = (v.0, omega (arith, v.1))
 magnitude_val (fin true (suc m) e) z a v = (v.0, omega (arith, v.1))
 
 pub magnitude_exact : {g b : ℕ} {x : Float} {a : N} → Exact g b x a → Exact g b (magnitude x) (mag_n a)
-magnitude_exact {g} {b} {x} {a} h = record { z = h.z; val = magnitude_val x h.z a h.val; small = h.small; mult = mag_mult g a h.mult }
+magnitude_exact h = search (rules, mag_mult, magnitude_val)

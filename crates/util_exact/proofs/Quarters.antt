@@ -2,8 +2,7 @@
 use Rattle.std.specs.Prelude.{Float, None, Option, Some}
 use mathlib.Core.Path.{sym, subst}
 use mathlib.Core.Bool.{Bool, true, false}
-use Prim.Native.Nat.{ℕ, ◌*◌, ◌≤◌}
-use native.Mathlib.Nat.{le_trans}
+use Prim.Native.Nat.{ℕ, ◌*◌}
 use native.Mathlib.Omega.{arith}
 use lib.Ieee.{Float, nan, inf, fin}
 use lib.Ieee.Exact.{HasValue}
@@ -32,9 +31,6 @@ quarters_exact {n} {x} h = record { z = 4 * h.k; val = go x h.sign h.k h.value; 
     fours : (s : Bool) (k : ℕ) → Multiple 4 (signed s k)
     fours false k = (k, 0, omega arith)
     fours true k = (0, k, omega arith)
-
-pub quarters_within : {n m : ℕ} {x : Float} → n ≤ m → Quarters n x → Quarters m x
-quarters_within l h = record { sign = h.sign; k = h.k; value = h.value; small = le_trans h.small l }
 
 -- ---- a number that may be absent: of an absent one any integer will do
 

@@ -1,8 +1,9 @@
 -- Sums and differences of exact floats are exact below 2 ^ 24 sixteenths. Assumes nothing.
+use borrow.Author.Rules.{rules}
 use mathlib.Core.Path.{◌≡◌, refl, ap, ◌∙◌}
 use mathlib.Core.Bool.{Bool, true, false, ◌&&◌, cond}
 use Prim.Native.Nat.{ℕ, ◌+◌, ◌-◌, ◌*◌, ◌^◌, ◌≤◌, ◌<◌}
-use native.Mathlib.Nat.{mul_assoc, mul_comm, mul_right_comm, mul-pos, mul-le-mul_right, le_of_mul-le-mul_right, lt_of_mul-lt-mul_right}
+use native.Mathlib.Nat.{mul_assoc, mul_comm, mul_right_comm, mul-pos, lt_of_mul-lt-mul_right}
 use native.Mathlib.Omega.{arith}
 use lib.Dec.{ltb}
 use borrow.Author.Tests.{ltb-true, ltb-false}
@@ -23,16 +24,13 @@ pub over_right : (m u E G : ℕ) → m * 16 ≡ u * G → m * E * 16 ≡ u * (E 
 over_right m u E G h = over_left m u G E h ∙ ap (λ (x : ℕ). u * x) (mul_comm G E)
 
 pub size_le : (A B u v C : ℕ) → 0 < C → A * 16 ≡ u * C → B * 16 ≡ v * C → A ≤ B → u ≤ v
-size_le A B u v C D p q h = le_of_mul-le-mul_right (omega (arith, mul-le-mul_right 16 h)) D
+size_le A B u v C D p q h = search rules
 
 pub size_lt : (A B u v C : ℕ) → A * 16 ≡ u * C → B * 16 ≡ v * C → A < B → u < v
 size_lt A B u v C p q h = lt_of_mul-lt-mul_right C (omega arith)
 
 difference : (A B u v C : ℕ) → u ≤ v → A * 16 ≡ u * C → B * 16 ≡ v * C → A ≤ B → (B - A) * 16 ≡ (v - u) * C
-difference A B u v C l p q h =
-    let e : (v - u + u) * C ≡ v * C = ap (λ (x : ℕ). x * C) (omega arith) in
-    let f : (B - A + A) * 16 ≡ B * 16 = ap (λ (x : ℕ). x * 16) (omega arith) in
-    omega arith
+difference A B u v C l p q h = grind arith
 
 -- ---- sums
 
@@ -76,19 +74,14 @@ add_val (fin s m e) (fin t k g) u v a d p q l =
     (over_left (m * up e) u (down e) (down g) p.0) (over_right (k * up g) v (down e) (down g) q.0) l p.1 q.1
 
 pub add_exact : {g b c : ℕ} {x y : Float} {a d : N} → Exact g b x a → Exact g c y d → b + c < 16777216 → Exact g (b + c) (x ⊕ y) (add_n a d)
-add_exact {g} {b} {c} {x} {y} {a} {d} h k l =
-    let r = add_val x y h.z k.z a d h.val k.val (omega (arith, h.small, k.small)) in
-    record { z = r.0; val = r.1; small = omega (arith, h.small, k.small, r.2); mult = add_mult g a d h.mult k.mult }
+add_exact h k l = search (rules, add_mult, add_val)
 
 neg_val : (x : Float) (u : ℕ) (a : N) → Val x a u → Val (neg x) (neg_n a) u
 unfolding neg
-neg_val nan u a p = p
-neg_val (inf s) u a p = p
-neg_val (fin false m e) u a p = p
-neg_val (fin true m e) u a p = p
+neg_val x u a p = search rules
 
 pub neg_exact : {g b : ℕ} {x : Float} {a : N} → Exact g b x a → Exact g b (neg x) (neg_n a)
-neg_exact {g} {b} {x} {a} h = record { z = h.z; val = neg_val x h.z a h.val; small = h.small; mult = neg_mult g a h.mult }
+neg_exact h = search (rules, neg_mult, neg_val)
 
 pub sub_exact : {g b c : ℕ} {x y : Float} {a d : N} → Exact g b x a → Exact g c y d → b + c < 16777216 → Exact g (b + c) (x ⊖ y) (sub_n a d)
 unfolding sub

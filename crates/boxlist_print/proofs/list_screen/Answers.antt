@@ -1,3 +1,4 @@
+-- The lists that were read are not named in what is to be proved, so the check doesn't find which call filled them.
 use Rattle.screen.proofs.Whole.{read_told, bad_told}
 use Rattle.boxlist_print.proofs.Whole.{printed_bad, printed_read}
 use Rattle.boxlist_print.proofs.list_screen.Goals as goal
@@ -14,4 +15,4 @@ pub returns-in-Err : goal.returns-in-Err
 returns-in-Err c =
     let text = c.args.text.now in
     let t = bad_told text _ c.in-Err.ensures.read.answer in
-    printed_bad c.args.listing text t.1 (rw (c.from.ensures, t.0) at c.put_refused.ensures)
+    printed_bad c.args.listing text t.1 (rw t.0 at c.put_refused.ensures)

@@ -1,3 +1,4 @@
+-- The check looks for no theorem in a function without a body: each is named here.
 use Rattle.demands.proofs.Demands.{three_questions_each, openings_go_by_the_check, replies_go_by_the_check, equals_straight_run, laid_out_as_asked, mirror_image, mirrored_reach, mirrored_drawing, layers_are_kept, finished_is_drawn, placement_reads_no_layer, quarters_have_edges, quarters_are_answered}
 use Rattle.run.proofs.EachQuestion.{stage_tells_kind}
 use Rattle.boxlist_print.proofs.Listed.{run_is_listed, only_nine_in_rows}

@@ -1,3 +1,4 @@
+-- The search does not find what `screen_demands` is to speak of: it would have to guess the bytes before and after.
 use Rattle.demands.proofs.Demands.{screen_demands}
 use Rattle.demands.proofs.list_screen.Goals as goal
 

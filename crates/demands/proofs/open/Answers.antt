@@ -1,3 +1,4 @@
+-- The search does not find what `opening_demands` is to speak of: it would have to guess the parts of the outcome.
 use Rattle.run.specs.Call.{lent}
 use Rattle.demands.proofs.Demands.{opening_demands}
 use Rattle.demands.proofs.open.Goals as goal

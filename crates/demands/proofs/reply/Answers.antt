@@ -1,3 +1,4 @@
+-- The search does not find what `reply_demands` is to speak of: it would have to guess the parts of the outcome.
 use Rattle.run.specs.Call.{lent}
 use Rattle.demands.proofs.Demands.{reply_demands}
 use Rattle.demands.proofs.reply.Goals as goal

@@ -1,3 +1,4 @@
+-- The check looks for no theorem in a function without a body: each is named here.
 use Rattle.demands_c.proofs.Demands.{three_questions_each, equals_straight_run, quarters_have_edges, quarters_are_answered}
 use Rattle.demands_c.proofs.demanded.Goals as goal
 

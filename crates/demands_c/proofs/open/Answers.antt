@@ -1,3 +1,4 @@
+-- The search does not guess the words that a call left, of which the lemma speaks.
 use Rattle.oof_c_words.specs.Entry.{words, opening_of}
 use Rattle.demands_c.proofs.Demands.{opening_demands}
 use Rattle.demands_c.proofs.open.Goals as goal

@@ -1,3 +1,4 @@
+-- The search does not guess the words that a call left, of which the lemma speaks.
 use mathlib.Core.List.{[]}
 use Rattle.oof_c_words.specs.Entry.{words}
 use Rattle.demands_c.proofs.Demands.{reply_demands}

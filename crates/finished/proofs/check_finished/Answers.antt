@@ -1,3 +1,4 @@
+-- The search does not choose between `refuses` and `passes` at each exit of a `?`: which test it is, is named here.
 use Rattle.std.proofs.Common.{sym, ◌∙◌}
 use Rattle.std.proofs.lemmas.Result.{err_from_is_err_and}
 use Rattle.placer_check.proofs.Steps.{refuses, passes, either}
@@ -28,5 +29,5 @@ returns-in_err-refuse_if-3 c =
 pub returns : goal.returns
 unfolding finished_verdict
 returns c =
-    rw (← c.is_lent_bad.ensures, ← c.is_unfinished.ensures, ← c.is_candidate_bad.ensures)
+    rw (← c.is_lent_bad.ensures, ← c.is_unfinished.ensures, ← c.lent.view_is, ← c.is_candidate_bad.ensures)
     (sym (either _ _ _ _ ∙ passes _ _ _ c.in_ok-refuse_if.ensures ∙ passes _ _ _ c.in_ok-refuse_if-2.ensures ∙ passes _ _ _ c.in_ok-refuse_if-3.ensures ∙ sym c.refuse_if-4.ensures))

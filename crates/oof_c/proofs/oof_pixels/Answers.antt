@@ -1,3 +1,4 @@
+-- The search does not see that the first record of 23 words is all of them: it lacks `take_all` for an array.
 use native.Mathlib.Omega.{arith}
 use mathlib.Core.Path.{ap, ◌∙◌}
 use lib.Seq.{take_all}
@@ -12,7 +13,6 @@ use Rattle.pixels.specs.Told.{edges_told}
 use Rattle.oof_c_words.specs.PixelWords.{pixels_in_words}
 use Rattle.oof_c.proofs.oof_pixels.Goals as goal
 
--- the first record of 23 words is all of them
 pub returns : goal.returns
 unfolding record_at pixels_in_words
 returns c =

@@ -1,3 +1,4 @@
+-- The search does not go from `all` to a definition of the crate's own by recursion.
 use Rattle.std.proofs.Common.{rules}
 use Rattle.std.proofs.lemmas.Iterator.{YieldsList-from_slice}
 use Rattle.std.proofs.lemmas.Iterator.Search.{all_from_yields_List}

@@ -1,3 +1,4 @@
+-- The search sees through no definition with an operator's name by an attribute (`unfolding` takes names of functions): `when` and `else` are opened here.
 use Rattle.std.proofs.Common.{refl}
 use Rattle.run.specs.Refusals.{◌when◌else◌}
 use Rattle.placer_check.proofs.refuse_if.Goals as goal

@@ -1,22 +1,27 @@
-use mathlib.Core.Path.{refl, sym, ◌∙◌}
-use Rattle.run.specs.Call.{lent}
+-- The search does not go from the fields of `lent` to what a contract sees of it (`view_is`) and back.
+use Rattle.std.proofs.Common.{refl, sym, ◌∙◌}
+use Rattle.std.proofs.lemmas.Result.{err_from_is_err_and}
 use Rattle.finished.proofs.There.{record_is_there, layout_is_there}
 use Rattle.reach.specs.Reach.{reached}
 use Rattle.reach.proofs.reach.Goals as goal
 
-pub layout_at-requires : goal.layout_at-requires
-layout_at-requires c =
+pub layout_at-layout-requires : goal.layout_at-layout-requires
+layout_at-layout-requires c =
     let a = c.args in
-    let l = lent a.styles.now a.layouts.now a.working.now a.unclaimed.now in
-    let e = sym c.check_finished-verdict.ensures ∙ c.in-Ok.is in
-    record { candidate_width_in_bounds = record_is_there a.s l a.place e; layout_width_in_bounds = layout_is_there a.s l a.place e }
+    let e = sym c.in_ok-check_finished.ensures in
+    record {
+      candidate_width_in_bounds = rw (← c.lent.view_is) at (record_is_there a.s a.lent.now a.place e);
+      layout_width_in_bounds = rw (← c.lent.view_is) at (layout_is_there a.s a.lent.now a.place e);
+    }
 
-pub returns-in-Err : goal.returns-in-Err
+pub returns-in_err-check_finished : goal.returns-in_err-check_finished
 unfolding reached
-returns-in-Err c = rw (sym c.check_finished-verdict.ensures ∙ c.in-Err.is) refl
+returns-in_err-check_finished c =
+    let p = err_from_is_err_and c.from_residual.result c.from_residual.ensures.1 in
+    rw (p.1, p.2, sym c.in_err-check_finished.ensures) refl
 
-pub returns-in-Ok : goal.returns-in-Ok
+pub returns : goal.returns
 unfolding reached
-returns-in-Ok c =
-    rw (sym c.check_finished-verdict.ensures ∙ c.in-Ok.is)
-    (c.reach_box.ensures ∙ rw c.layout_at.ensures refl)
+returns c =
+    rw (sym c.in_ok-check_finished.ensures)
+    (c.reach_box.ensures ∙ rw (← c.lent.view_is, ← c.layout_at-layout.ensures) refl)

@@ -1,3 +1,4 @@
+-- The check builds no record out of what is left of four lists, each read by a call of its own.
 use Rattle.std.proofs.Common.{◌≡◌, arith, refl, sym, ◌∙◌}
 use Rattle.std.proofs.Common.{length}
 use Rattle.std.proofs.lemmas.List.{take_rest}

@@ -1,3 +1,4 @@
+-- The check doesn't find that a part of a buffer ends in it: that is known of what is printed alone, which only the call's contract names.
 use Rattle.std.proofs.Common.{ℕ, List, sym, subst, lit≤, OnOk}
 use lib.Seq.{length-take-le}
 use Rattle.std.specs.Io.KnownBytes.{Appends}

@@ -1,4 +1,5 @@
-use Rattle.std.proofs.Common.{◌≡◌, ◌+◌, length, rules, true, false, Result, Ok, Err, MatchResult, OnOk, is_ok, refl, sym, ◌∙◌}
+-- The check doesn't go back over a `map_err`, from what stands behind it to what stood before.
+use Rattle.std.proofs.Common.{◌≡◌, ◌+◌, length, rules, Result, Ok, Err, MatchResult, OnOk, is_ok, sym}
 use Rattle.std.proofs.lemmas.Bool.{false≢true}
 use Rattle.std.proofs.lemmas.Result.{IfOk-at_ok, on_ok_weaker}
 use Rattle.screen_fields.specs.Format.{MAX_BYTES}
@@ -18,7 +19,7 @@ still_ok (Err z) (Err w) P Q h v p = tt
 
 pub returns-clause-prints : goal.returns-clause-prints
 returns-clause-prints g c =
-    let read = was_ok _ _ _ _ c.in_ok-n.was c.map_err.ensures.cases c.map_err.ensures.variant in
-    let room : MAX_BYTES + 1 ≡ length c.read_input.new.text = search rules in
-    let shown = whole c.args.listing (g.R.Read.remaining c.args.input.now) (g.W.Write.contents c.args.output.now) (g.W.Write.contents c.print_list.new.output) c.in_ok-n.n c.read_input.new.text room (IfOk-at_ok _ read c.read_input.ensures.read) in
+    let read = was_ok _ _ _ _ c.in_ok-text.was c.map_err.ensures.cases c.map_err.ensures.variant in
+    let long : MAX_BYTES + 1 ≡ length c.room-room.result = search rules in
+    let shown = whole c.args.listing (g.R.Read.remaining c.args.input.now) (g.W.Write.contents c.args.output.now) (g.W.Write.contents c.print_list.new.output) c.in_ok-text.text.now c.room-room.result long (IfOk-at_ok _ read c.read_input.ensures.read) in
     still_ok _ _ _ _ c.map_err-2.ensures.cases c.map_err-2.ensures.variant (on_ok_weaker c.print_list.result shown c.print_list.ensures)

@@ -1,3 +1,4 @@
+-- The search does not take the outcome's parts together, of which the lemmas speak.
 use Rattle.std.proofs.Common.{◌*◌, ◌/◌, length, refl, ◌∙◌}
 use Rattle.tree_record.specs.Candidate.{candidate_width}
 use Rattle.script.proofs.Steps.{turned, ended}

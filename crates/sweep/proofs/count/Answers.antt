@@ -1,24 +1,17 @@
-use Rattle.std.proofs.Common.{sym, ◌∙◌, add-zero, arith}
-use Rattle.records.specs.Records.{record_at}
-use Rattle.tree_record.specs.Candidate.{candidate_width, candidate_of}
+-- The check finds no road through `filter` to `count`, where the test reads a word of an array.
+use Rattle.std.proofs.Common.{rules, tests, ap, ◌∙◌, List, length}
+use Rattle.std.proofs.lemmas.Iterator.{YieldsList-from_slice}
+use Rattle.std.proofs.lemmas.Iterator.Consumers.{count_from_yields_List, YieldsList-from_filter, YieldsList-at}
+use Rattle.tree.specs.declared.layout.OofCandidate.{OofCandidate}
 use Rattle.sweep.specs.Sweep.{keep}
-use Rattle.sweep.proofs.Steps.{from_start, from_end, count_step, one_in, one_out, position_at}
+use Rattle.sweep.proofs.Steps.{goes_there, count_of_records, candidates_of_records}
 use Rattle.sweep.proofs.count.Goals as goal
-use Rattle.sweep.proofs.count.Goals.{then-goes, else-goes}
-
-pub loop-i-preserved : goal.loop-i-preserved
-loop-i-preserved c =
-    let a = c.args in
-    let x = candidate_of (record_at candidate_width a.candidates.now c.loop-i.i) in
-    let s = count_step a.claims a.claimed a.candidates.now _ c.loop-i.i c.loop-i-test.true in
-    let p = position_at a.candidates.now c.loop-i.i in
-    elim c.if-goes.branch [
-      | then-goes w ↦ omega (arith, one_in a.claims a.claimed x (rw (p, ← c.position_of.ensures, ← c.goes.ensures) w.if-goes.true))
-      | else-goes w ↦ omega (arith, one_out a.claims a.claimed x (rw (p, ← c.position_of.ensures, ← c.goes.ensures) w.if-goes.false))
-    ]
 
 pub returns : goal.returns
-unfolding keep
 returns c =
-    let e = from_end c.args.candidates.now _ _ c.loop-i-test.false in
-    sym (rw (from_start c.args.candidates.now) (c.loop-i.invariant.1 ∙ rw e (add-zero _)))
+    let by = c.args.claims in
+    let list = c.args.claimed in
+    let rs = c.whole_records.result.now in
+    count_from_yields_List c.filter.result _ c.count.ensures.ran
+    (YieldsList-from_filter _ (goes_there by list) (YieldsList-at c.filter.ensures.source (YieldsList-from_slice rs (cc))) c.filter.ensures.closure (λ x b q k. search (rules, tests)))
+    ∙ count_of_records by list rs ∙ ap (λ (cs : List OofCandidate). length (keep by list cs)) (candidates_of_records _ rs c.whole_records.ensures)

@@ -1,3 +1,4 @@
+-- The check lacks that the tests of room decide the branch of `swept`, and that a move keeps how many go to a list.
 use Rattle.std.proofs.Common.{refl, sym, ◌∙◌, arith}
 use Rattle.records.proofs.Laws.{room_words}
 use Rattle.sweep.specs.Sweep.{candidates_in}

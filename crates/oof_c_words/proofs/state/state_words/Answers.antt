@@ -1,10 +1,17 @@
-use Rattle.std.specs.Prelude.{Float}
+-- The search gives up at a list of 27 words from as many calls: here they are, word by word.
+use Rattle.std.specs.Prelude.{Float, Option, None, Some, is_some}
+use Rattle.std.specs.Int.{from_bool}
 use mathlib.Core.List.{[], ◌∷◌}
-use mathlib.Core.Path.{ap, ◌∙◌}
+use mathlib.Core.Path.{◌≡◌, refl, ap, ◌∙◌}
 use lib.ListN.{get_or}
 use Rattle.geometry.specs.declared.Size.{Size}
-use Rattle.oof_c_words.specs.StateWords.{state_words, opening_codes, float_word}
+use Rattle.oof_c_words.specs.StateWords.{state_words, opening_codes, float_word, fill_kind}
 use Rattle.oof_c_words.proofs.state.state_words.Goals as goal
+
+filled : (fill : Option (Size Float)) → from_bool (is_some fill) ≡ fill_kind fill
+unfolding fill_kind
+filled None = refl
+filled (Some size) = refl
 
 pub returns : goal.returns
 unfolding state_words opening_codes
@@ -12,9 +19,9 @@ returns c =
     let codes = c.opening_codes-codes.ensures in
     λ j. c.progress_code.ensures j
     ∷ c.keyword_kind.ensures j
-    ∷ (c.to_word.ensures ∙ ap float_word c.keyword_width.ensures) j
-    ∷ (c.to_word-2.ensures ∙ ap float_word c.keyword_height.ensures) j
-    ∷ c.fill_kind.ensures j
+    ∷ (c.to_word.ensures ∙ ap float_word c.keyword_size-asked.ensures.width) j
+    ∷ (c.to_word-2.ensures ∙ ap float_word c.keyword_size-asked.ensures.height) j
+    ∷ (c.from.ensures ∙ ap from_bool c.is_some.ensures ∙ filled c.args.s.replies.fill) j
     ∷ (c.to_word-3.ensures ∙ ap float_word (ap (λ (size : Size Float). size.width) c.unwrap_or-size.ensures)) j
     ∷ (c.to_word-4.ensures ∙ ap float_word (ap (λ (size : Size Float). size.height) c.unwrap_or-size.ensures)) j
     ∷ c.count_word.ensures j

@@ -1,3 +1,4 @@
+-- The check's own call of `grind` with `held`, by a `using`, stops at a limit.
 use Rattle.std.proofs.Common.{arith}
 use Rattle.pixels.proofs.Held.{held}
 use Rattle.reach.specs.Reach.{axis_of}

@@ -1,6 +1,6 @@
 use Rattle.style_record.proofs.Walk.{From, Tags}
 use Rattle.style_record.specs.Check.{checked_from}
-use Rattle.style_record.specs.Record.{after_lengths, style_words, tag_word}
+use Rattle.style_record.specs.Record.{after_lengths, style_words, tag_word, items}
 use Rattle.std.specs.Prelude.{Ok}
 use mathlib.Core.Path.{◌≡◌}
 use Prim.Native.Nat.{◌-◌}
@@ -29,4 +29,4 @@ abbrev pub invariant-loop-word-4 : goal.invariant-loop-word-4
 invariant-loop-word-4 l = (l.found ≡ Ok tt) × From l.styles l.item l.word
 
 abbrev pub invariant-items : goal.invariant-items
-invariant-items l = (l.found ≡ Ok tt) × (checked_from l.styles l.item-end 0 ≡ checked_from l.styles (l.item-end - l.item) l.item)
+invariant-items l = (l.found ≡ Ok tt) × (checked_from l.styles (items l.styles) 0 ≡ checked_from l.styles (items l.styles - l.item) l.item)

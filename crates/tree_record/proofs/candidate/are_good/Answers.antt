@@ -1,28 +1,13 @@
-use Rattle.records.proofs.Laws.{too_few, one_bad, all_good, one_more, good_record_at}
-use Rattle.records.specs.Records.{every}
+-- The check lacks what `all` answers over a part of a slice of arrays: it finds no road through the cut.
+use Rattle.std.proofs.Common.{rules, tests, take, arith}
+use Rattle.std.proofs.lemmas.Iterator.{YieldsList-from_slice}
+use Rattle.std.proofs.lemmas.Iterator.Search.{all_from_yields_List}
+use Rattle.records.specs.Records.{good}
+use Rattle.records.proofs.Laws.{good_by_records}
 use Rattle.tree_record.specs.Candidate.{candidate_kinds}
-use mathlib.Core.Path.{◌≡◌, refl, sym}
-use native.Mathlib.Omega.{arith}
 use Rattle.tree_record.proofs.candidate.are_good.Goals as goal
 
-pub returns-then-words-count : goal.returns-then-words-count
-returns-then-words-count c = sym (too_few _ _ _ c.if-words-count.true)
-
-pub loop-i-init : goal.loop-i-init
-unfolding every
-loop-i-init c = refl
-
-pub loop-i-preserved : goal.loop-i-preserved
-loop-i-preserved c =
-    let e = good_record_at (candidate_kinds c.args.n) c.args.words.now c.loop-i.i in
-    one_more _ _ _ c.loop-i.invariant (cc)
-
-pub returns-then-not-is_good : goal.returns-then-not-is_good
-returns-then-not-is_good c =
-    let e = good_record_at (candidate_kinds c.args.n) c.args.words.now c.loop-i.i in
-    sym (one_bad _ _ _ _ c.loop-i-test.true (cc))
-
-pub returns : goal.returns
-returns c =
-    let e : c.loop-i.i ≡ c.args.count = omega arith in
-    sym (all_good _ _ _ c.if-words-count.false (rw e at c.loop-i.invariant))
+pub returns-then-count-records : goal.returns-then-count-records
+returns-then-count-records c =
+    let h = all_from_yields_List (λ r. good (candidate_kinds c.args.n) r 0) _ _ _ c.all.ensures.ran (YieldsList-from_slice (take c.args.count c.whole_records-records.result.now) (cc)) (λ x b q k. search (rules, tests)) in
+    grind (arith, good_by_records)
