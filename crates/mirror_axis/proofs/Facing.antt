@@ -7,6 +7,7 @@ use mathlib.Core.Bool.{and_comm, Bool, ◌&&◌}
 use Prim.Native.Nat.{ℕ, ◌+◌, ◌*◌, ◌<◌}
 use native.Mathlib.Omega.{arith}
 use lib.Ieee.{Float}
+use Rattle.geometry.specs.Geometry.{span}
 use Rattle.geometry.specs.declared.Line.{Line}
 use Rattle.oof_axis.specs.declared.OofAlignment.{OofAlignment}
 use Rattle.oof_axis.specs.declared.OofAxis.{OofAxis}
@@ -21,7 +22,7 @@ use Rattle.mirror_axis.proofs.ExactBlock.{LineExact, ExactAxis, block_exact}
 use Rattle.mirror_axis.proofs.ExactMargins.{span_exact, stretch_exact, margins_exact, margins_eighths}
 use Rattle.mirror_axis.proofs.ExactPlace.{place_exact}
 use Rattle.mirror_axis.proofs.FlipBlock.{Flip, NotZero, image_n, image_shape, block_flip}
-use Rattle.mirror_axis.proofs.FlipMargins.{Swap, stretch_same, margins_swap, margins_fill}
+use Rattle.mirror_axis.proofs.FlipMargins.{Swap, span_same, stretch_same, margins_swap, margins_fill}
 use Rattle.mirror_axis.proofs.FlipPlace.{Fill, Evens, position_fill}
 
 pub record Facing (L A : ℕ) (a a' : OofAxis) : Type 0 where
@@ -61,6 +62,13 @@ module _ (L A : ℕ) (room : 10 * L + 6 * A < 16777216) (a a' : OofAxis) (h : Fa
   blocks =
       let e = evens h.left.area in
       block_flip (shape a) h.α h.wide (add_mult 2 h.α.area.start h.α.area.end e.0 e.1)
+
+  -- the block's size is shared
+  pub span_shared : Same 4 (6 * L + 4 * A) (span (block a)) (span (block a'))
+  span_shared =
+      same (span_exact L A room a h.α h.left)
+      (by_shape (λ σ. Exact 4 (6 * L + 4 * A) (span (block a')) (span_n (block_n σ (image_n h.α)))) (span_exact L A room a' (image_n h.α) h.right))
+      (sym (span_same h.α.size (block_n (shape a) h.α) (block_n (image_shape (shape a)) (image_n h.α)) blocks))
 
   -- the stretch-fit size is shared
   pub stretch_shared : Same 4 (8 * L + 4 * A) (stretch_fit a) (stretch_fit a')

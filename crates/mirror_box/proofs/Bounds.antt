@@ -14,11 +14,11 @@ static_bound = 3 * length_bound
 abbrev pub edges_bound : ℕ
 edges_bound = 4 * length_bound
 
--- size, min and max with padding plus border; the stretch size of a keyword
+-- size, min and max with padding plus border
 abbrev pub size_bound : ℕ
 size_bound = 5 * length_bound
 
--- the stretch-fit size, the available space, the final size
+-- the stretch-fit size, the stretch size of a keyword, the available space, the final size
 abbrev pub fit_bound : ℕ
 fit_bound = 20 * length_bound
 

@@ -2,6 +2,7 @@
 use mathlib.Core.Path.{◌≡◌, refl, ap, subst}
 use mathlib.Core.Bool.{Bool, ◌||◌}
 use Prim.Native.Nat.{ℕ}
+use lib.Dec.{lit≤}
 use Rattle.std.specs.Prelude.{Option, None, Some, is_some, unwrap_or, Float}
 use Rattle.geometry.specs.declared.Size.{Size}
 use Rattle.style.specs.declared.Style.{Style}
@@ -18,10 +19,10 @@ use Rattle.util_exact.proofs.Same.{MaybeSame, given, unwrap_same}
 use Rattle.mirror_box.specs.Image.{image_style}
 use Rattle.mirror_box.specs.Quarter.{QuarterStyle, QuarterReplies}
 use Rattle.mirror_box.specs.Mirrored.{none, measure_both, measure_width, measure_height, lay_out, SameAsked}
-use Rattle.mirror_box.proofs.Bounds.{size_bound}
-use Rattle.mirror_box.proofs.Shared.{SpaceSame, space, SizeShared, KnownShared, size_told, known_told, space_told, both_present_lem}
+use Rattle.mirror_box.proofs.Bounds.{fit_bound}
+use Rattle.mirror_box.proofs.Shared.{SpaceSame, space, SizeShared, KnownShared, widen_known, size_told, known_told, space_told, both_present_lem}
 use Rattle.mirror_box.proofs.Resolve.{BoxShared}
-use Rattle.mirror_box.proofs.Keywords.{KeywordSame, no_keyword, exact, measure, KeywordsShared, stretch_size}
+use Rattle.mirror_box.proofs.Keywords.{KeywordSame, no_keyword, exact, measure, KeywordsShared, stretch_size_lem}
 use Rattle.mirror_box.proofs.Stretch.{stretched_by_lem, final_size_lem}
 
 data QuestionSame : Option Asked → Option Asked → Type 0 where
@@ -31,7 +32,7 @@ data QuestionSame : Option Asked → Option Asked → Type 0 where
 -- ---- step 4
 
 module _ {node node' : ℕ} (n : node ≡ node') where
-  both_asked_lem : {s s' : AvailableSpace} (t : AvailableSpace) → SpaceSame size_bound s s' → QuestionSame (Some (both_asked node s t)) (Some (both_asked node' s' t))
+  both_asked_lem : {s s' : AvailableSpace} (t : AvailableSpace) → SpaceSame fit_bound s s' → QuestionSame (Some (both_asked node s t)) (Some (both_asked node' s' t))
   both_asked_lem t h =
       asked
       (record {
@@ -41,8 +42,8 @@ module _ {node node' : ℕ} (n : node ≡ node') where
             (record { node = n; known = record { width = none; height = refl }; space = space_told (record { width = h; height = refl }) });
       })
 
-  module _ {known known' : Size (Option Float)} (k : KnownShared size_bound known known') {stretch stretch' : Size Float} (s : SizeShared size_bound stretch stretch') where
-    width_asked_lem : {a a' : AvailableSpace} → SpaceSame size_bound a a' → QuestionSame (Some (width_asked node a known stretch)) (Some (width_asked node' a' known' stretch'))
+  module _ {known known' : Size (Option Float)} (k : KnownShared fit_bound known known') {stretch stretch' : Size Float} (s : SizeShared fit_bound stretch stretch') where
+    width_asked_lem : {a a' : AvailableSpace} → SpaceSame fit_bound a a' → QuestionSame (Some (width_asked node a known stretch)) (Some (width_asked node' a' known' stretch'))
     width_asked_lem h =
         asked
         (record {
@@ -50,7 +51,7 @@ module _ {node node' : ℕ} (n : node ≡ node') where
           question = measure_width (record { node = n; known = known_told k; space = space_told (record { width = h; height = ap Definite s.height }) });
         })
 
-    height_asked_lem : {w w' : Option Float} (down : AvailableSpace) → MaybeSame 4 size_bound w w' → QuestionSame (Some (height_asked node w down known stretch)) (Some (height_asked node' w' down known' stretch'))
+    height_asked_lem : {w w' : Option Float} (down : AvailableSpace) → MaybeSame 4 fit_bound w w' → QuestionSame (Some (height_asked node w down known stretch)) (Some (height_asked node' w' down known' stretch'))
     height_asked_lem down h =
         asked
         (record {
@@ -97,4 +98,4 @@ module _ (style : Style) (hs : QuarterStyle style) (box box' : ResolvedBox) (h :
   unfolding asked_of
   asked_of_lem =
       pick SameAsked {t = is_first r} refl
-      (or_later_lem (keyword_asked_by n h.size (stretch_size box box' h) k.width k.height) size_asked_lem) size_asked_lem
+      (or_later_lem (keyword_asked_by n (widen_known (lit≤ tt) h.size) (stretch_size_lem box box' h) k.width k.height) size_asked_lem) size_asked_lem

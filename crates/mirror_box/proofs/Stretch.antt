@@ -98,7 +98,7 @@ module _ (style : Style) (hs : QuarterStyle style) (box box' : ResolvedBox) (h :
     -- steps 4 and 5
     pub stretched_by_lem : StretchedShared (stretched_by (sizing style box keywords r)) (stretched_by (sizing (image_style style) box' keywords' r))
     unfolding stretched_by
-    stretched_by_lem = stretched_shared _ _ (widen_known (lit≤ tt) (known_shared style hs box box' h r.keyword q.keyword _ _ hk))
+    stretched_by_lem = stretched_shared _ _ (known_shared style hs box box' h r.keyword q.keyword _ _ hk)
 
     -- step 6
     pub final_size_lem : {at at' : Stretched} → StretchedShared at at' → SizeShared fit_bound (final_size box at (unwrap_or r.fill zero_size)) (final_size box' at' (unwrap_or r.fill zero_size))

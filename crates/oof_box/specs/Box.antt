@@ -4,13 +4,14 @@ use Rattle.std.specs.Prelude.{ℕ, Bool, cond, not, ◌&&◌, ◌||◌, List, Fl
 use Rattle.std.specs.declared.option.Option.TheVariants as option
 use Rattle.util.specs.Order.{larger}
 use Rattle.util.specs.Maybe.{or_zero}
-use Rattle.geometry.specs.Geometry.{zero_size, absent_size, definite, both_present, filled_size, clamped_size, clamped_floats, with_ratio}
+use Rattle.geometry.specs.Geometry.{span, zero_size, absent_size, definite, both_present, filled_size, clamped_size, clamped_floats, with_ratio}
 use Rattle.geometry.specs.declared.Size.{Size}
 use Rattle.style.specs.declared.Style.{Style}
 use Rattle.style.specs.declared.available_space.AvailableSpace.{AvailableSpace}
 use Rattle.style.specs.declared.available_space.AvailableSpace.TheVariants.{Definite}
 use Rattle.tree.specs.declared.layout.OofCandidate.{OofCandidate}
-use Rattle.oof_axis.specs.Axis.{stretches, is_stretch}
+use Rattle.oof_axis.specs.Axis.{block, stretches, is_stretch}
+use Rattle.oof_axis.specs.declared.OofAxis.{OofAxis}
 use Rattle.oof_resolve.specs.Resolved.{resolved_box}
 use Rattle.oof_resolve.specs.declared.ContainingBlock.{ContainingBlock}
 use Rattle.oof_resolve.specs.declared.ResolvedBox.{ResolvedBox}
@@ -33,13 +34,13 @@ w and h = record { width = w; height = h }
 
 -- ---- step 4: size keywords
 
--- the stretch size of each side's keyword
+-- the stretch size of a size keyword in one axis, measured from the inset-modified block (request #106)
+abbrev pub axis_stretch : OofAxis → Float
+axis_stretch a = absolute_stretch (span (block a)) a.margin
+
+-- of each side
 unfoldable pub keyword_stretch : ResolvedBox → Size Float
-keyword_stretch box =
-    record {
-      width = absolute_stretch box.horizontal.size box.horizontal.inset box.horizontal.margin;
-      height = absolute_stretch box.vertical.size box.vertical.inset box.vertical.margin;
-    }
+keyword_stretch box = record { width = axis_stretch box.horizontal; height = axis_stretch box.vertical }
 
 -- what the absent sides' keywords come to
 unfoldable pub size_keywords : Style → ResolvedBox → Size (Option SizingKeywordResolution)
@@ -57,7 +58,7 @@ settled ratio box size = clamped_size (with_ratio ratio size) box.min box.max
 abbrev pub both_input : ℕ → AvailableSpace → AvailableSpace → MeasureInput
 both_input node spaceX spaceY = record { node = node; known = absent_size; space = spaceX and spaceY }
 
--- for the width: a height that isn't known has its stretch size as space
+-- for the width: the height's space is its stretch size, whether the height is known or not
 abbrev pub width_input : ℕ → AvailableSpace → Size (Option Float) → Size Float → MeasureInput
 width_input node spaceX known stretch = record { node = node; known = known; space = spaceX and Definite stretch.height }
 

@@ -39,7 +39,7 @@ fn both_asked(node: u32, spacex: AvailableSpace, spacey: AvailableSpace) -> Aske
     }
 }
 
-// A height that isn't known has its stretch size as space.
+// The height's space is its stretch size, whether the height is known or not.
 fn width_asked(
     node: u32,
     spacex: AvailableSpace,

@@ -4,7 +4,7 @@
 ghost use Rattle.std.specs.Prelude.{◌≡◌, not, ◌&&◌, unwrap_or, is_some};
 ghost use Rattle.geometry.specs.Geometry.{zero_size};
 ghost use Rattle.oof_axis.specs.Axis.{stretches};
-ghost use Rattle.oof_box.specs.Box.{keyword_stretch, size_keywords, has_keyword, settled, widened, heightened, ignores_ratio, stretch_ratio, raised_min, stretched, final_size};
+ghost use Rattle.oof_box.specs.Box.{axis_stretch, keyword_stretch, size_keywords, has_keyword, settled, widened, heightened, ignores_ratio, stretch_ratio, raised_min, stretched, final_size};
 ghost use Rattle.oof_box.specs.Cut.{measured_sides, side_by, sizing, sized_by, known_by, stretched_by, size_by};
 
 use crate::question::{KeywordReply, Replies};
@@ -34,15 +34,21 @@ pub struct Stretched {
 
 // ---- step 4
 
-// The stretch size of each side's size keyword.
+// The stretch size of a size keyword in one axis: measured from the inset-modified block.
+fn axis_stretch(axis: &OofAxis) -> f32
+    ensures { result ≡ axis_stretch axis.now }
+{
+    sizing_keyword::absolute_stretch_size(axis.inset_modified_containing_block_size(), axis.margin)
+}
+
+// Of each side.
 // A line for each axis, here and below: a resolved box has its two axes by name, and a closure over both would be told which.
 pub fn keyword_stretch(resolved: &ResolvedBox) -> Size<f32>
     ensures { result ≡ keyword_stretch resolved.now }
 {
-    let (x, y) = (&resolved.horizontal, &resolved.vertical);
     Size {
-        width: sizing_keyword::absolute_stretch_size(x.size, x.inset, x.margin),
-        height: sizing_keyword::absolute_stretch_size(y.size, y.inset, y.margin),
+        width: axis_stretch(&resolved.horizontal),
+        height: axis_stretch(&resolved.vertical),
     }
 }
 

@@ -17,7 +17,7 @@ use Rattle.style.specs.declared.resolve.Resolved.TheVariants.{NotAllowed, Absent
 use Rattle.oof_common.specs.declared.sizing_keyword.SizingKeywordResolution.{SizingKeywordResolution}
 use Rattle.oof_common.specs.declared.sizing_keyword.SizingKeywordResolution.TheVariants.{Exact, Measure}
 
--- stretch is exact; the others are measured: within the content's own bounds, the stretch size or a limit
+-- stretch is exact; the others are measured: under a min-content or max-content constraint, in the stretch size, or in a limit
 unfoldable pub by_keyword : SizingKeyword → Float → SizingKeywordResolution
 by_keyword keyword.MinContent stretch = Measure MinContent
 by_keyword keyword.MaxContent stretch = Measure MaxContent
@@ -35,12 +35,13 @@ of_resolved (Keyword k) stretch = option.Some (by_keyword k stretch)
 unfoldable pub keyword_of : CompactLength → Float → Float → Option SizingKeywordResolution
 keyword_of style stretch basis = of_resolved (resolved field.Size style basis) stretch
 
--- the stretch size of a size keyword: the area less insets and margins, each in turn, an absent one as 0; at least 0
-unfoldable pub absolute_stretch : Float → Line (Option Float) → Line (Option Float) → Float
-absolute_stretch areaSize inset margin =
-    larger (areaSize ⊖ or_zero inset.start ⊖ or_zero inset.end ⊖ or_zero margin.start ⊖ or_zero margin.end) 0f
+-- the stretch size of a size keyword (request #106): the inset-modified block's size less the margins, each in turn, an auto one as 0; at least
+-- 0. It is CSS's stretch-fit size. `stretch_fit`, of an auto size, takes the margins' sum off, as the Rust does there; the two differ in rounding
+-- alone (`StretchSizeIsStretchFit`).
+unfoldable pub absolute_stretch : Float → Line (Option Float) → Float
+absolute_stretch blockSize margin = larger (blockSize ⊖ or_zero margin.start ⊖ or_zero margin.end) 0f
 
--- a side that is there needs no keyword
+-- a known side needs no keyword
 unfoldable pub if_absent : Option Float → Option SizingKeywordResolution → Option SizingKeywordResolution
 if_absent None k = k
 if_absent (Some x) k = option.None

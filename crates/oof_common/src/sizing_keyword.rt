@@ -49,15 +49,12 @@ pub fn resolve_sizing_keyword(
     }
 }
 
-// The stretch size of a size keyword in one axis: the area less insets and margins, each in turn, auto as 0; at least 0.
-pub fn absolute_stretch_size(size: f32, inset: Line<Option<f32>>, margin: Line<Option<f32>>) -> f32
-    ensures { result ≡ absolute_stretch size inset margin }
+// The stretch size of a size keyword in one axis: the inset-modified block's size less the margins, each in turn, auto as 0; at
+// least 0. Of the Rust's function this is its stretch size, with the block's size in place of the area less its insets.
+pub fn absolute_stretch_size(size: f32, margin: Line<Option<f32>>) -> f32
+    ensures { result ≡ absolute_stretch size margin }
 {
-    let free = size
-        - inset.start.unwrap_or(0.0)
-        - inset.end.unwrap_or(0.0)
-        - margin.start.unwrap_or(0.0)
-        - margin.end.unwrap_or(0.0);
+    let free = size - margin.start.unwrap_or(0.0) - margin.end.unwrap_or(0.0);
     sys::f32_max(free, 0.0)
 }
 

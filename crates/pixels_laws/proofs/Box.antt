@@ -111,26 +111,26 @@ module _ (S : Laid → Type 0) where
   bind P Q _ next (later {q = q} {next = reply} h) f = later (λ r g. bind P Q (reply r) next (h r g) f)
 
   module _ (node : ℕ) (stretch : Size Float) where
-    width_as_lem : (k : Option SizingKeywordResolution) (known : Size (Option Float)) → KeywordIn k → KnownIn size_bound known → AnsweredInQuarters S (MaybeIn size_bound) (width_as node k known stretch)
+    width_as_lem : (k : Option SizingKeywordResolution) (known : Size (Option Float)) → KeywordIn k → KnownIn fit_bound known → AnsweredInQuarters S (MaybeIn fit_bound) (width_as node k known stretch)
     unfolding width_as ◌>>=◌
     width_as_lem _ known no_keyword h = now h.width
     width_as_lem _ known (exact k) h = now (given k)
     width_as_lem _ known (measure s) h = later (λ r g. now (given (widen_same (lit≤ tt) (quarters_same g))))
 
-    height_as_lem : (k : Option SizingKeywordResolution) (known : Size (Option Float)) → KeywordIn k → KnownIn size_bound known → AnsweredInQuarters S (MaybeIn size_bound) (height_as node k known stretch)
+    height_as_lem : (k : Option SizingKeywordResolution) (known : Size (Option Float)) → KeywordIn k → KnownIn fit_bound known → AnsweredInQuarters S (MaybeIn fit_bound) (height_as node k known stretch)
     unfolding height_as ◌>>=◌
     height_as_lem _ known no_keyword h = now h.height
     height_as_lem _ known (exact k) h = now (given k)
     height_as_lem _ known (measure s) h = later (λ r g. now (given (widen_same (lit≤ tt) (quarters_same g))))
 
-    in_turn_lem : (wide tall : Option SizingKeywordResolution) (known : Size (Option Float)) → KeywordIn wide → KeywordIn tall → KnownIn size_bound known → AnsweredInQuarters S (KnownIn size_bound) (in_turn node wide tall known stretch)
+    in_turn_lem : (wide tall : Option SizingKeywordResolution) (known : Size (Option Float)) → KeywordIn wide → KeywordIn tall → KnownIn fit_bound known → AnsweredInQuarters S (KnownIn fit_bound) (in_turn node wide tall known stretch)
     unfolding in_turn
     in_turn_lem wide tall known k l h =
-        bind (MaybeIn size_bound) (KnownIn size_bound) (width_as node wide known stretch) _ (width_as_lem wide known k h)
-        (λ w hw. bind (MaybeIn size_bound) (KnownIn size_bound) (height_as node tall (w by known.height) stretch) _ (height_as_lem tall (w by known.height) l (record { width = hw; height = h.height }))
+        bind (MaybeIn fit_bound) (KnownIn fit_bound) (width_as node wide known stretch) _ (width_as_lem wide known k h)
+        (λ w hw. bind (MaybeIn fit_bound) (KnownIn fit_bound) (height_as node tall (w by known.height) stretch) _ (height_as_lem tall (w by known.height) l (record { width = hw; height = h.height }))
         (λ t ht. now (record { width = hw; height = ht })))
 
-    by_keywords_lem : (wide tall : Option SizingKeywordResolution) (known : Size (Option Float)) → KeywordIn wide → KeywordIn tall → KnownIn size_bound known → AnsweredInQuarters S (KnownIn size_bound) (by_keywords node wide tall known stretch)
+    by_keywords_lem : (wide tall : Option SizingKeywordResolution) (known : Size (Option Float)) → KeywordIn wide → KeywordIn tall → KnownIn fit_bound known → AnsweredInQuarters S (KnownIn fit_bound) (by_keywords node wide tall known stretch)
     unfolding by_keywords ◌>>=◌
     by_keywords_lem option.None tall known k l h = in_turn_lem option.None tall known k l h
     by_keywords_lem (option.Some (Exact x)) tall known k l h = in_turn_lem (option.Some (Exact x)) tall known k l h
@@ -147,15 +147,16 @@ module _ (S : Laid → Type 0) where
     unfolding settled with_ratio
     settle b i s k = clamped_in k (widen_known i h.min) (widen_known i h.max)
 
-    known_in : AnsweredInQuarters S (KnownIn size_bound) (keyword_sizes node style box (size_keywords style box))
+    known_in : AnsweredInQuarters S (KnownIn fit_bound) (keyword_sizes node style box (size_keywords style box))
     unfolding keyword_sizes
     known_in =
         let k = size_keywords style box in
         let hk = keywords_in style box hs h in
-        either (AnsweredInQuarters S (KnownIn size_bound)) (has_keyword k)
-        (bind (KnownIn size_bound) (KnownIn size_bound) (by_keywords node k.width k.height box.size (keyword_stretch box)) _
-        (by_keywords_lem node (keyword_stretch box) k.width k.height box.size hk.width hk.height h.size) (λ s k. now (rw hs.ratio (settle size_bound (lit≤ tt) s k))))
-        (now h.size)
+        let size = widen_known (lit≤ tt) h.size in
+        either (AnsweredInQuarters S (KnownIn fit_bound)) (has_keyword k)
+        (bind (KnownIn fit_bound) (KnownIn fit_bound) (by_keywords node k.width k.height box.size (keyword_stretch box)) _
+        (by_keywords_lem node (keyword_stretch box) k.width k.height box.size hk.width hk.height size) (λ s k. now (rw hs.ratio (settle fit_bound (lit≤ tt) s k))))
+        (now size)
 
     -- step 5
     widened_in : (t : Bool) (s : Size (Option Float)) → KnownIn fit_bound s → KnownIn fit_bound (widened None box t s)
@@ -202,9 +203,9 @@ module _ (S : Laid → Type 0) where
     placed_in =
         let box = resolved_box container style candidate in
         let h = resolved_in container style candidate hb hs hc in
-        bind (KnownIn size_bound) PlacedIn (keyword_sizes candidate.node style box (size_keywords style box)) _ (known_in style hs candidate.node box h)
+        bind (KnownIn fit_bound) PlacedIn (keyword_sizes candidate.node style box (size_keywords style box)) _ (known_in style hs candidate.node box h)
         (λ known k. bind (SizeIn fit_bound) PlacedIn (measured candidate.node box (stretched style box known)) _
-        (measured_in style hs candidate.node box h (stretched style box known) (stretched_in style hs candidate.node box h known (widen_known (lit≤ tt) k)))
+        (measured_in style hs candidate.node box h (stretched style box known) (stretched_in style hs candidate.node box h known k))
         (λ size s.
         later
         (λ laid g.

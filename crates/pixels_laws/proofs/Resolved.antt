@@ -20,13 +20,14 @@ use Rattle.oof_common.specs.SizingKeyword.{absolute_stretch}
 use Rattle.oof_resolve.specs.Resolved.{of_width, of_each_axis, less_offset, horizontal, vertical, padding_or_border, style_size, min_size, resolved_box}
 use Rattle.oof_resolve.specs.declared.ContainingBlock.{ContainingBlock}
 use Rattle.oof_resolve.specs.declared.ResolvedBox.{ResolvedBox}
+use Rattle.oof_box.specs.Box.{axis_stretch}
 use Rattle.util_exact.specs.Integer.{N, zero_n}
 use Rattle.util_exact.specs.Value.{Quarter}
 use Rattle.util_exact.proofs.Quarters.{MaybeExact}
 use Rattle.util_exact.proofs.Same.{given, absent, itself, quarters_same, widen_same, zero_same, add_same, sub_same, larger_same}
 use Rattle.mirror_axis.proofs.Model.{◌toN◌, AxisN}
 use Rattle.mirror_axis.proofs.ExactBlock.{ExactAxis}
-use Rattle.mirror_axis.proofs.ExactMargins.{stretch_exact}
+use Rattle.mirror_axis.proofs.ExactMargins.{span_exact, stretch_exact}
 use Rattle.mirror_box.specs.Quarter.{QuarterLength}
 use Rattle.mirror_box.proofs.Bounds.{length_bound, static_bound, edges_bound, size_bound, fit_bound}
 use Rattle.mirror_box.proofs.Lengths.{length_same}
@@ -64,12 +65,12 @@ axis_exact a h =
 fit_in : (a : OofAxis) → AxisIn a → In fit_bound (stretch_fit a)
 fit_in a h = let e = axis_exact a h in itself (stretch_exact length_bound static_bound (lit< tt) a e.0 e.1)
 
-pub keyword_in : (a : OofAxis) → AxisIn a → In size_bound (absolute_stretch a.size a.inset a.margin)
+pub keyword_in : (a : OofAxis) → AxisIn a → In fit_bound (axis_stretch a)
 unfolding absolute_stretch
 keyword_in a h =
-    larger_same
-    (sub_same (sub_same (sub_same (sub_same h.size (or_zero_lem h.inset_start) (lit< tt)) (or_zero_lem h.inset_end) (lit< tt)) (or_zero_lem h.margin_start) (lit< tt)) (or_zero_lem h.margin_end) (lit< tt))
-    zero_same
+    let e = axis_exact a h in
+    let s = itself (span_exact length_bound static_bound (lit< tt) a e.0 e.1) in
+    larger_same (sub_same (sub_same s (or_zero_lem h.margin_start) (lit< tt)) (or_zero_lem h.margin_end) (lit< tt)) zero_same
 
 -- ---- the box
 
