@@ -6,7 +6,9 @@ says nothing of an input, else True or False. `MISREADINGS` change one method ea
 import random
 from fractions import Fraction as F
 
-INF = float('inf')
+INF, NAN = float('inf'), float('nan')
+# where one of two is NaN, the other
+def larger(a, b): return b if a != a else a if b != b else max(a, b)
 
 
 class Axis:
@@ -207,6 +209,10 @@ def static_safe_keeps_start(D, a, z):
     if a.inset != (None, None) or a.psf != 'Safe': return None
     v = view(D, a, z)
     return start_kept(a, z, v) if 0 < v[3] else None
+def static_fits_inside(D, a, z):
+    if a.inset != (None, None): return None
+    p, m, l, b = view(D, a, z)
+    return l[0] <= p - m[0] and p + z + m[1] <= l[1] if l[0] < l[1] and b <= l[1] - l[0] else None
 def overflow_covers(D, a, z):
     v = overflows(D, a, z)
     if v: p, m, l, b = v; return p - m[0] <= l[0] and l[1] <= p + z + m[1]
@@ -263,16 +269,43 @@ def stretched_box_is_the_block(D, a, z):
     if not aligned(a) or f <= 0: return None
     p, m, l, b = view(D, a, f)
     return p - m[0] == l[0] and p + f + m[1] == l[1]
+def stretched_box_is_the_block_with_any_insets(D, a, z):
+    f, l = D.stretch_fit(a), D.block(a)
+    if f <= 0 or l[1] <= l[0]: return None
+    p, m = D.placement(a, f)
+    return p - m[0] == l[0] and p + f + m[1] == l[1]
+# twice the anchor: the static position's edge, or the middle of its area
+def twice_anchor(a): return sum(a.area) if a.key == 'Center' else 2 * a.area[a.key == 'End']
+def static_block_inside(D, a, z):
+    if a.inset != (None, None) or not 0 <= twice_anchor(a) <= 2 * a.size: return None
+    l = D.block(a)
+    return 0 <= l[0] and l[1] <= a.size
+def static_block_is_empty(D, a, z):
+    if a.inset != (None, None) or a.size <= 0: return None
+    before, beyond = twice_anchor(a) <= 0, 2 * a.size <= twice_anchor(a)
+    if not {'Start': beyond, 'Center': before or beyond, 'End': before}[a.key]: return None
+    l = D.block(a)
+    return l[0] == l[1]
+# the stretch size of a size keyword (request #106), and the Rust's
+def less_margins(a, x): return larger(x - zero(a.margin[0]) - zero(a.margin[1]), 0)
+def keyword_room(D, a): l = D.block(a); return less_margins(a, l[1] - l[0])
+# of all floats: also where the block's size is NaN or infinite
+def stretch_size_is_a_size(D, a, z): return all(0 <= x for x in (keyword_room(D, a), *(less_margins(a, x) for x in (NAN, INF, -INF))))
+def stretch_size_is_stretch_fit(D, a, z): return keyword_room(D, a) == D.stretch_fit(a)
+def stretch_size_as_the_rust(D, a, z):
+    if None in a.inset or a.size - a.inset[1] < a.inset[0]: return None
+    return keyword_room(D, a) == less_margins(a, a.size - a.inset[0] - a.inset[1])
 
 def named(fs): return {''.join(w.capitalize() for w in f.__name__.split('_')): f for f in fs}
 
 OF_FLOATS = named((start_inset_held, end_inset_held, start_inset_block, end_inset_block, block_between_insets, block_from_static_start,
     block_to_static_end, block_in_order, given_margin_stays, auto_margins_are_zero, auto_margins_are_equal, negative_space_goes_to_the_end,
     lone_auto_margin_takes_the_rest, auto_margin_begins_with_block, fits_as_told, unsafe_as_told, normal_at_start, safe_overflow_at_start,
-    overflow_is_reachable, static_edge_held, static_safe_at_start, stretches_between_insets, stretch_fit_is_a_size))
+    overflow_is_reachable, static_edge_held, static_safe_at_start, stretches_between_insets, stretch_fit_is_a_size, stretch_size_is_a_size))
 OF_QUARTERS = named((end_inset_exact, auto_margins_fill, fits_inside, same_size_is_the_block, center_is_even, end_at_end, safe_keeps_start,
-    static_safe_keeps_start, overflow_covers, overflow_stays_within, overflow_keeps_start, overflow_moves_no_more, overflow_stops_at_start,
-    overflow_stops_at_end, too_large_at_start, block_around_static_center, stretch_fits, stretched_box_is_the_block))
+    static_safe_keeps_start, static_fits_inside, overflow_covers, overflow_stays_within, overflow_keeps_start, overflow_moves_no_more, overflow_stops_at_start,
+    overflow_stops_at_end, too_large_at_start, block_around_static_center, stretch_fits, stretched_box_is_the_block,
+    stretched_box_is_the_block_with_any_insets, static_block_inside, static_block_is_empty, stretch_size_is_stretch_fit, stretch_size_as_the_rust))
 LAWS = {**OF_FLOATS, **OF_QUARTERS}
 
 
@@ -334,6 +367,7 @@ MISREADINGS = [
     misread('static block: end as start', static_block=lambda s,k,ar,w: S.static_block(s,'Start' if k=='End' else k,ar,w)),
     misread('static center: the farther edge', centered=lambda s,c,w: (0,2*c) if abs(c)>abs(w-c) else (w-2*(w-c),w)),
     misread('static center: the block is the area', centered=lambda s,c,w: (0,w)),
+    misread('static center: as far on either side as the nearer edge', centered=lambda s,c,w: (lambda h: (c-h,c+h))(min(abs(c),abs(w-c)))),
     misread('static center: from the center on', centered=lambda s,c,w: (c,w)),
     misread('static: aligned in the block', from_static=lambda s,a,l,z,m: s.align_in(l,s.box(z,m),a.key)+m[0]),
     misread('static: aligned by justify-self', from_static=lambda s,a,l,z,m: s.align_in(a.area,s.box(z,m),s.edge(a.al,a))+m[0]),

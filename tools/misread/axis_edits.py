@@ -68,6 +68,8 @@ AROUND_N = '(zero_n toN dbl_n c) (sub_n w (dbl_n (sub_n w c)) toN w)'
 NEARER = 'cond (le (magnitude center) (magnitude (areaSize ⊖ center)))'
 FROM_START = '(record { start = zero_exact; end = widen (omega arith) (dbl_exact hc (omega arith)) })'
 TO_END = '(record { start = widen (omega arith) (sub_exact hw (dbl_exact rest (omega arith)) (omega arith)); end = widen (omega arith) hw })'
+TWICE, LESS_TWICE = '(widen (omega arith) (dbl_exact hc (omega arith)))', '(widen (omega arith) (sub_exact hw (dbl_exact rest (omega arith)) (omega arith)))'
+def sorted_exact(one, other): return f'(record {{ start = smaller_exact {one} {other}; end = larger_exact {one} {other} }})'
 SPACE = 'span (block a) ⊖ (or_zero a.margin.start ⊕ or_zero a.margin.end)'
 SPACE_N = 'sub_n (span_n (block_n σ α)) (add_n (or_zero_n σ.margin_start α.margin.start) (or_zero_n σ.margin_end α.margin.end))'
 UNLIMITED = 'self.alignment == OofAlignment::Normal'
@@ -431,6 +433,15 @@ by_direction End a = end_edge a.reversed
         (CODE, 'REST', 'rest'),
         (MODEL, AROUND_N, '(sub_n w (dbl_n (sub_n w c)) toN w) (zero_n toN dbl_n c)'),
         (BLOCKS, f'{FROM_START}\n      {TO_END}', f'{TO_END}\n      {FROM_START}')]),
+    # beyond an edge of the area the block, in place of being closed up, runs from there on: the lesser end first
+    ('static center: as far on either side as the nearer edge', QUARTERS, [
+        (AXIS, f'{NEARER} (0f to 2f ⊗ center) (areaSize ⊖ 2f ⊗ (areaSize ⊖ center) to areaSize)',
+            f'{NEARER} (smaller (2f ⊗ center) 0f to larger (2f ⊗ center) 0f) (smaller (areaSize ⊖ 2f ⊗ (areaSize ⊖ center)) areaSize to larger (areaSize ⊖ 2f ⊗ (areaSize ⊖ center)) areaSize)'),
+        (CODE, line('0.0', '2.0 * center', 8), line('sys::f32_min(2.0 * center, 0.0)', 'sys::f32_max(2.0 * center, 0.0)', 8)),
+        (CODE, line('size - 2.0 * rest', 'size', 8), line('sys::f32_min(size - 2.0 * rest, size)', 'sys::f32_max(size - 2.0 * rest, size)', 8)),
+        (MODEL, AROUND_N, '(min_n (dbl_n c) zero_n toN max_n (dbl_n c) zero_n) (min_n (sub_n w (dbl_n (sub_n w c))) w toN max_n (sub_n w (dbl_n (sub_n w c))) w)'),
+        (BLOCKS, 'Order.{magnitude_exact}', 'Order.{magnitude_exact, smaller_exact, larger_exact}'),
+        (BLOCKS, f'{FROM_START}\n      {TO_END}', f'{sorted_exact(TWICE, "zero_exact")}\n      {sorted_exact(LESS_TWICE, "(widen (omega arith) hw)")}')]),
     ('static center: the block is the area', QUARTERS, [
         (AXIS, f'{NEARER} (0f to 2f ⊗ center) (areaSize ⊖ 2f ⊗ (areaSize ⊖ center) to areaSize)', f'{NEARER} (0f to areaSize) (0f to areaSize)'),
         (CODE, line('0.0', '2.0 * center', 8), line('0.0', 'size', 8)),

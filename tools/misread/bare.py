@@ -4,7 +4,7 @@ import re
 import shutil
 
 CRATES = ('oof_common', 'oof_resolve', 'oof_place', 'oof_box')
-ROWS = {'rows 1 to 9': 'axis_rows', 'rows 10 and 11': 'box_rows', 'rows 12 and 13': 'overflow_rows'}
+ROWS = {'rows 1 to 9': 'axis_rows', 'rows 10 and 11': 'box_rows', 'rows 12 and 13': 'overflow_rows', 'rows of stretch': 'stretch_rows'}
 
 
 def without_functions(text):
@@ -24,7 +24,7 @@ def without_functions(text):
 
 
 def make_bare(copy):
-    """Takes the code and its proofs from a copy of the repository, and the samples from the rows, which become three tests."""
+    """Takes the code and its proofs from a copy of the repository, and the samples from the rows, which become a test for each list of ROWS."""
     for crate in CRATES:
         shutil.rmtree(os.path.join(copy, 'crates', crate, 'proofs'), ignore_errors=True)
         for folder, _, files in os.walk(os.path.join(copy, 'crates', crate, 'src')):

@@ -3,6 +3,7 @@ of the misreading; then the crates whose code is proved anew, and (file, old, ne
 RESOLVED, RESOLVE = 'oof_resolve/specs/Resolved.antt', 'oof_resolve/src/lib.rt'
 PLACING, PLACE = 'oof_place/specs/Placing.antt', 'oof_place/src/lib.rt'
 OVERFLOW, OVERFLOWS = 'oof_common/specs/ScrollableOverflow.antt', 'oof_common/src/scrollable_overflow.rt'
+KEYWORD, KEYWORDS = 'oof_common/specs/SizingKeyword.antt', 'oof_common/src/sizing_keyword.rt'
 BOX, CUT, SIZING, DIALOGUE = 'oof_box/specs/Box.antt', 'oof_box/specs/Cut.antt', 'oof_box/src/sizing.rt', 'oof_box/src/dialogue.rt'
 R, P, C, B = ['oof_resolve'], ['oof_place'], ['oof_common'], ['oof_box']
 
@@ -83,6 +84,86 @@ EDITS = [
     ('stretched: the other axis\' stretch-fit size', R, [
         (RESOLVED, 'record { width = stretch_fit x; height = stretch_fit y }', 'record { width = stretch_fit y; height = stretch_fit x }'),
         (RESOLVE, 'width: horizontal.stretch_fit_size(),\n        height: vertical.stretch_fit_size(),', 'width: vertical.stretch_fit_size(),\n        height: horizontal.stretch_fit_size(),')]),
+    # ---- step 4: size keywords, as of request #106
+    ('stretch keyword: the area less its insets', B, [
+        (BOX, 'use Rattle.util.specs.Order.{larger}', 'use Rattle.util.specs.Number.{◌⊖◌}\nuse Rattle.util.specs.Order.{larger}'),
+        (BOX, 'absolute_stretch (span (block a)) a.margin', 'absolute_stretch (a.size ⊖ or_zero a.inset.start ⊖ or_zero a.inset.end) a.margin'),
+        (SIZING, '    sizing_keyword::absolute_stretch_size(axis.inset_modified_containing_block_size(), axis.margin)\n', """    let left = axis.size - axis.inset.start.unwrap_or(0.0) - axis.inset.end.unwrap_or(0.0);
+    sizing_keyword::absolute_stretch_size(left, axis.margin)
+""")]),
+    ('stretch keyword: the block only where no inset is given', B, [
+        (BOX, 'use Rattle.util.specs.Order.{larger}', 'use Rattle.util.specs.Number.{◌⊖◌}\nuse Rattle.util.specs.Order.{larger}'),
+        (BOX, 'absolute_stretch (span (block a)) a.margin',
+            'absolute_stretch (cond (is_some a.inset.start || is_some a.inset.end) (a.size ⊖ or_zero a.inset.start ⊖ or_zero a.inset.end) (span (block a))) a.margin'),
+        (SIZING, '    sizing_keyword::absolute_stretch_size(axis.inset_modified_containing_block_size(), axis.margin)\n', """    if axis.inset.start.is_some() || axis.inset.end.is_some() {
+        let left = axis.size - axis.inset.start.unwrap_or(0.0) - axis.inset.end.unwrap_or(0.0);
+        return sizing_keyword::absolute_stretch_size(left, axis.margin);
+    }
+    sizing_keyword::absolute_stretch_size(axis.inset_modified_containing_block_size(), axis.margin)
+""")]),
+    ('stretch keyword: margins left out', C, [
+        (KEYWORD, 'larger (blockSize ⊖ or_zero margin.start ⊖ or_zero margin.end) 0f', 'larger blockSize 0f'),
+        (KEYWORDS, """    let free = size - margin.start.unwrap_or(0.0) - margin.end.unwrap_or(0.0);
+    sys::f32_max(free, 0.0)
+""", '    sys::f32_max(size, 0.0)\n')]),
+    ('stretch keyword: below 0', C, [
+        (KEYWORD, 'larger (blockSize ⊖ or_zero margin.start ⊖ or_zero margin.end) 0f', 'blockSize ⊖ or_zero margin.start ⊖ or_zero margin.end'),
+        (KEYWORDS, """    let free = size - margin.start.unwrap_or(0.0) - margin.end.unwrap_or(0.0);
+    sys::f32_max(free, 0.0)
+""", '    size - margin.start.unwrap_or(0.0) - margin.end.unwrap_or(0.0)\n')]),
+    ('the other side\'s space: the room of the side asked for', B, [
+        (BOX, 'space = spaceX and Definite stretch.height', 'space = spaceX and Definite stretch.width'),
+        (BOX, 'Definite (unwrap_or known.width stretch.width)', 'Definite (unwrap_or known.width stretch.height)'),
+        (DIALOGUE, 'height: AvailableSpace::Definite(stretch.height),', 'height: AvailableSpace::Definite(stretch.width),'),
+        (DIALOGUE, 'AvailableSpace::Definite(width.unwrap_or(stretch.width))', 'AvailableSpace::Definite(width.unwrap_or(stretch.height))')]),
+    ('size keyword: though a given side gives it by the ratio', R, [
+        (RESOLVED, 'Prelude.{true, false, cond, Float, Option}', 'Prelude.{true, false, cond, Float, None, Option}'),
+        (RESOLVED, 'use Rattle.style.specs.Resolve.{resolved_rect, resolved_size}', """use Rattle.style.specs.Resolve.{resolved, resolved_rect, resolved_size}
+use Rattle.style.specs.declared.resolve.Resolved.{Resolved}
+use Rattle.style.specs.declared.resolve.Resolved.TheVariants.{NotAllowed, Absent, Length, Keyword}"""),
+        (RESOLVED, '-- ---- step 3: available space\n', """-- none for a side with a keyword
+abbrev pub unless_keyword : Resolved → Option Float → Option Float
+unless_keyword NotAllowed side = side
+unless_keyword Absent side = side
+unless_keyword (Length x) side = side
+unless_keyword (Keyword k) side = None
+
+abbrev pub own_side : CompactLength → Float → Option Float → Option Float
+own_side length basis side = unless_keyword (resolved field.Size length basis) side
+
+-- ---- step 3: available space
+"""),
+        (RESOLVED, 'let size = style_size field.Size style.size style areaSize paddingBorder in', """let found = style_size field.Size style.size style areaSize paddingBorder in
+    let size : Size (Option Float) = record { width = own_side style.size.width areaSize.width found.width; height = own_side style.size.height areaSize.height found.height } in"""),
+        (RESOLVE, 'style_size, min_size, less_margins', 'style_size, min_size, own_side, less_margins'),
+        (RESOLVE, 'use style::resolve::Field;', 'use style::resolve::{Field, Resolved};'),
+        (RESOLVE, '// ---- step 3\n', """fn own_side(length: CompactLength, basis: f32, side: Option<f32>) -> Option<f32>
+    ensures { result ≡ own_side length basis side }
+{
+    match resolve::resolve(Field::Size, length, basis) {
+        Resolved::Keyword(_) => None,
+        Resolved::NotAllowed | Resolved::Absent | Resolved::Length(_) => side,
+    }
+}
+
+// ---- step 3
+"""),
+        (RESOLVE, 'let size = style_size(Field::Size, style.size, style, area, edges);', """let found = style_size(Field::Size, style.size, style, area, edges);
+    let size = Size {
+        width: own_side(style.size.width, area.width, found.width),
+        height: own_side(style.size.height, area.height, found.height),
+    };""")]),
+    # the stretch-fit size, as step 5 has it; of a table the min is raised to it
+    ('auto height beside width stretch: its stretch size', B, [
+        (BOX, 'Prelude.{ℕ, Bool, cond,', 'Prelude.{ℕ, Bool, cond, eqb,'),
+        (BOX, 'let stretchesY = not (is_some known.height) && stretches box.vertical plain in',
+            'let stretchesY = (not (is_some known.height) && stretches box.vertical plain) || (not (is_some known.height) && eqb style.size.width.tag 75) in'),
+        (SIZING, 'let stretchy = self.is_stretched(known.height, &self.resolved.vertical);', """let stretchy = self.is_stretched(known.height, &self.resolved.vertical)
+            || (known.height.is_none() && self.style.size.width.tag == 75);""")]),
+    ('table with width stretch: min height not raised', B, [
+        (BOX, 'Prelude.{ℕ, Bool, cond,', 'Prelude.{ℕ, Bool, cond, eqb,'),
+        (BOX, 'by raised_min stretchesY box.min.height', 'by raised_min (stretchesY && not (eqb style.size.width.tag 75)) box.min.height'),
+        (SIZING, 'height: raised_min(stretchy, min.height, fit.height)', 'height: raised_min(stretchy && self.style.size.width.tag != 75, min.height, fit.height)')]),
     # ---- step 5: stretch
     ('table: normal stretches', B, [
         (BOX, 'let plain = not style.replaced && not style.table in', 'let plain = not style.replaced && not style.replaced in'),

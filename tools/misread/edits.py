@@ -175,7 +175,7 @@ def tried_box(root, copy, bare_copy, name, crates, edits):
     for file in files:
         for to in (copy, bare_copy) if '/specs/' in file else (copy,): shutil.copy(os.path.join(root, 'crates', file), os.path.join(to, 'crates', file))
     changed = dict(box.MISREADINGS)[name]
-    rows = [next(r for r in bare.ROWS if row[-2:] in r) for row, holds in box.ROWS.items() if not holds(changed())]
+    rows = [r for row, holds in box.ROWS.items() if not holds(changed()) for r in bare.ROWS if row.split()[-1] in r.split()]
     false = [r for r in refused if r in rows] + false_on_model(box, changed, refused)
     said = f'refused by {", ".join(false) or "NOTHING THAT IS FALSE"}' + (' (false on the model)' if false else '')
     if len(refused) > len(false): said += f', and with it {", ".join(r for r in refused if r not in false)}'

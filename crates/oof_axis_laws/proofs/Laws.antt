@@ -7,20 +7,21 @@ use mathlib.Core.Bool.{Bool, true, false, not, ◌&&◌}
 use Prim.Native.Nat.{ℕ, ◌+◌, ◌*◌, ◌<◌}
 use native.Mathlib.Omega.{arith}
 use lib.Dec.{ltb→lt}
-use lib.Ieee.{Float, lt, le}
-use Rattle.util.specs.Number.{0f}
+use lib.Ieee.{Float, lt, le, is_nan, of_bits}
+use Rattle.util.specs.Number.{◌⊖◌, 0f}
 use Rattle.util.specs.Maybe.{or_zero}
+use Rattle.util.proofs.Laws.{larger_bounds}
 use Rattle.geometry.specs.Geometry.{◌to◌, span}
 use Rattle.style.specs.declared.alignment.AlignmentSafety.{AlignmentSafety}
 use Rattle.style.specs.declared.alignment.AlignmentSafety.TheVariants.{Unsafe, Safe}
 use Rattle.tree.specs.declared.layout.AxisStaticEdge.{AxisStaticEdge}
-use Rattle.tree.specs.declared.layout.AxisStaticEdge.TheVariants.{Center}
+use Rattle.tree.specs.declared.layout.AxisStaticEdge.TheVariants.{Start, Center, End}
 use Rattle.oof_axis.specs.declared.OofAlignment.{OofAlignment}
 use Rattle.oof_axis.specs.declared.OofAlignment.TheVariants as align
 use Rattle.oof_axis.specs.declared.OofAxis.{OofAxis}
 use Rattle.oof_axis.specs.Axis.{block, stretch_fit, placement}
 use Rattle.util_exact.specs.Integer.{N, zero_n, add_n, EqN}
-use Rattle.util_exact.proofs.Integers.{Multiple, sub_n, le_n, add_mult, sub_mult, even_of, half_twice}
+use Rattle.util_exact.proofs.Integers.{Multiple, sub_n, max_n, lt_n, le_n, add_mult, sub_mult, even_of, half_twice}
 use mathlib.Core.Logic.{◌⊎◌, inl, inr}
 use borrow.Author.Tests.{le-leb}
 use Rattle.util_exact.specs.Value.{◌≐◌, Total}
@@ -39,8 +40,8 @@ use Rattle.mirror_axis.proofs.FlipMargins.{margins_fill}
 use Rattle.mirror_axis.proofs.Law.{numbers, axis_exact}
 use Rattle.oof_axis.specs.Laws.{NoInset, TwoInsets, Aligned, Overflows, margin_box}
 use Rattle.oof_axis.proofs.Laws.{not_normal}
-use Rattle.oof_axis_laws.specs.Laws.{Whole, LeN, ◌=Σ◌, ◌≤Σ◌, BeginsAt, BeginsFrom, BeginsBy, EndsAt, EndsFrom, EndsBy, EndInsetExact, AutoMarginsFill, FitsInside, SameSizeIsTheBlock, CenterIsEven, AtTheEnd, EndAtEnd, StartKept, SafeKeepsStart, StaticSafeKeepsStart, OverflowCovers, bounds, OverflowStaysWithin, OverflowKeepsStart, with_safety, OverflowMovesNoMore, OverflowStopsAtStart, OverflowStopsAtEnd, TooLargeAtStart, AroundStaticCenter, BlockAroundStaticCenter, StretchIs, StretchFits, StretchedBoxIsTheBlock}
-use Rattle.oof_axis_laws.proofs.Numbers.{Sum, nil, ◌and◌, equal_sums, at_most_sums, at_most, above, below, not_below, Middle, align_inside, fits_told, safe_keeps, limited_covers, limited_within, limited_start, limited_told, limited_low, limited_high, limited_large, overflow_self, static_keeps, around}
+use Rattle.oof_axis_laws.specs.Laws.{Whole, LeN, ◌=Σ◌, ◌≤Σ◌, BeginsAt, BeginsFrom, BeginsBy, EndsAt, EndsFrom, EndsBy, EndInsetExact, AutoMarginsFill, FitsInside, SameSizeIsTheBlock, CenterIsEven, AtTheEnd, EndAtEnd, StartKept, SafeKeepsStart, StaticSafeKeepsStart, StaticFitsInside, OverflowCovers, bounds, OverflowStaysWithin, OverflowKeepsStart, with_safety, OverflowMovesNoMore, OverflowStopsAtStart, OverflowStopsAtEnd, TooLargeAtStart, AroundStaticCenter, BlockAroundStaticCenter, StretchIs, StretchFits, StretchedBoxIsTheBlock, StretchedBoxIsTheBlockWithAnyInsets, StaticPositionInside, StaticBlockInside, StaticPositionLeavesNothing, StaticBlockIsEmpty, stretch_size, StretchSizeIsASize, StretchSizeIsStretchFit, rust_stretch_size, StretchSizeAsTheRust}
+use Rattle.oof_axis_laws.proofs.Numbers.{Sum, nil, ◌and◌, equal_sums, at_most_sums, at_most, above, below, not_below, Middle, align_inside, fits_told, safe_keeps, limited_covers, limited_within, limited_start, limited_told, limited_low, limited_high, limited_large, overflow_self, static_keeps, around, static_fills, static_fits, static_told, start_inside, end_inside, start_outside, center_outside, end_outside}
 
 -- ---- the integers of a placed box: block, size, margins, and where the margin box begins
 
@@ -181,11 +182,14 @@ module _ (L A S : ℕ) (room : 10 * L + 6 * A + S < 16777216) (a : OofAxis) (α 
       (begins_at (aligned g) line.start (rw e (omega (arith, v, i.0, i.1))), ends_at (aligned g) line.end (rw e (omega (arith, v, i.0, i.1))))
 
   -- a stretched box is as large as the block
-  stretched_at : Aligned a → size ≐ stretch_fit a → lt 0f size ≡ true → BeginsAt a size (block a).start × EndsAt a size (block a).end
-  stretched_at g q e =
+  as_the_block : size ≐ stretch_fit a → lt 0f size ≡ true → EqN (box_n u μ) (span_n ℓ)
+  as_the_block q e =
       let v = same_integer hu (stretch_exact L A (omega arith) a α h) q in
       let p = below zero_n u (sym (lt_exact (zero_exact {g = 4} {b = 0}) hu) ∙ e) in
-      same_size_at g (same_number box (span_of L A S room line) (omega (arith, v, p)))
+      omega (arith, v, p)
+
+  stretched_at : Aligned a → size ≐ stretch_fit a → lt 0f size ≡ true → BeginsAt a size (block a).start × EndsAt a size (block a).end
+  stretched_at g q e = same_size_at g (same_number box (span_of L A S room line) (as_the_block q e))
 
   center_at : Aligned a → a.alignment ≡ align.Center → le (margin_box a size) (span (block a)) ≡ true
       → (placement a size).position ∷ (placement a size).position ∷ size ∷ (placement a size).margin.end ∷ [] =Σ (block a).start ∷ (block a).end ∷ (placement a size).margin.start ∷ []
@@ -307,6 +311,88 @@ module _ (L A S : ℕ) (room : 10 * L + 6 * A + S < 16777216) (a : OofAxis) (α 
       let e = ap (λ (s : AlignmentSafety). static_place_n s (shape a) area ℓ (box_n u μ)) s ∙ ap (λ (l : LineN). static_place_n Safe (shape a) area l (box_n u μ)) (static_line n) in
       (λ r. begins_from (unset n) line.start (rw (e, static_line n) (i.0 r)), λ r. ends_by (unset n) line.end (rw (e, static_line n) (i.1 r)))
 
+  static_fits_at : NoInset a → lt 0f (span (block a)) ≡ true → le (margin_box a size) (span (block a)) ≡ true → BeginsFrom a size (block a).start × EndsBy a size (block a).end
+  static_fits_at n p f =
+      let v = at_most (box_n u μ) (span_n ℓ) (fits f) in
+      let l = static_line n in
+      let told = static_told a.place.align.safety (shape a) area ℓ (box_n u μ) v in
+      let larger : lt_n zero_n (span_n ℓ) ≡ true = sym (lt_exact (zero_exact {g = 4} {b = 0}) (span_of L A S room line)) ∙ p in
+      let i = static_fits (end_of a.reversed) a.place.align.keyword area α.size (box_n u μ) static_middle static_even (subst (λ (l : LineN). LeN (box_n u μ) (span_n l)) l v) (subst (λ (l : LineN). lt_n zero_n (span_n l) ≡ true) l larger) in
+      (begins_from (unset n) line.start (rw (told, l) i.0), ends_by (unset n) line.end (rw (told, l) i.1))
+
+  -- ---- a stretched box, by its insets
+
+  absent_is : (m : Option Float) → is_some m ≡ false → m ≡ None
+  absent_is m e = search rules
+
+  -- one inset: at its edge
+  at_start_inset : is_some a.inset.start ≡ true → is_some a.inset.end ≡ false → EqN (box_n u μ) (span_n ℓ) → BeginsAt a size (block a).start × EndsAt a size (block a).end
+  at_start_inset p q v =
+      let s = stands μ ℓ.start (rw (p, q) refl) (rw (p, q) refl) in
+      (begins_at s line.start (omega arith), ends_at s line.end (omega (arith, v)))
+
+  at_end_inset : is_some a.inset.start ≡ false → is_some a.inset.end ≡ true → EqN (box_n u μ) (span_n ℓ) → BeginsAt a size (block a).start × EndsAt a size (block a).end
+  at_end_inset p q v =
+      let m : margins_n (shape a) α u ≡ μ = rw p refl in
+      let at : place_n (shape a) α u ≡ sub_n (sub_n ℓ.end u) μ.end = rw (p, q) refl in
+      let ms = subst (λ (m : LineN). Exact 2 bound (placement a size).margin.start m.start) m any_margins.start in
+      let me = subst (λ (m : LineN). Exact 2 bound (placement a size).margin.end m.end) m any_margins.end in
+      let place = place_exact L A S room a α h hu in
+      (equal_sums (place and nil) (line.start and ms and nil) (rw at (omega (arith, v))), equal_sums (place and hu and me and nil) (line.end and nil) (rw at (omega arith)))
+
+  -- none: at the static position
+  at_static : NoInset a → EqN (box_n u μ) (span_n ℓ) → lt_n zero_n (span_n ℓ) ≡ true → BeginsAt a size (block a).start × EndsAt a size (block a).end
+  at_static n v p =
+      let s = unset n in
+      let l = static_line n in
+      let told = static_told a.place.align.safety (shape a) area ℓ (box_n u μ) (omega (arith, v)) in
+      let f = static_fills (end_of a.reversed) a.place.align.keyword area α.size (box_n u μ) static_middle static_even (subst (λ (l : LineN). EqN (box_n u μ) (span_n l)) l v) (subst (λ (l : LineN). lt_n zero_n (span_n l) ≡ true) l p) in
+      let e : EqN s.at ℓ.start = rw (told, l) f in
+      (begins_at s line.start e, ends_at s line.end (omega (arith, e, v)))
+
+  own_block_at : size ≐ stretch_fit a → lt 0f size ≡ true → lt 0f (span (block a)) ≡ true → BeginsAt a size (block a).start × EndsAt a size (block a).end
+  own_block_at q e s = by_insets (is_some a.inset.start) (is_some a.inset.end) refl refl
+    where
+      v : EqN (box_n u μ) (span_n ℓ)
+      v = as_the_block q e
+
+      two : TwoInsets a → BeginsAt a size (block a).start × EndsAt a size (block a).end
+      two i = search (rules, stretched_at, auto_at)
+
+      by_insets : (b c : Bool) → is_some a.inset.start ≡ b → is_some a.inset.end ≡ c → BeginsAt a size (block a).start × EndsAt a size (block a).end
+      by_insets true true i j = two (record { start = i; end = j })
+      by_insets true false i j = at_start_inset i j v
+      by_insets false true i j = at_end_inset i j v
+      by_insets false false i j =
+          at_static (record { start = absent_is a.inset.start i; end = absent_is a.inset.end j }) v (sym (lt_exact (zero_exact {g = 4} {b = 0}) (span_of L A S room line)) ∙ s)
+
+  -- ---- the stretch size of a size keyword
+
+  abbrev stretch_size_n : N
+  stretch_size_n = max_n (sub_n (sub_n (span_n ℓ) μ.start) μ.end) zero_n
+
+  pub stretch_size_exact : Exact 4 (6 * L + 4 * A + L + L) (stretch_size a) stretch_size_n
+  stretch_size_exact = larger_exact (sub_exact (sub_exact (span_exact L A (omega arith) a α h) given_start (omega arith)) given_end (omega arith)) zero_exact
+
+  stretch_size_is_fit_at : stretch_size a ≐ stretch_fit a
+  stretch_size_is_fit_at = same_number stretch_size_exact (stretch_exact L A (omega arith) a α h) (omega arith)
+
+  -- one no larger than that fits
+  no_larger_at : le size (stretch_size a) ≡ true → lt 0f (stretch_size a) ≡ true → le (margin_box a size) (span (block a)) ≡ true
+  no_larger_at e p =
+      let v = at_most u stretch_size_n (sym (le_exact hu stretch_size_exact) ∙ e) in
+      let w = below zero_n stretch_size_n (sym (lt_exact (zero_exact {g = 4} {b = 0}) stretch_size_exact) ∙ p) in
+      le_exact box (span_of L A S room line) ∙ le-leb ((box_n u μ).p + (span_n ℓ).n) ((span_n ℓ).p + (box_n u μ).n) (omega (arith, v, w))
+
+  as_the_rust_at : TwoInsets a → lt (a.size ⊖ or_zero a.inset.end) (or_zero a.inset.start) ≡ false → stretch_size a ≐ rust_stretch_size a
+  as_the_rust_at i f =
+      let s = or_zero_exact a.inset.start α.inset.start h.inset_start in
+      let e = or_zero_exact a.inset.end α.inset.end h.inset_end in
+      let t : lt_n (sub_n α.size α.inset.end) α.inset.start ≡ false = rw (i.start, i.end) at (sym (lt_exact (sub_exact h.size e (omega arith)) s) ∙ f) in
+      let l : ℓ ≡ α.inset.start toN sub_n α.size α.inset.end = rw (i.start, i.end, t) refl in
+      let less = sub_exact (sub_exact (sub_exact (sub_exact h.size s (omega arith)) e (omega arith)) given_start (omega arith)) given_end (omega arith) in
+      same_number stretch_size_exact (larger_exact less zero_exact) (rw (l, i.start, i.end) (omega arith))
+
 -- what the sums say of the integers
 total_is : {xs : List Float} {t : N} → Sum xs t → (u : N) → Total xs u → EqN t u
 total_is nil u k = omega (arith, k)
@@ -400,6 +486,55 @@ module _ (L A S : ℕ) (room : 10 * L + 6 * A + S < 16777216) (a : OofAxis) (α 
       touch r e (inl t) = inl (same_number (line L A S room a α h hu).start (zero_exact {g = 4} {b = 0}) (rw e t))
       touch r e (inr t) = inr (same_number (line L A S room a α h hu).end h.size (rw e t))
 
+  -- ---- the block of an anchor in the area
+
+  static_inside_at : NoInset a → StaticPositionInside a → (0f ∷ [] ≤Σ (block a).start ∷ []) × ((block a).end ∷ [] ≤Σ a.size ∷ [])
+  static_inside_at n i = go a.place.align.keyword refl
+    where
+      zero : Exact 4 0 0f zero_n
+      zero = zero_exact
+
+      by : (k : AxisStaticEdge) → a.place.align.keyword ≡ k → let l = repaired_n (end_of a.reversed) (static_n k α.area α.size) in LeN zero_n l.start × LeN l.end α.size
+          → (0f ∷ [] ≤Σ (block a).start ∷ []) × ((block a).end ∷ [] ≤Σ a.size ∷ [])
+      by k q t =
+          let l = line L A S room a α h hu in
+          let e = static_line L A S room a α h hu n ∙ ap (λ (k : AxisStaticEdge). repaired_n (end_of a.reversed) (static_n k α.area α.size)) q in
+          (at_most_sums (zero and nil) (l.start and nil) (rw e (omega (arith, t.0))), at_most_sums (l.end and nil) (h.size and nil) (rw e (omega (arith, t.1))))
+
+      go : (k : AxisStaticEdge) → a.place.align.keyword ≡ k → (0f ∷ [] ≤Σ (block a).start ∷ []) × ((block a).end ∷ [] ≤Σ a.size ∷ [])
+      go Start q =
+          let low = at_most_of (zero and nil) (h.area.start and nil) (i.start q).0 in
+          let high = at_most_of (h.area.start and nil) (h.size and nil) (i.start q).1 in
+          by Start q (start_inside (end_of a.reversed) α.area.start α.size (omega (arith, low)) (omega (arith, high)))
+      go Center q = let c = around_at n q (i.center q).0 (i.center q).1 in (c.in_start, c.in_end)
+      go End q =
+          let low = at_most_of (zero and nil) (h.area.end and nil) (i.end q).0 in
+          let high = at_most_of (h.area.end and nil) (h.size and nil) (i.end q).1 in
+          by End q (end_inside (end_of a.reversed) α.area.end α.size (omega (arith, low)) (omega (arith, high)))
+
+  -- ---- the block of an anchor outside the area
+
+  static_outside_at : NoInset a → lt 0f a.size ≡ true → StaticPositionLeavesNothing a → span (block a) ≐ 0f
+  static_outside_at n p o = go a.place.align.keyword refl
+    where
+      zero : Exact 4 0 0f zero_n
+      zero = zero_exact
+
+      by : (k : AxisStaticEdge) → a.place.align.keyword ≡ k → let l = repaired_n (end_of a.reversed) (static_n k α.area α.size) in EqN l.start l.end → span (block a) ≐ 0f
+      by k q t =
+          let e = static_line L A S room a α h hu n ∙ ap (λ (k : AxisStaticEdge). repaired_n (end_of a.reversed) (static_n k α.area α.size)) q in
+          same_number (span_of L A S room (line L A S room a α h hu)) zero (rw e (omega (arith, t)))
+
+      middle_outside : (a.place.area.start ∷ a.place.area.end ∷ [] ≤Σ 0f ∷ []) ⊎ (a.size ∷ a.size ∷ [] ≤Σ a.place.area.start ∷ a.place.area.end ∷ [])
+          → LeN (add_n α.area.start α.area.end) zero_n ⊎ LeN (add_n α.size α.size) (add_n α.area.start α.area.end)
+      middle_outside (inl f) = inl (let b = at_most_of (h.area.start and h.area.end and nil) (zero and nil) f in omega (arith, b))
+      middle_outside (inr f) = inr (let b = at_most_of (h.size and h.size and nil) (h.area.start and h.area.end and nil) f in omega (arith, b))
+
+      go : (k : AxisStaticEdge) → a.place.align.keyword ≡ k → span (block a) ≐ 0f
+      go Start q = let b = at_most_of (h.size and nil) (h.area.start and nil) (o.start q) in by Start q (start_outside (end_of a.reversed) α.area.start α.size (omega (arith, b)))
+      go Center q = by Center q (center_outside (end_of a.reversed) α.area α.size (static_even L A S room a α h hu) (sym (lt_exact zero h.size) ∙ p) (middle_outside (o.center q)))
+      go End q = let b = at_most_of (h.area.end and nil) (zero and nil) (o.end q) in by End q (end_outside (end_of a.reversed) α.area.end (omega (arith, b)))
+
   -- ---- the stretch-fit size
 
   stretch_at : StretchIs a
@@ -459,6 +594,12 @@ end_inset_exact = whole end_inset_at
 pub static_safe_keeps_start : StaticSafeKeepsStart
 static_safe_keeps_start = whole static_safe_at
 
+pub static_fits_inside : StaticFitsInside
+static_fits_inside = whole static_fits_at
+
+pub no_larger_than_the_stretch_size_fits : (a : OofAxis) (size : Float) → Whole a size → le size (stretch_size a) ≡ true → lt 0f (stretch_size a) ≡ true → le (margin_box a size) (span (block a)) ≡ true
+no_larger_than_the_stretch_size_fits = whole no_larger_at
+
 pub overflow_moves_no_more : OverflowMovesNoMore
 overflow_moves_no_more = whole no_more_at
 
@@ -482,3 +623,25 @@ same_size_is_the_block = whole same_size_at
 
 pub stretched_box_is_the_block : StretchedBoxIsTheBlock
 stretched_box_is_the_block = whole stretched_at
+
+pub stretched_box_is_the_block_with_any_insets : StretchedBoxIsTheBlockWithAnyInsets
+stretched_box_is_the_block_with_any_insets = whole own_block_at
+
+pub static_block_inside : StaticBlockInside
+static_block_inside = whole static_inside_at
+
+pub static_block_is_empty : StaticBlockIsEmpty
+static_block_is_empty = whole static_outside_at
+
+zero_is_a_number : is_nan 0f ≡ false
+unfolding is_nan of_bits
+zero_is_a_number = refl
+
+pub stretch_size_is_a_size : StretchSizeIsASize
+stretch_size_is_a_size a = (larger_bounds (span (block a) ⊖ or_zero a.margin.start ⊖ or_zero a.margin.end) 0f).1 zero_is_a_number
+
+pub stretch_size_is_stretch_fit : StretchSizeIsStretchFit
+stretch_size_is_stretch_fit = whole stretch_size_is_fit_at
+
+pub stretch_size_as_the_rust : StretchSizeAsTheRust
+stretch_size_as_the_rust = whole as_the_rust_at

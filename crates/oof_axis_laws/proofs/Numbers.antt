@@ -7,7 +7,7 @@ use mathlib.Core.List.{List, [], ◌∷◌}
 use mathlib.Core.Bool.{Bool, true, false, cond, not, ◌&&◌}
 use Prim.Native.Nat.{ℕ, ◌+◌, ◌<◌}
 use native.Mathlib.Omega.{arith}
-use borrow.Author.Tests.{ltb-true, ltb-false, leb-true, leb-false, le-leb}
+use borrow.Author.Tests.{ltb-true, ltb-false, leb-true, leb-false, le-leb, le-ltb}
 use lib.Ieee.{Float}
 use Rattle.style.specs.declared.alignment.AlignmentSafety.{AlignmentSafety}
 use Rattle.style.specs.declared.alignment.AlignmentSafety.TheVariants.{Default, Safe}
@@ -18,7 +18,7 @@ use Rattle.util_exact.specs.Integer.{N, zero_n, add_n, EqN}
 use Rattle.util_exact.specs.Value.{Total}
 use Rattle.util_exact.proofs.Integers.{Multiple, sub_n, max_n, min_n, lt_n, le_n, half_twice}
 use Rattle.util_exact.proofs.Exact.{Exact, sixteenths}
-use Rattle.mirror_axis.proofs.Model.{LineN, span_n, Shape, start_of, end_of, align_n, static_n, repaired_n, limit_n, limited_n, self_n}
+use Rattle.mirror_axis.proofs.Model.{LineN, ◌toN◌, span_n, Shape, start_of, end_of, align_n, static_n, repaired_n, limit_n, limited_n, self_n, static_place_n}
 use Rattle.oof_axis_laws.specs.Laws.{LeN, ◌=Σ◌, ◌≤Σ◌}
 
 -- ---- sums
@@ -155,8 +155,41 @@ pub static_keeps : (r : Bool) (k : AxisStaticEdge) (area : LineN) (ω v : N) →
     → Kept area v k (repaired_n (end_of r) (static_n k area ω)) r
 static_keeps r k area ω v e m p = search (rules, kept_if, static_inside)
 
+-- one as large as that block stands on it, where the block is larger than 0
+pub static_fills : (w k : AxisStaticEdge) (area : LineN) (ω v : N) → Middle area v → Multiple 2 (add_n area.start area.end)
+    → let l = repaired_n w (static_n k area ω) in EqN v (span_n l) → lt_n zero_n (span_n l) ≡ true → EqN (align_n area v k) l.start
+static_fills w k area ω v e m f p = search (rules, static_inside)
+
+-- one that fits that block is inside
+pub static_fits : (w k : AxisStaticEdge) (area : LineN) (ω v : N) → Middle area v → Multiple 2 (add_n area.start area.end)
+    → let l = repaired_n w (static_n k area ω) in LeN v (span_n l) → lt_n zero_n (span_n l) ≡ true → LeN l.start (align_n area v k) × LeN (add_n (align_n area v k) v) l.end
+static_fits w k area ω v e m f p = search (rules, static_inside)
+
+-- one that fits the block stands as told in the static area
+pub static_told : (s : AlignmentSafety) (σ : Shape) (area l : LineN) (v : N) → LeN v (span_n l) → static_place_n s σ area l v ≡ align_n area v σ.keyword
+static_told s σ area l v f = search (rules, le-ltb)
+
+-- the block of an edge that lies in the area lies in the area
+pub start_inside : (w : AxisStaticEdge) (x ω : N) → LeN zero_n x → LeN x ω → let l = repaired_n w (x toN ω) in LeN zero_n l.start × LeN l.end ω
+start_inside w x ω i j = search rules
+
+pub end_inside : (w : AxisStaticEdge) (x ω : N) → LeN zero_n x → LeN x ω → let l = repaired_n w (zero_n toN x) in LeN zero_n l.start × LeN l.end ω
+end_inside w x ω i j = search rules
+
 -- the block around a static center that lies in the area: even on both sides, in the area, up to one of its edges
 pub around : (w : AxisStaticEdge) (area : LineN) (ω : N) → Multiple 2 (add_n area.start area.end) → LeN zero_n (add_n area.start area.end) → LeN (add_n area.start area.end) (add_n ω ω)
     → let l = repaired_n w (static_n Center area ω) in
     EqN (add_n l.start l.end) (add_n area.start area.end) × LeN zero_n l.start × LeN l.end ω × (EqN l.start zero_n ⊎ EqN l.end ω)
 around w area ω m f g = search (rules, above, at_most, half_twice)
+
+-- the block of a position outside the area, which is larger than 0, is empty
+pub start_outside : (w : AxisStaticEdge) (x ω : N) → LeN ω x → let l = repaired_n w (x toN ω) in EqN l.start l.end
+start_outside w x ω i = search rules
+
+pub end_outside : (w : AxisStaticEdge) (x : N) → LeN x zero_n → let l = repaired_n w (zero_n toN x) in EqN l.start l.end
+end_outside w x i = search rules
+
+pub center_outside : (w : AxisStaticEdge) (area : LineN) (ω : N) → Multiple 2 (add_n area.start area.end) → lt_n zero_n ω ≡ true
+    → LeN (add_n area.start area.end) zero_n ⊎ LeN (add_n ω ω) (add_n area.start area.end)
+    → let l = repaired_n w (static_n Center area ω) in EqN l.start l.end
+center_outside w area ω m p f = search (rules, above, at_most, below, half_twice)

@@ -1,17 +1,17 @@
 -- What CSS says of one axis, as laws of exact sums: lengths, static area and box are whole quarter pixels, of any bounds that leave an f32
 -- its sixteenths (mirror_axis/specs/Law.antt: `Bounded`, `Room`), so that nothing is rounded. On other floats each holds up to rounding.
--- The laws that hold of all floats stand in oof_axis/specs/Laws.antt. As there, each speaks of what comes out and of no step.
--- `proofs/Laws.antt` proves each, under its name in small letters. Assumes nothing.
+-- The laws that hold of all floats stand in oof_axis/specs/Laws.antt, and one here: `StretchSizeIsASize`. As there, each speaks of what comes
+-- out and of no step. `proofs/Laws.antt` proves each, under its name in small letters. Assumes nothing.
 use Rattle.std.specs.Prelude.{◌≡◌, ◌⊎◌, List, [], ◌∷◌, true, false, not, ◌&&◌, ℕ, ◌+◌, ◌≤◌, Float, None, Some, is_some}
-use Rattle.std.specs.Float.Ieee.{lt, le}
-use Rattle.util.specs.Number.{0f}
+use Rattle.std.specs.Float.Ieee.{lt, le, is_nan}
+use Rattle.util.specs.Number.{◌⊖◌, 0f}
 use Rattle.util.specs.Order.{larger, smaller}
 use Rattle.util.specs.Maybe.{or_zero}
 use Rattle.geometry.specs.Geometry.{◌to◌, span}
 use Rattle.geometry.specs.declared.Line.{Line}
 use Rattle.style.specs.declared.alignment.AlignmentSafety.{AlignmentSafety}
 use Rattle.style.specs.declared.alignment.AlignmentSafety.TheVariants.{Unsafe, Safe}
-use Rattle.tree.specs.declared.layout.AxisStaticEdge.TheVariants.{Center}
+use Rattle.tree.specs.declared.layout.AxisStaticEdge.TheVariants.{Start, Center, End}
 use Rattle.oof_axis.specs.declared.OofAlignment.TheVariants as align
 use Rattle.oof_axis.specs.declared.OofAxis.{OofAxis}
 use Rattle.oof_axis.specs.Axis.{block, stretch_fit, placement}
@@ -111,11 +111,17 @@ StartKept a size = (a.reversed ≡ false → BeginsFrom a size (block a).start) 
 abbrev pub SafeKeepsStart : Type 0
 SafeKeepsStart = (a : OofAxis) (size : Float) → Whole a size → Aligned a → a.safety ≡ Safe → StartKept a size
 
--- from a static position too, where the margin box has a size. (One of size 0 overflows nothing: it stands at its static position, which may
--- lie outside the area.)
+-- from a static position too, where the margin box is larger than 0. (One of size 0 overflows nothing: it stands at its static position, which
+-- may lie outside the area.)
 abbrev pub StaticSafeKeepsStart : Type 0
 StaticSafeKeepsStart =
     (a : OofAxis) (size : Float) → Whole a size → NoInset a → a.place.align.safety ≡ Safe → lt 0f (margin_box a size) ≡ true → StartKept a size
+
+-- what fits the block of a static position stays in it, where the block is larger than 0
+abbrev pub StaticFitsInside : Type 0
+StaticFitsInside =
+    (a : OofAxis) (size : Float) → Whole a size → NoInset a → lt 0f (span (block a)) ≡ true → le (margin_box a size) (span (block a)) ≡ true
+    → BeginsFrom a size (block a).start × EndsBy a size (block a).end
 
 -- ---- default overflow (`Overflows`): the box is larger than the block, its safety isn't said, and its alignment isn't normal
 
@@ -191,7 +197,7 @@ pub record AroundStaticCenter (a : OofAxis) : Type 0 where
   pub in_end : (block a).end ∷ [] ≤Σ a.size ∷ []
   pub touches : ((block a).start ≐ 0f) ⊎ ((block a).end ≐ a.size)
 
--- where the center lies in the area. (`size` is any: it only bounds.)
+-- where the center lies in the area. `size` has no other role than to satisfy `Whole`.
 abbrev pub BlockAroundStaticCenter : Type 0
 BlockAroundStaticCenter =
     (a : OofAxis) (size : Float) → Whole a size → NoInset a → a.place.align.keyword ≡ Center
@@ -203,7 +209,7 @@ pub record StretchIs (a : OofAxis) : Type 0 where
   pub fills : lt 0f (stretch_fit a) ≡ true → (block a).start ∷ or_zero a.margin.start ∷ stretch_fit a ∷ or_zero a.margin.end ∷ [] =Σ (block a).end ∷ []
   pub none : lt 0f (stretch_fit a) ≡ false → (stretch_fit a ≐ 0f) × ((block a).end ∷ [] ≤Σ (block a).start ∷ or_zero a.margin.start ∷ or_zero a.margin.end ∷ [])
 
--- (`size` is any: it only bounds)
+-- `size` has no other role than to satisfy `Whole`.
 abbrev pub StretchFits : Type 0
 StretchFits = (a : OofAxis) (size : Float) → Whole a size → StretchIs a
 
@@ -211,3 +217,59 @@ StretchFits = (a : OofAxis) (size : Float) → Whole a size → StretchIs a
 abbrev pub StretchedBoxIsTheBlock : Type 0
 StretchedBoxIsTheBlock =
     (a : OofAxis) (size : Float) → Whole a size → Aligned a → size ≐ stretch_fit a → lt 0f size ≡ true → BeginsAt a size (block a).start × EndsAt a size (block a).end
+
+-- the same with any insets and margins, where the block's size is above 0: two insets, one or none, margins given or auto. (Without insets a
+-- block of size 0 needn't be where the box stands.)
+abbrev pub StretchedBoxIsTheBlockWithAnyInsets : Type 0
+StretchedBoxIsTheBlockWithAnyInsets =
+    (a : OofAxis) (size : Float) → Whole a size → size ≐ stretch_fit a → lt 0f size ≡ true → lt 0f (span (block a)) ≡ true
+    → BeginsAt a size (block a).start × EndsAt a size (block a).end
+
+-- the static position lies in the area: the edge that it has, or the middle of its static area
+pub record StaticPositionInside (a : OofAxis) : Type 0 where
+  pub start : a.place.align.keyword ≡ Start → (0f ∷ [] ≤Σ a.place.area.start ∷ []) × (a.place.area.start ∷ [] ≤Σ a.size ∷ [])
+  pub center : a.place.align.keyword ≡ Center → (0f ∷ [] ≤Σ a.place.area.start ∷ a.place.area.end ∷ []) × (a.place.area.start ∷ a.place.area.end ∷ [] ≤Σ a.size ∷ a.size ∷ [])
+  pub end : a.place.align.keyword ≡ End → (0f ∷ [] ≤Σ a.place.area.end ∷ []) × (a.place.area.end ∷ [] ≤Σ a.size ∷ [])
+
+-- then the block that a static position leads to lies in the area. `size` has no other role than to satisfy `Whole`.
+abbrev pub StaticBlockInside : Type 0
+StaticBlockInside =
+    (a : OofAxis) (size : Float) → Whole a size → NoInset a → StaticPositionInside a → (0f ∷ [] ≤Σ (block a).start ∷ []) × ((block a).end ∷ [] ≤Σ a.size ∷ [])
+
+-- a static position that leaves nothing of the area: a start edge at its end or beyond it, an end edge at 0 or before it, a middle at or beyond
+-- either
+pub record StaticPositionLeavesNothing (a : OofAxis) : Type 0 where
+  pub start : a.place.align.keyword ≡ Start → (a.size ∷ [] ≤Σ a.place.area.start ∷ [])
+  pub center : a.place.align.keyword ≡ Center → (a.place.area.start ∷ a.place.area.end ∷ [] ≤Σ 0f ∷ []) ⊎ (a.size ∷ a.size ∷ [] ≤Σ a.place.area.start ∷ a.place.area.end ∷ [])
+  pub end : a.place.align.keyword ≡ End → (a.place.area.end ∷ [] ≤Σ 0f ∷ [])
+
+-- then the block is empty, in an area larger than 0. (In one of size 0 or less a center at 30 has a block from 0 to 60.) `size` has no other role
+-- than to satisfy `Whole`.
+abbrev pub StaticBlockIsEmpty : Type 0
+StaticBlockIsEmpty =
+    (a : OofAxis) (size : Float) → Whole a size → NoInset a → lt 0f a.size ≡ true → StaticPositionLeavesNothing a → span (block a) ≐ 0f
+
+-- ---- the stretch size of a size keyword (request #106)
+
+-- the block less the margins that aren't auto, each taken off in turn; at least 0. This is the definition's own formula
+-- (oof_box/specs/Box.antt: `axis_stretch`), by which the laws of a box speak (oof_box_laws/specs/Keywords.antt).
+-- `StretchSizeIsStretchFit` and `StretchSizeAsTheRust` tie it to CSS's size and to the Rust's.
+abbrev pub stretch_size : OofAxis → Float
+stretch_size a = larger (span (block a) ⊖ or_zero a.margin.start ⊖ or_zero a.margin.end) 0f
+
+-- it is a number and at least 0, whatever the axis holds
+abbrev pub StretchSizeIsASize : Type 0
+StretchSizeIsASize = (a : OofAxis) → (is_nan (stretch_size a) ≡ false) × (le 0f (stretch_size a) ≡ true)
+
+-- it is the stretch-fit size, where nothing is rounded. `size` has no other role than to satisfy `Whole`.
+abbrev pub StretchSizeIsStretchFit : Type 0
+StretchSizeIsStretchFit = (a : OofAxis) (size : Float) → Whole a size → stretch_size a ≐ stretch_fit a
+
+-- the Rust's: the area less insets and margins, each taken off in turn, an absent one as 0; at least 0
+abbrev pub rust_stretch_size : OofAxis → Float
+rust_stretch_size a = larger (a.size ⊖ or_zero a.inset.start ⊖ or_zero a.inset.end ⊖ or_zero a.margin.start ⊖ or_zero a.margin.end) 0f
+
+-- where both insets are given and don't cross, the block is what they leave of the area, and the two are one number
+abbrev pub StretchSizeAsTheRust : Type 0
+StretchSizeAsTheRust =
+    (a : OofAxis) (size : Float) → Whole a size → TwoInsets a → lt (a.size ⊖ or_zero a.inset.end) (or_zero a.inset.start) ≡ false → stretch_size a ≐ rust_stretch_size a

@@ -26,13 +26,17 @@ pub always_any : {A : Type 0} (m : Talk A) → Always (λ (a : A). Unit {0}) m
 always_any (done a) = now tt
 always_any (ask q next) = later (λ r. always_any (next r))
 
+pub always_both : {A : Type 0} (P Q : A → Type 0) (m : Talk A) → Always P m → Always Q m → Always (λ (a : A). P a × Q a) m
+always_both P Q (done a) (now p) (now q) = now (p, q)
+always_both P Q (ask q next) (later f) (later g) = later (λ r. always_both P Q (next r) (f r) (g r))
+
 -- the same questions first
 pub alike_bind : {A : Type 0} (R : Placed → Placed → Type 0) (m : Talk A) (next next' : A → Talk Placed) → ((a : A) → Alike R (next a) (next' a)) → Alike R (m >>= next) (m >>= next')
 unfolding ◌>>=◌
 alike_bind R (done a) next next' f = f a
 alike_bind R (ask q reply) next next' f = asking (λ r. alike_bind R (reply r) next next' f)
 
-measured_always : (P : Size Float → Type 0) (node : ℕ) (box : ResolvedBox) (at : Stretched) → ((s : Size Float) → P (final_size box at s)) → Always P (measured node box at)
+pub measured_always : (P : Size Float → Type 0) (node : ℕ) (box : ResolvedBox) (at : Stretched) → ((s : Size Float) → P (final_size box at s)) → Always P (measured node box at)
 unfolding measured
 measured_always P node box at f = always_bind (λ (s : Size Float). Unit {0}) P _ _ (always_any _) (λ s u. now (f s))
 

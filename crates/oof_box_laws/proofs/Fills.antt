@@ -24,7 +24,6 @@ use Rattle.oof_axis.specs.declared.OofAlignment.{OofAlignment}
 use Rattle.oof_axis.specs.declared.OofAlignment.TheVariants as align
 use Rattle.oof_axis.specs.declared.OofAxis.{OofAxis}
 use Rattle.oof_resolve.specs.Resolved.{resolved_box}
-use Rattle.oof_box.specs.Talk.{Talk, done, ask}
 use Rattle.oof_box.specs.Box.{placed}
 use Rattle.util_exact.specs.Integer.{N, add_n}
 use Rattle.util_exact.specs.Value.{Quarters, Quarter}
@@ -39,14 +38,10 @@ use Rattle.mirror_axis.proofs.ExactPlace.{place_exact}
 use Rattle.mirror_axis.proofs.Law.{numbers, axis_exact}
 use Rattle.oof_axis_laws.specs.Laws.{Whole, ◌=Σ◌, BeginsAt, EndsAt}
 use Rattle.oof_axis_laws.proofs.Laws.{auto_margins_fill, stretched_box_is_the_block}
-use Rattle.oof_box_laws.specs.Laws.{Always, now, later, InQuarters, MarginBoxIs, StretchedBoxFillsItsBlock}
-use Rattle.oof_box_laws.proofs.Always.{always_map}
+use Rattle.oof_box_laws.specs.Laws.{InQuarters, MarginBoxIs, StretchedBoxFillsItsBlock}
+use Rattle.oof_box_laws.proofs.Always.{always_map, always_both}
 use Rattle.oof_box_laws.proofs.Sizes.{stretch_fills}
 use Rattle.oof_box_laws.proofs.Places.{stands_by_its_axes}
-
-always_both : {A : Type 0} (P Q : A → Type 0) (m : Talk A) → Always P m → Always Q m → Always (λ (a : A). P a × Q a) m
-always_both P Q (done a) (now p) (now q) = now (p, q)
-always_both P Q (ask q next) (later f) (later g) = later (λ r. always_both P Q (next r) (f r) (g r))
 
 -- ---- min and max that change nothing
 
@@ -77,14 +72,14 @@ module _ (x : Float) (positive : lt 0f x ≡ true) where
   unfolding smaller before
   below_max high e = search (rules, and_right, no_zero, number)
 
-  unchanged : (min max : Option Float) → ((low : Float) → min ≡ Some low → lt x low ≡ false) → ((high : Float) → max ≡ Some high → lt high x ≡ false) → clamped x min max ≡ x
+  pub unchanged : (min max : Option Float) → ((low : Float) → min ≡ Some low → lt x low ≡ false) → ((high : Float) → max ≡ Some high → lt high x ≡ false) → clamped x min max ≡ x
   unfolding clamped at_most at_least
   unchanged min max h k = search (rules, above_min, below_max)
 
 -- ---- exact numbers
 
 -- a multiple of four sixteenths is of whole quarters
-quarters_of : {x : Float} {a : N} (n : ℕ) → Exact 4 (4 * n) x a → Quarters n x
+pub quarters_of : {x : Float} {a : N} (n : ℕ) → Exact 4 (4 * n) x a → Quarters n x
 quarters_of {x} {a} n h = go x h.val
   where
     fourth : (M D z k : ℕ) → z ≡ 4 * k → M * 16 ≡ z * D → M * 4 ≡ k * D
@@ -103,13 +98,13 @@ quarters_of {x} {a} n h = go x h.val
         record { sign = true; k = k; value = (refl, fourth (m * up e) (down e) h.z k f v.0); small = omega (arith, f, h.small) }
 
 -- a number added to one of a sum is added to the sum
-moved : {b c : ℕ} {x y : Float} {a d : N} (xs ys : List Float) → Exact 1 b x a → Exact 1 c y d → b + c < 16777216 → x ∷ xs =Σ ys → (x ⊕ y) ∷ xs =Σ y ∷ ys
+pub moved : {b c : ℕ} {x y : Float} {a d : N} (xs ys : List Float) → Exact 1 b x a → Exact 1 c y d → b + c < 16777216 → x ∷ xs =Σ ys → (x ⊕ y) ∷ xs =Σ y ∷ ys
 moved {x = x} {a = a} {d = d} xs ys h k l (t, u, (p, c, s, rest, e), all, f) =
     (add_n (add_n a d) c, add_n d u, (add_n a d, c, sixteenths (add_exact h k l), rest, refl), (d, u, sixteenths k, all, refl), omega (arith, one_integer x p a s (sixteenths h), e, f))
 
 -- ---- the static area isn't read between two insets
 
-abbrev without_static : OofAxis → OofAxis
+abbrev pub without_static : OofAxis → OofAxis
 without_static a =
     record {
       size = a.size;
@@ -158,7 +153,7 @@ module _ (a : OofAxis) (i : TwoInsets a) where
   same_weaker None (Some y) = refl
   same_weaker None None = refl
 
-  same_block : block (without_static a) ≡ block a
+  pub same_block : block (without_static a) ≡ block a
   unfolding block
   same_block = rw (same_weaker a.inset.start a.inset.end, same_inset_block a.inset.start a.inset.end i.start i.end) refl
 

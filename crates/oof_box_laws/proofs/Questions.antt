@@ -1,9 +1,10 @@
 -- What the host is asked. Assumes nothing.
 use mathlib.Core.Path.{◌≡◌, refl, ap, ap₂, ◌∙◌}
+use mathlib.Core.Logic.{◌⊎◌, inl, inr}
 use mathlib.Core.Bool.{Bool, true, false, false≢true, cond}
 use Prim.Native.Nat.{ℕ}
 use lib.Ieee.{Float}
-use Rattle.std.specs.Prelude.{Option, Float, Some}
+use Rattle.std.specs.Prelude.{Option, Float, None, Some}
 use Rattle.std.specs.declared.option.Option.TheVariants as option
 use Rattle.util.specs.Order.{smaller}
 use Rattle.util.specs.Maybe.{clamped}
@@ -31,50 +32,67 @@ use Rattle.oof_box.specs.declared.question.LayoutInput.{LayoutInput}
 use Rattle.oof_box.specs.declared.question.Question.{Question}
 use Rattle.oof_box.specs.declared.question.Question.TheVariants.{MeasureBoth, MeasureWidth, MeasureHeight, LayOut}
 use Rattle.oof_box.specs.declared.sizing.Stretched.{Stretched}
-use Rattle.oof_box_laws.specs.Laws.{Always, now, later, Asks, ends, asks, Plain, space_of, AskedIn, LaidOutIn, SpaceIsTheBlock, WidthTold, HeightTold, GivenSizeIsTold, StretchedSizeIsTold, LaysOut, last, before, LayoutIsTheReply}
+use Rattle.oof_box_laws.specs.Laws.{Always, now, later, Asks, ends, asks, Plain, space_of, AskedIn, LaidOutIn, SpaceIsTheBlock, WidthTold, HeightTold, GivenSizeIsTold, WidthByKeyword, HeightByKeyword, StretchedSizeIsTold, LaysOut, last, before, LayoutIsTheReply}
 use Rattle.oof_box_laws.proofs.Always.{always_any}
-use Rattle.oof_box_laws.proofs.Resolved.{auto_is_no_size}
-use Rattle.oof_box_laws.proofs.Sizes.{told_width, told_height, stretched_width, stretched_height, width_known, height_known, given_width_settled, given_height_settled, no_keyword, known_is, plain_keywords, auto_width, auto_height, fit_across, fit_down, stretch_side}
+use Rattle.oof_box_laws.proofs.Sizes.{told_width, told_height, stretched_width, stretched_height, width_known, height_known, given_width_settled, given_height_settled, no_keyword, known_is, plain_keywords, auto_width, auto_height, fit_across, fit_down, stretch_side, asks_height_first, asks_width_first, leaves_width, leaves_height}
 
 asks_bind : {A B : Type 0} (P : Question → Type 0) (K : A → Type 0) (m : Talk A) (next : A → Talk B) → Asks P m → Always K m → ((a : A) → K a → Asks P (next a)) → Asks P (m >>= next)
 unfolding ◌>>=◌
 asks_bind P K (done a) next ends (now k) f = f a k
 asks_bind P K (ask q reply) next (asks p h) (later k) f = asks p (λ r. asks_bind P K (reply r) next (h r) (k r) f)
 
-measured_asks : (P : Question → Type 0) (node : ℕ) (box : ResolvedBox) (at : Stretched) → P (MeasureBoth (record { node = node; known = at.known; space = box.space })) → Asks P (measured node box at)
+-- step 6 asks where a side is still absent
+measured_asks : (P : Question → Type 0) (node : ℕ) (box : ResolvedBox) (at : Stretched) → (both_present at.known ≡ false → P (MeasureBoth (record { node = node; known = at.known; space = box.space }))) → Asks P (measured node box at)
 unfolding measured ◌>>=◌
-measured_asks P node box at p = go (both_present at.known)
+measured_asks P node box at p = go (both_present at.known) p
   where
-    go : (b : Bool) → Asks P (cond b (done zero_size) (ask (MeasureBoth (record { node = node; known = at.known; space = box.space })) done) >>= λ size. done (final_size box at size))
-    go true = ends
-    go false = asks p (λ r. ends)
+    go : (b : Bool) → (b ≡ false → P (MeasureBoth (record { node = node; known = at.known; space = box.space })))
+        → Asks P (cond b (done zero_size) (ask (MeasureBoth (record { node = node; known = at.known; space = box.space })) done) >>= λ size. done (final_size box at size))
+    go true p = ends
+    go false p = asks (p refl) (λ r. ends)
 
--- step 4, then the question of step 6, then lay out
-module _ (P : Question → Type 0) (K : Size (Option Float) → Type 0) (container : ContainingBlock) (style : Style) (candidate : OofCandidate) where
+module _ (P : Question → Type 0) (container : ContainingBlock) (style : Style) (candidate : OofCandidate) where
   abbrev box : ResolvedBox
   box = resolved_box container style candidate
 
-  abbrev talk : Talk (Size (Option Float))
-  talk = keyword_sizes candidate.node style box (size_keywords style box)
+  -- steps 5 to 7, from the size known after step 4
+  abbrev pub rest_of : Size (Option Float) → Talk Placed
+  rest_of known =
+      measured candidate.node box (stretched style box known)
+      >>= λ size. ask (LayOut (record { node = candidate.node; size = size; space = box.space })) done
+      >>= λ laid. done (record { outcome = box_layout container style candidate box size laid.overflow; surfaced = laid.surfaced })
 
-  asks_placed : Asks P talk → Always K talk
-      → ((known : Size (Option Float)) → K known → P (MeasureBoth (record { node = candidate.node; known = (stretched style box known).known; space = box.space })))
-      → ((known : Size (Option Float)) → K known → (s : Size Float) → P (LayOut (record { node = candidate.node; size = final_size box (stretched style box known) s; space = box.space })))
-      → Asks P (placed container style candidate)
-  unfolding placed ◌>>=◌ measured
-  asks_placed a k m l =
-      asks_bind P K talk _ a k
-      (λ known h. asks_bind P (λ (size : Size Float). (s : Size Float) × (size ≡ final_size box (stretched style box known) s)) (measured candidate.node box (stretched style box known)) _
-      (measured_asks P candidate.node box (stretched style box known) (m known h)) (finals known) (λ size f. asks (rw f.1 (l known h f.0)) (λ laid. ends)))
+  pub rest_asks : (known : Size (Option Float))
+      → (both_present (stretched style box known).known ≡ false → P (MeasureBoth (record { node = candidate.node; known = (stretched style box known).known; space = box.space })))
+      → ((s : Size Float) → P (LayOut (record { node = candidate.node; size = final_size box (stretched style box known) s; space = box.space }))) → Asks P (rest_of known)
+  unfolding ◌>>=◌ measured
+  rest_asks known m l =
+      asks_bind P (λ (size : Size Float). (s : Size Float) × (size ≡ final_size box (stretched style box known) s)) (measured candidate.node box (stretched style box known)) _
+      (measured_asks P candidate.node box (stretched style box known) m) (finals (both_present (stretched style box known).known)) (λ size f. asks (rw f.1 (l f.0)) (λ laid. ends))
     where
-      finals : (known : Size (Option Float)) → Always (λ (size : Size Float). (s : Size Float) × (size ≡ final_size box (stretched style box known) s)) (measured candidate.node box (stretched style box known))
-      finals known = go (both_present (stretched style box known).known)
-        where
-          go : (b : Bool)
-              → Always (λ (size : Size Float). (s : Size Float) × (size ≡ final_size box (stretched style box known) s))
-              (cond b (done zero_size) (ask (MeasureBoth (record { node = candidate.node; known = (stretched style box known).known; space = box.space })) done) >>= λ size. done (final_size box (stretched style box known) size))
-          go true = now (_, refl)
-          go false = later (λ r. now (r, refl))
+      finals : (b : Bool)
+          → Always (λ (size : Size Float). (s : Size Float) × (size ≡ final_size box (stretched style box known) s))
+          (cond b (done zero_size) (ask (MeasureBoth (record { node = candidate.node; known = (stretched style box known).known; space = box.space })) done) >>= λ size. done (final_size box (stretched style box known) size))
+      finals true = now (_, refl)
+      finals false = later (λ r. now (r, refl))
+
+  -- step 4, then the question of step 6, then lay out
+  module _ (K : Size (Option Float) → Type 0) where
+    abbrev talk : Talk (Size (Option Float))
+    talk = keyword_sizes candidate.node style box (size_keywords style box)
+
+    pub asks_unless_there : Asks P talk → Always K talk
+        → ((known : Size (Option Float)) → K known → both_present (stretched style box known).known ≡ false → P (MeasureBoth (record { node = candidate.node; known = (stretched style box known).known; space = box.space })))
+        → ((known : Size (Option Float)) → K known → (s : Size Float) → P (LayOut (record { node = candidate.node; size = final_size box (stretched style box known) s; space = box.space })))
+        → Asks P (placed container style candidate)
+    unfolding placed
+    asks_unless_there a k m l = asks_bind P K talk rest_of a k (λ known h. rest_asks known (m known h) (l known h))
+
+    pub asks_placed : Asks P talk → Always K talk
+        → ((known : Size (Option Float)) → K known → P (MeasureBoth (record { node = candidate.node; known = (stretched style box known).known; space = box.space })))
+        → ((known : Size (Option Float)) → K known → (s : Size Float) → P (LayOut (record { node = candidate.node; size = final_size box (stretched style box known) s; space = box.space })))
+        → Asks P (placed container style candidate)
+    asks_placed a k m l = asks_unless_there a k (λ known h n. m known h) l
 
 -- ---- a side that is told
 
@@ -97,11 +115,11 @@ unfolding size_keywords keywords_of
 given_size_is_told container style candidate x =
     let box = resolved_box container style candidate in (
       λ e. (let c = given_width_settled container style candidate x e in
-          asks_placed (WidthTold x) (λ (k : Size (Option Float)). k.width ≡ Some x) container style candidate
+          asks_placed (WidthTold x) container style candidate (λ (k : Size (Option Float)). k.width ≡ Some x)
           (rw (no_keyword box.size.width _ x e) (asks_with_width candidate.node style box x e _)) (width_known container style candidate x e)
           (λ known k. told_width style box known x c k) (λ known k s. stretched_width style box known x c k s)),
       λ e. (let c = given_height_settled container style candidate x e in
-          asks_placed (HeightTold x) (λ (k : Size (Option Float)). k.height ≡ Some x) container style candidate
+          asks_placed (HeightTold x) container style candidate (λ (k : Size (Option Float)). k.height ≡ Some x)
           (rw (no_keyword box.size.height _ x e) (asks_with_height candidate.node style box x e _)) (height_known container style candidate x e)
           (λ known k. told_height style box known x c k) (λ known k s. stretched_height style box known x c k s)),
     )
@@ -117,22 +135,26 @@ plain_asks : (P : Question → Type 0) (container : ContainingBlock) (style : St
 plain_asks P container style candidate k m l =
     let box = resolved_box container style candidate in
     let e = plain_keywords candidate.node style box k in
-    asks_placed P (λ (known : Size (Option Float)). known ≡ box.size) container style candidate (nothing_asked P _ box.size e) (known_is _ box.size e) (λ known f. rw f m) (λ known f s. rw f (l s))
+    asks_placed P container style candidate (λ (known : Size (Option Float)). known ≡ box.size) (nothing_asked P _ box.size e) (known_is _ box.size e) (λ known f. rw f m) (λ known f s. rw f (l s))
 
 pub stretched_size_is_told : StretchedSizeIsTold
 unfolding final_size clamped_floats filled_size
-stretched_size_is_told container style candidate k t =
+stretched_size_is_told container style candidate q t =
     let box = resolved_box container style candidate in
-    let z = (auto_is_no_size container style candidate).0 in
-    let at = stretched style box box.size in (
-      λ a s. (let h = auto_width style box true k.ratio t (z.width k.ratio a) s in
-          let f = ap (λ (x : Float). clamped x box.min.width box.max.width) (fit_across container style candidate) in
-          plain_asks (WidthTold (clamped (stretch_fit box.horizontal) box.min.width box.max.width)) container style candidate k (h.0 ∙ ap Some f)
-          (λ s. stretch_side at.known.width box.min.width _ box.max.width box.fit.width s.width h.0 (ap (λ (m : Size (Option Float)). m.width) h.1) ∙ f)),
-      λ a s. (let h = auto_height style box true k.ratio t (z.height k.ratio a) s in
-          let f = ap (λ (x : Float). clamped x box.min.height box.max.height) (fit_down container style candidate) in
-          plain_asks (HeightTold (clamped (stretch_fit box.vertical) box.min.height box.max.height)) container style candidate k (h.0 ∙ ap Some f)
-          (λ s. stretch_side at.known.height box.min.height _ box.max.height box.fit.height s.height h.0 (ap (λ (m : Size (Option Float)). m.height) h.1) ∙ f)),
+    let w = clamped (stretch_fit box.horizontal) box.min.width box.max.width in
+    let h = clamped (stretch_fit box.vertical) box.min.height box.max.height in (
+      λ a s. (let f = ap (λ (x : Float). clamped x box.min.width box.max.width) (fit_across container style candidate) in
+          asks_placed (λ q. WidthTold w q ⊎ HeightByKeyword style q) container style candidate (λ (k : Size (Option Float)). k.width ≡ None)
+          (asks_height_first container style candidate q (λ q. WidthTold w q ⊎ HeightByKeyword style q) a (λ m k n. inr (k, n))) (leaves_width container style candidate q a)
+          (λ known e. inl ((auto_width style box known true q t e s).0 ∙ ap Some f))
+          (λ known e y. (let g = auto_width style box known true q t e s in
+          inl (stretch_side (stretched style box known).known.width box.min.width _ box.max.width box.fit.width y.width g.0 (ap (λ (m : Size (Option Float)). m.width) g.1) ∙ f)))),
+      λ a s. (let f = ap (λ (x : Float). clamped x box.min.height box.max.height) (fit_down container style candidate) in
+          asks_placed (λ q. HeightTold h q ⊎ WidthByKeyword style q) container style candidate (λ (k : Size (Option Float)). k.height ≡ None)
+          (asks_width_first container style candidate q (λ q. HeightTold h q ⊎ WidthByKeyword style q) a (λ m k n. inr (k, n))) (leaves_height container style candidate q a)
+          (λ known e. inl ((auto_height style box known true q t e s).0 ∙ ap Some f))
+          (λ known e y. (let g = auto_height style box known true q t e s in
+          inl (stretch_side (stretched style box known).known.height box.min.height _ box.max.height box.fit.height y.height g.0 (ap (λ (m : Size (Option Float)). m.height) g.1) ∙ f)))),
     )
 
 -- ---- the space
@@ -142,7 +164,7 @@ unfolding smaller_size
 side_of true fit other = (refl, refl)
 side_of false fit other = (refl, refl)
 
-space_is : (container : ContainingBlock) (style : Style) (candidate : OofCandidate) → let box = resolved_box container style candidate in box.space ≡ space_of style box
+pub space_is : (container : ContainingBlock) (style : Style) (candidate : OofCandidate) → let box = resolved_box container style candidate in box.space ≡ space_of style box
 unfolding resolved_box horizontal vertical space_for less_margins of_width resolved_rect rect_or_zero sum_x sum_y definite_spaces clamped_spaces clamped_space
 space_is container style candidate =
     let box = resolved_box container style candidate in
@@ -168,7 +190,7 @@ unfolding size_keywords keywords_of
 space_is_the_block container style candidate =
     let box = resolved_box container style candidate in
     let e = space_is container style candidate in (
-      asks_placed (LaidOutIn (space_of style box)) (λ (k : Size (Option Float)). Unit {0}) container style candidate
+      asks_placed (LaidOutIn (space_of style box)) container style candidate (λ (k : Size (Option Float)). Unit {0})
           (laid_out_alone (space_of style box) _ (keywords_measure candidate.node style box _ _)) (always_any _) (λ known u. tt) (λ known u s. e),
       λ k. plain_asks (AskedIn (space_of style box)) container style candidate k e (λ s. e),
     )

@@ -1,4 +1,5 @@
 -- What a style comes to before the host is asked. Assumes nothing.
+use borrow.Author.Rules.{rules}
 use Rattle.std.specs.Prelude.{Float, None, Option, Some}
 use Rattle.std.specs.Option.{option_or}
 use mathlib.Core.Path.{◌≡◌, refl, sym, ap, ap₂, ◌∙◌}
@@ -32,7 +33,7 @@ use Rattle.oof_axis.specs.Axis.{from_resolved}
 use Rattle.oof_axis.specs.declared.OofAlignment.TheVariants as align
 use Rattle.oof_resolve.specs.Resolved.{of_width, of_each_axis, less_offset, horizontal, vertical, padding_or_border, style_size, min_size, resolved_box}
 use Rattle.oof_box.specs.Box.{◌by◌}
-use Rattle.oof_box_laws.specs.Resolved.{IsAuto, IsAutoSize, ScrollsBy, AxesOfTheBlock, AutoSidesAreNone, AlignedBy, AlignmentOfTheStyle, Comes, as_pixels, as_percent, as_sum, SumWithNothing, padding_border_of, left_out, SizesOfItsBox, AutoIsNoSize, RatioCompletes, PercentagesOfTheWidth, InsetsOfTheirAxis}
+use Rattle.oof_box_laws.specs.Resolved.{IsAuto, IsAutoSize, HasKeyword, NoLength, ScrollsBy, AxesOfTheBlock, AutoSidesAreNone, AlignedBy, AlignmentOfTheStyle, Comes, as_pixels, as_percent, as_sum, SumWithNothing, padding_border_of, left_out, SizesOfItsBox, AutoIsNoSize, RatioCompletes, PercentagesOfTheWidth, InsetsOfTheirAxis}
 
 -- ---- lengths, by tag
 
@@ -177,16 +178,25 @@ alignment_of_the_style container style candidate =
 -- ---- size, min and max
 
 -- the fields of sizes
-data Sizing : Field → Type 0 where
+pub data Sizing : Field → Type 0 where
   size : Sizing field.Size
   bound : Sizing field.MinOrMax
 
-auto_size : {f : Field} → Sizing f → (l : CompactLength) (basis : Float) → IsAutoSize l → maybe_resolved f l basis ≡ None
+pub auto_size : {f : Field} → Sizing f → (l : CompactLength) (basis : Float) → IsAutoSize l → maybe_resolved f l basis ≡ None
 unfolding maybe_resolved resolved by_tag
 auto_size size l basis (inl e) = rw e refl
 auto_size size l basis (inr e) = rw e refl
 auto_size bound l basis (inl e) = rw e refl
 auto_size bound l basis (inr e) = rw e refl
+
+-- a keyword has no value in a size, nor in a min or max
+pub keyword_size : {f : Field} → Sizing f → (l : CompactLength) (basis : Float) → HasKeyword l → maybe_resolved f l basis ≡ None
+unfolding maybe_resolved resolved by_tag
+keyword_size s l basis k = search rules
+
+pub no_length : {f : Field} → Sizing f → (l : CompactLength) (basis : Float) → NoLength l → maybe_resolved f l basis ≡ None
+no_length s l basis (inl a) = auto_size s l basis a
+no_length s l basis (inr k) = keyword_size s l basis k
 
 left_out_lem : (sizing : BoxSizing) (edges : Size Float) → cond (is_content_box sizing) edges zero_size ≡ left_out sizing edges
 left_out_lem BorderBox edges = refl
@@ -238,7 +248,7 @@ clamped_is : (m min max : Option Float) (x : Float) → m ≡ Some x → map_cla
 unfolding map_clamped
 clamped_is m min max x e = rw e refl
 
-none_clamped : (m min max : Option Float) → m ≡ None → map_clamped m min max ≡ None
+pub none_clamped : (m min max : Option Float) → m ≡ None → map_clamped m min max ≡ None
 unfolding map_clamped
 none_clamped m min max e = rw e refl
 
@@ -253,7 +263,7 @@ larger_itself x = go (larger_is_one x x)
     go (inl e) = e
     go (inr e) = e
 
-none_raised : (m : Option Float) (e : Float) → m ≡ None → map_larger (option_or m (Some e)) e ≡ Some e
+pub none_raised : (m : Option Float) (e : Float) → m ≡ None → map_larger (option_or m (Some e)) e ≡ Some e
 unfolding map_larger
 none_raised m e p = rw p (ap Some (larger_itself e))
 
@@ -273,32 +283,40 @@ module _ (style : Style) (area edges : Size Float) (f : Field) (lengths : Size C
   unfolding style_size added_size resolved_size
   given_height x c = added_is _ _ _ x (ratio_height style.ratio _ x (comes_to f lengths.height area.height x c)) (ap (λ (s : Size Float). s.height) (left_out_lem style.sizing edges))
 
+  -- a length that comes to nothing, without a ratio
+  pub none_width : style.ratio ≡ None → maybe_resolved f lengths.width area.width ≡ None → across ≡ None
+  unfolding style_size added_size resolved_size with_ratio
+  none_width e n = rw e (none_added _ _ n)
+
+  pub none_height : style.ratio ≡ None → maybe_resolved f lengths.height area.height ≡ None → down ≡ None
+  unfolding style_size added_size resolved_size with_ratio
+  none_height e n = rw e (none_added _ _ n)
+
+  pub none_both : maybe_resolved f lengths.width area.width ≡ None → maybe_resolved f lengths.height area.height ≡ None → (across ≡ None) × (down ≡ None)
+  unfolding style_size added_size resolved_size
+  none_both p q =
+      let e = no_side style.ratio _ p q in
+      (none_added _ _ (ap (λ (s : Size (Option Float)). s.width) e ∙ p), none_added _ _ (ap (λ (s : Size (Option Float)). s.height) e ∙ q))
+
   module _ (sizing : Sizing f) where
-    width_by_ratio : (r x : Float) → style.ratio ≡ Some r → IsAutoSize lengths.width → Comes area.height lengths.height x → across ≡ Some (x ⊗ r ⊕ (left_out style.sizing edges).width)
+    width_by_ratio : (r x : Float) → style.ratio ≡ Some r → NoLength lengths.width → Comes area.height lengths.height x → across ≡ Some (x ⊗ r ⊕ (left_out style.sizing edges).width)
     unfolding style_size added_size resolved_size
     width_by_ratio r x e a c =
-        added_is _ _ _ (x ⊗ r) (lone_height style.ratio _ r x e (auto_size sizing lengths.width area.width a) (comes_to f lengths.height area.height x c)) (ap (λ (s : Size Float). s.width) (left_out_lem style.sizing edges))
+        added_is _ _ _ (x ⊗ r) (lone_height style.ratio _ r x e (no_length sizing lengths.width area.width a) (comes_to f lengths.height area.height x c)) (ap (λ (s : Size Float). s.width) (left_out_lem style.sizing edges))
 
-    height_by_ratio : (r x : Float) → style.ratio ≡ Some r → IsAutoSize lengths.height → Comes area.width lengths.width x → down ≡ Some (x ⊘ r ⊕ (left_out style.sizing edges).height)
+    height_by_ratio : (r x : Float) → style.ratio ≡ Some r → NoLength lengths.height → Comes area.width lengths.width x → down ≡ Some (x ⊘ r ⊕ (left_out style.sizing edges).height)
     unfolding style_size added_size resolved_size
     height_by_ratio r x e a c =
-        added_is _ _ _ (x ⊘ r) (lone_width style.ratio _ r x e (comes_to f lengths.width area.width x c) (auto_size sizing lengths.height area.height a)) (ap (λ (s : Size Float). s.height) (left_out_lem style.sizing edges))
+        added_is _ _ _ (x ⊘ r) (lone_width style.ratio _ r x e (comes_to f lengths.width area.width x c) (no_length sizing lengths.height area.height a)) (ap (λ (s : Size Float). s.height) (left_out_lem style.sizing edges))
 
     auto_width_lem : style.ratio ≡ None → IsAutoSize lengths.width → across ≡ None
-    unfolding style_size added_size resolved_size with_ratio
-    auto_width_lem e a = rw e (none_added _ _ (auto_size sizing lengths.width area.width a))
+    auto_width_lem e a = none_width e (auto_size sizing lengths.width area.width a)
 
     auto_height_lem : style.ratio ≡ None → IsAutoSize lengths.height → down ≡ None
-    unfolding style_size added_size resolved_size with_ratio
-    auto_height_lem e a = rw e (none_added _ _ (auto_size sizing lengths.height area.height a))
+    auto_height_lem e a = none_height e (auto_size sizing lengths.height area.height a)
 
     auto_both : IsAutoSize lengths.width → IsAutoSize lengths.height → (across ≡ None) × (down ≡ None)
-    unfolding style_size added_size resolved_size
-    auto_both a b =
-        let p = auto_size sizing lengths.width area.width a in
-        let q = auto_size sizing lengths.height area.height b in
-        let e = no_side style.ratio _ p q in
-        (none_added _ _ (ap (λ (s : Size (Option Float)). s.width) e ∙ p), none_added _ _ (ap (λ (s : Size (Option Float)). s.height) e ∙ q))
+    auto_both a b = none_both (auto_size sizing lengths.width area.width a) (auto_size sizing lengths.height area.height b)
 
 pub sizes_of_its_box : SizesOfItsBox
 unfolding resolved_box clamped_size min_size raised_size first_size definite
@@ -328,7 +346,7 @@ ratio_completes container style candidate r x e =
       height = λ a c. clamped_is _ _ _ _ (height_by_ratio style area edges field.Size style.size size r x e a c);
     }
 
-two_sides : (w w' h h' : Option Float) → w ≡ w' → h ≡ h' → w by h ≡ w' by h'
+pub two_sides : (w w' h h' : Option Float) → w ≡ w' → h ≡ h' → w by h ≡ w' by h'
 two_sides w w' h h' e f = ap₂ ◌by◌ e f
 
 pub auto_is_no_size : AutoIsNoSize

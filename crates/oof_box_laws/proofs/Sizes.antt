@@ -12,7 +12,7 @@ use Rattle.util.specs.Order.{larger}
 use Rattle.util.specs.Maybe.{map_clamped, clamped}
 use Rattle.util.specs.Laws.{AtOrAbove, AtOrBelow}
 use Rattle.util.proofs.Laws.{onwards, larger_bounds, larger_is_one, min_wins, max_binds}
-use Rattle.geometry.specs.Geometry.{both_present, filled_size, clamped_size, clamped_floats, with_ratio}
+use Rattle.geometry.specs.Geometry.{absent_size, both_present, filled_size, clamped_size, clamped_floats, with_ratio}
 use Rattle.geometry.specs.declared.Size.{Size}
 use Rattle.style.specs.Resolve.{by_tag, resolved}
 use Rattle.style.specs.declared.Style.{Style}
@@ -28,11 +28,13 @@ use Rattle.oof_common.specs.declared.sizing_keyword.SizingKeywordResolution.{Siz
 use Rattle.oof_common.specs.declared.sizing_keyword.SizingKeywordResolution.TheVariants.{Exact, Measure}
 use Rattle.oof_place.specs.Placing.{layout_of, box_layout}
 use Rattle.oof_box.specs.Talk.{Talk, done, ask, ◌>>=◌}
-use Rattle.oof_box.specs.Box.{placed, width_as, height_as, in_turn, by_keywords, raised_min, stretched, final_size, measured, keyword_sizes, size_keywords, stretch_ratio, widened, heightened, settled, ◌by◌}
+use Rattle.oof_box.specs.Box.{Placed, placed, width_as, height_as, in_turn, by_keywords, raised_min, stretched, final_size, measured, keyword_sizes, keyword_stretch, size_keywords, stretch_ratio, widened, heightened, settled, ◌by◌}
 use Rattle.oof_box.specs.declared.question.MeasureInput.{MeasureInput}
-use Rattle.oof_box.specs.declared.question.Question.TheVariants.{MeasureBoth}
+use Rattle.oof_box.specs.declared.question.Question.{Question}
+use Rattle.oof_box.specs.declared.question.Question.TheVariants.{MeasureBoth, MeasureWidth, MeasureHeight}
 use Rattle.oof_box.specs.declared.sizing.Stretched.{Stretched}
-use Rattle.oof_box_laws.specs.Laws.{Always, now, later, SizeAlways, Measures, measures, MinHolds, MaxHolds, GivenSizeStays, NoSizeKeyword, Plain, stretchable, StretchFills, MeasuredIsTheReply, table_min, TableIsMeasured}
+use Rattle.oof_box_laws.specs.Resolved.{IsAutoSize, HasKeyword, AutoIs}
+use Rattle.oof_box_laws.specs.Laws.{Always, now, later, Asks, ends, asks, Measures, measures, after, MinHolds, MaxHolds, GivenSizeStays, NoSizeKeyword, Plain, stretchable, StretchFills, WidthByKeyword, HeightByKeyword, MeasuredIsTheReply, table_min, TableIsMeasured}
 use Rattle.oof_box_laws.proofs.Always.{always_map, always_any, size_from, size_always}
 use Rattle.oof_box_laws.proofs.Resolved.{ratio_width, ratio_height, auto_is_no_size}
 use Rattle.oof_box_laws.proofs.Clamp.{clamp_is_settled}
@@ -320,25 +322,25 @@ no_table : (t : Bool) (a b : Stretched) → t ≡ false → cond t a b ≡ b
 no_table t a b e = rw e refl
 
 -- after step 5 of a box that is no table
-module _ (style : Style) (box : ResolvedBox) (b : Bool) (ratio : style.ratio ≡ None) (table : style.table ≡ false) where
-  pub auto_width : box.size.width ≡ None → stretches box.horizontal (stretchable style) ≡ b
-      → ((stretched style box box.size).known.width ≡ fit_if b box.fit.width box.min.width box.max.width) × ((stretched style box box.size).min ≡ box.min)
+module _ (style : Style) (box : ResolvedBox) (known : Size (Option Float)) (b : Bool) (ratio : style.ratio ≡ None) (table : style.table ≡ false) where
+  pub auto_width : known.width ≡ None → stretches box.horizontal (stretchable style) ≡ b
+      → ((stretched style box known).known.width ≡ fit_if b box.fit.width box.min.width box.max.width) × ((stretched style box known).min ≡ box.min)
   unfolding stretched
   auto_width e s =
       rw (no_table style.table _ _ table)
-      (tall_auto _ box _ b (widened _ box _ box.size) (no_ratio style box _ _ ratio) (wide_auto _ box _ b box.size (no_ratio style box _ _ ratio) (absent_and box.size.width _ b e s) e), refl)
+      (tall_auto _ box _ b (widened _ box _ known) (no_ratio style box _ _ ratio) (wide_auto _ box _ b known (no_ratio style box _ _ ratio) (absent_and known.width _ b e s) e), refl)
 
-  pub auto_height : box.size.height ≡ None → stretches box.vertical (stretchable style) ≡ b
-      → ((stretched style box box.size).known.height ≡ fit_if b box.fit.height box.min.height box.max.height) × ((stretched style box box.size).min ≡ box.min)
+  pub auto_height : known.height ≡ None → stretches box.vertical (stretchable style) ≡ b
+      → ((stretched style box known).known.height ≡ fit_if b box.fit.height box.min.height box.max.height) × ((stretched style box known).min ≡ box.min)
   unfolding stretched
   auto_height e s =
       rw (no_table style.table _ _ table)
-      (tall_fills _ box _ b (widened _ box _ box.size) (no_ratio style box _ _ ratio) (absent_and box.size.height _ b e s) (wide_leaves _ box _ box.size (no_ratio style box _ _ ratio) e), refl)
+      (tall_fills _ box _ b (widened _ box _ known) (no_ratio style box _ _ ratio) (absent_and known.height _ b e s) (wide_leaves _ box _ known (no_ratio style box _ _ ratio) e), refl)
 
 pub known_is : {A : Type 0} (m : Talk A) (a : A) → m ≡ done a → Always (λ (k : A). k ≡ a) m
 known_is m a e = rw e (now refl)
 
-no_size_keyword : (l : CompactLength) (stretch basis : Float) → NoSizeKeyword l → keyword_of l stretch basis ≡ option.None
+pub no_size_keyword : (l : CompactLength) (stretch basis : Float) → NoSizeKeyword l → keyword_of l stretch basis ≡ option.None
 unfolding keyword_of of_resolved resolved by_tag
 no_size_keyword l stretch basis (inl e) = rw e refl
 no_size_keyword l stretch basis (inr (inl e)) = rw e refl
@@ -346,7 +348,7 @@ no_size_keyword l stretch basis (inr (inr (inl e))) = rw e refl
 no_size_keyword l stretch basis (inr (inr (inr (inl e)))) = rw e refl
 no_size_keyword l stretch basis (inr (inr (inr (inr e)))) = rw e refl
 
-none_if_absent : (m : Option Float) (k : Option SizingKeywordResolution) → k ≡ option.None → if_absent m k ≡ option.None
+pub none_if_absent : (m : Option Float) (k : Option SizingKeywordResolution) → k ≡ option.None → if_absent m k ≡ option.None
 unfolding if_absent
 none_if_absent None k e = e
 none_if_absent (Some x) k e = refl
@@ -357,31 +359,51 @@ plain_keywords node style box k =
     no_keywords node style box (size_keywords style box) (none_if_absent box.size.width _ (no_size_keyword style.size.width _ _ k.width))
     (none_if_absent box.size.height _ (no_size_keyword style.size.height _ _ k.height))
 
--- the final size by the size that step 2 left
-from_step_two : (P : Size Float → Type 0) (container : ContainingBlock) (style : Style) (candidate : OofCandidate)
-    → let box = resolved_box container style candidate in
-    Plain style → ((s : Size Float) → P (final_size box (stretched style box box.size) s)) → SizeAlways P container style candidate
-from_step_two P container style candidate k f =
-    let box = resolved_box container style candidate in
-    size_from (λ (known : Size (Option Float)). known ≡ box.size) P container style candidate
-    (known_is (keyword_sizes candidate.node style box (size_keywords style box)) box.size (plain_keywords candidate.node style box k))
-    (λ known e s. rw e (f s))
-
 pub stretch_side : (m min min' max : Option Float) (fit y : Float) → m ≡ fit_if true fit min max → min' ≡ min → clamped (unwrap_or m y) min' max ≡ clamped fit min max
 stretch_side m min min' max fit y e f = rw (e, f) (clamp_is_settled fit min max)
+
+-- step 4 leaves an auto side absent, whatever the other side's keyword
+module _ (node : ℕ) (style : Style) (box : ResolvedBox) (ratio : style.ratio ≡ None) where
+  width_left : (h : Option Float) → box.size.width ≡ None → (settled style.ratio box (box.size.width by h)).width ≡ None
+  unfolding settled clamped_size with_ratio map_clamped
+  width_left h e = rw (ratio, e) refl
+
+  height_left : (w : Option Float) → box.size.height ≡ None → (settled style.ratio box (w by box.size.height)).height ≡ None
+  unfolding settled clamped_size with_ratio map_clamped
+  height_left w e = rw (ratio, e) refl
+
+  width_absent : (tall : Option SizingKeywordResolution) → box.size.width ≡ None → Always (λ (k : Size (Option Float)). k.width ≡ None) (keyword_sizes node style box (record { width = option.None; height = tall }))
+  unfolding keyword_sizes by_keywords in_turn width_as height_as ◌>>=◌
+  width_absent tall e = search (rules, width_left, now, later)
+
+  height_absent : (wide : Option SizingKeywordResolution) → box.size.height ≡ None → Always (λ (k : Size (Option Float)). k.height ≡ None) (keyword_sizes node style box (record { width = wide; height = option.None }))
+  unfolding keyword_sizes by_keywords in_turn width_as height_as ◌>>=◌
+  height_absent wide e = search (rules, height_left, now, later)
+
+pub auto_wide : (style : Style) (box : ResolvedBox) → NoSizeKeyword style.size.width → size_keywords style box ≡ record { width = option.None; height = (size_keywords style box).height }
+unfolding size_keywords keywords_of
+auto_wide style box n =
+    rw (none_if_absent box.size.width (keyword_of style.size.width (keyword_stretch box).width box.horizontal.size) (no_size_keyword style.size.width _ _ n)) refl
+
+pub auto_tall : (style : Style) (box : ResolvedBox) → NoSizeKeyword style.size.height → size_keywords style box ≡ record { width = (size_keywords style box).width; height = option.None }
+unfolding size_keywords keywords_of
+auto_tall style box n =
+    rw (none_if_absent box.size.height (keyword_of style.size.height (keyword_stretch box).height box.vertical.size) (no_size_keyword style.size.height _ _ n)) refl
 
 pub stretch_fills : StretchFills
 unfolding final_size clamped_floats filled_size
 stretch_fills container style candidate k t =
     let z = (auto_is_no_size container style candidate).0 in
     let box = resolved_box container style candidate in (
-      λ e s. (let h = auto_width style box true k.ratio t (z.width k.ratio e) s in
-          from_step_two (λ z. z.width ≡ clamped (stretch_fit box.horizontal) box.min.width box.max.width) container style candidate k
-          (λ s. stretch_side (stretched style box box.size).known.width box.min.width _ box.max.width box.fit.width s.width h.0 (ap (λ (m : Size (Option Float)). m.width) h.1)
+      λ e s. size_from (λ (known : Size (Option Float)). known.width ≡ None) (λ z. z.width ≡ clamped (stretch_fit box.horizontal) box.min.width box.max.width) container style candidate
+          (rw (auto_wide style box (inr (inr (inr e)))) (width_absent candidate.node style box k (size_keywords style box).height (z.width k e)))
+          (λ known a y. (let h = auto_width style box known true k t a s in
+          stretch_side (stretched style box known).known.width box.min.width _ box.max.width box.fit.width y.width h.0 (ap (λ (m : Size (Option Float)). m.width) h.1)
           ∙ ap (λ (x : Float). clamped x box.min.width box.max.width) (fit_across container style candidate))),
-      λ e s. (let h = auto_height style box true k.ratio t (z.height k.ratio e) s in
-          from_step_two (λ z. z.height ≡ clamped (stretch_fit box.vertical) box.min.height box.max.height) container style candidate k
-          (λ s. stretch_side (stretched style box box.size).known.height box.min.height _ box.max.height box.fit.height s.height h.0 (ap (λ (m : Size (Option Float)). m.height) h.1)
+      λ e s. size_from (λ (known : Size (Option Float)). known.height ≡ None) (λ z. z.height ≡ clamped (stretch_fit box.vertical) box.min.height box.max.height) container style candidate
+          (rw (auto_tall style box (inr (inr (inr e)))) (height_absent candidate.node style box k (size_keywords style box).width (z.height k e)))
+          (λ known a y. (let h = auto_height style box known true k t a s in
+          stretch_side (stretched style box known).known.height box.min.height _ box.max.height box.fit.height y.height h.0 (ap (λ (m : Size (Option Float)). m.height) h.1)
           ∙ ap (λ (x : Float). clamped x box.min.height box.max.height) (fit_down container style candidate))),
     )
 
@@ -395,38 +417,98 @@ not_both_height : (a : Size (Option Float)) → a.height ≡ None → both_prese
 unfolding both_present
 not_both_height a e = and_right (is_some a.width) (is_some a.height) (ap is_some e)
 
-asks : (node : ℕ) (box : ResolvedBox) (at : Stretched) → both_present at.known ≡ false
+asks_absent : (node : ℕ) (box : ResolvedBox) (at : Stretched) → both_present at.known ≡ false
     → measured node box at ≡ ask (MeasureBoth (record { node = node; known = at.known; space = box.space })) (λ r. done (final_size box at r))
 unfolding measured ◌>>=◌
-asks node box at e = rw e refl
+asks_absent node box at e = rw e refl
+
+-- step 4 may ask for the other side first, by its keyword
+keyword_there : (m : Option Float) (l : CompactLength) (stretch basis : Float) (k : SizingKeywordResolution) → if_absent m (keyword_of l stretch basis) ≡ option.Some k → HasKeyword l
+unfolding if_absent keyword_of of_resolved resolved by_tag
+keyword_there m l stretch basis k e = search rules
+
+pub wide_keyword : (style : Style) (box : ResolvedBox) (k : SizingKeywordResolution) → (size_keywords style box).width ≡ option.Some k → HasKeyword style.size.width
+unfolding size_keywords keywords_of
+wide_keyword style box k e = keyword_there box.size.width style.size.width _ _ k e
+
+pub tall_keyword : (style : Style) (box : ResolvedBox) (k : SizingKeywordResolution) → (size_keywords style box).height ≡ option.Some k → HasKeyword style.size.height
+unfolding size_keywords keywords_of
+tall_keyword style box k e = keyword_there box.size.height style.size.height _ _ k e
+
+module _ (node : ℕ) (style : Style) (box : ResolvedBox) where
+  pub height_first : (P : Question → Type 0) (tall : Option SizingKeywordResolution) → box.size.width ≡ None → ((k : SizingKeywordResolution) → tall ≡ option.Some k → HasKeyword style.size.height)
+      → ((m : MeasureInput) → HasKeyword style.size.height → m.known.width ≡ None → P (MeasureHeight m)) → Asks P (keyword_sizes node style box (record { width = option.None; height = tall }))
+  unfolding keyword_sizes by_keywords in_turn width_as height_as ◌>>=◌
+  height_first P option.None e f g = ends
+  height_first P (option.Some (Exact y)) e f g = ends
+  height_first P (option.Some (Measure space)) e f g = asks (g _ (f _ refl) e) (λ r. ends)
+
+  pub width_first : (P : Question → Type 0) (wide : Option SizingKeywordResolution) → box.size.height ≡ None → ((k : SizingKeywordResolution) → wide ≡ option.Some k → HasKeyword style.size.width)
+      → ((m : MeasureInput) → HasKeyword style.size.width → m.known.height ≡ None → P (MeasureWidth m)) → Asks P (keyword_sizes node style box (record { width = wide; height = option.None }))
+  unfolding keyword_sizes by_keywords in_turn width_as height_as ◌>>=◌
+  width_first P option.None e f g = ends
+  width_first P (option.Some (Exact x)) e f g = ends
+  width_first P (option.Some (Measure space)) e f g = asks (g _ (f _ refl) e) (λ r. ends)
+
+-- of an auto side: what step 4 asks, and that it leaves the side absent
+module _ (container : ContainingBlock) (style : Style) (candidate : OofCandidate) (ratio : style.ratio ≡ None) where
+  abbrev own : ResolvedBox
+  own = resolved_box container style candidate
+
+  abbrev step_four : Talk (Size (Option Float))
+  step_four = keyword_sizes candidate.node style own (size_keywords style own)
+
+  abbrev auto_none : AutoIs absent_size style.ratio style.size own.size
+  auto_none = (auto_is_no_size container style candidate).0
+
+  pub asks_height_first : (P : Question → Type 0) → IsAutoSize style.size.width → ((m : MeasureInput) → HasKeyword style.size.height → m.known.width ≡ None → P (MeasureHeight m)) → Asks P step_four
+  asks_height_first P a g = rw (auto_wide style own (inr (inr (inr a)))) (height_first candidate.node style own P _ (auto_none.width ratio a) (tall_keyword style own) g)
+
+  pub asks_width_first : (P : Question → Type 0) → IsAutoSize style.size.height → ((m : MeasureInput) → HasKeyword style.size.width → m.known.height ≡ None → P (MeasureWidth m)) → Asks P step_four
+  asks_width_first P a g = rw (auto_tall style own (inr (inr (inr a)))) (width_first candidate.node style own P _ (auto_none.height ratio a) (wide_keyword style own) g)
+
+  pub leaves_width : IsAutoSize style.size.width → Always (λ (k : Size (Option Float)). k.width ≡ None) step_four
+  leaves_width a = rw (auto_wide style own (inr (inr (inr a)))) (width_absent candidate.node style own ratio (size_keywords style own).height (auto_none.width ratio a))
+
+  pub leaves_height : IsAutoSize style.size.height → Always (λ (k : Size (Option Float)). k.height ≡ None) step_four
+  leaves_height a = rw (auto_tall style own (inr (inr (inr a)))) (height_absent candidate.node style own ratio (size_keywords style own).width (auto_none.height ratio a))
+
+measures_bind : {A : Type 0} (B : Question → Type 0) (P : MeasureInput → Size Float → Placed → Type 0) (K : A → Type 0) (m : Talk A) (next : A → Talk Placed) → Asks B m → Always K m
+    → ((a : A) → K a → Measures B P (next a)) → Measures B P (m >>= next)
+unfolding ◌>>=◌
+measures_bind B P K (done a) next ends (now k) f = f a k
+measures_bind B P K (ask q reply) next (asks b h) (later k) f = after b (λ r. measures_bind B P K (reply r) next (h r) (k r) f)
 
 -- the question, its reply and the outcome
-asks_both : (P : MeasureInput → Size Float → Size Float → Type 0) (container : ContainingBlock) (style : Style) (candidate : OofCandidate)
-    → let box = resolved_box container style candidate in let at = stretched style box box.size in
-    Plain style → both_present at.known ≡ false
-    → ((r : Size Float) → P (record { node = candidate.node; known = at.known; space = box.space }) r (final_size box at r))
-    → Measures (λ m r p. P m r p.outcome.layout.size) (placed container style candidate)
+asks_both : (B : Question → Type 0) (P : MeasureInput → Size Float → Size Float → Type 0) (K : Size (Option Float) → Type 0) (container : ContainingBlock) (style : Style) (candidate : OofCandidate)
+    → let box = resolved_box container style candidate in let talk = keyword_sizes candidate.node style box (size_keywords style box) in
+    Asks B talk → Always K talk → ((known : Size (Option Float)) → K known → both_present (stretched style box known).known ≡ false)
+    → ((known : Size (Option Float)) → K known → (r : Size Float)
+    → P (record { node = candidate.node; known = (stretched style box known).known; space = box.space }) r (final_size box (stretched style box known) r))
+    → Measures B (λ m r p. P m r p.outcome.layout.size) (placed container style candidate)
 unfolding placed box_layout layout_of ◌>>=◌
-asks_both P container style candidate k n f =
+asks_both B P K container style candidate a k n f =
     let box = resolved_box container style candidate in
-    rw (plain_keywords candidate.node style box k, asks candidate.node box (stretched style box box.size) n)
-    (measures (λ r. later (λ laid. now (f r))))
+    measures_bind B (λ m r p. P m r p.outcome.layout.size) K (keyword_sizes candidate.node style box (size_keywords style box)) _ a k
+    (λ known h. rw (asks_absent candidate.node box (stretched style box known) (n known h)) (measures (λ r. later (λ laid. now (f known h r))) (λ r. asks tt (λ laid. ends))))
 
 absent_side : (m min min' max : Option Float) (y : Float) → m ≡ None → min' ≡ min → clamped (unwrap_or m y) min' max ≡ clamped y min max
 absent_side m min min' max y e f = rw (e, f) refl
 
 pub measured_is_the_reply : MeasuredIsTheReply
 unfolding final_size clamped_floats filled_size
-measured_is_the_reply container style candidate k t =
-    let z = (auto_is_no_size container style candidate).0 in
-    let box = resolved_box container style candidate in
-    let at = stretched style box box.size in (
-      λ e s. (let h = auto_width style box false k.ratio t (z.width k.ratio e) s in
-          asks_both (λ m r z. (m.known.width ≡ None) × (z.width ≡ clamped r.width box.min.width box.max.width)) container style candidate k (not_both_width at.known h.0)
-          (λ r. (h.0, absent_side at.known.width box.min.width _ box.max.width r.width h.0 (ap (λ (m : Size (Option Float)). m.width) h.1)))),
-      λ e s. (let h = auto_height style box false k.ratio t (z.height k.ratio e) s in
-          asks_both (λ m r z. (m.known.height ≡ None) × (z.height ≡ clamped r.height box.min.height box.max.height)) container style candidate k (not_both_height at.known h.0)
-          (λ r. (h.0, absent_side at.known.height box.min.height _ box.max.height r.height h.0 (ap (λ (m : Size (Option Float)). m.height) h.1)))),
+measured_is_the_reply container style candidate q t =
+    let box = resolved_box container style candidate in (
+      λ e s. (let h : (known : Size (Option Float)) → known.width ≡ None → ((stretched style box known).known.width ≡ None) × ((stretched style box known).min ≡ box.min) = λ known a. auto_width style box known false q t a s in
+          asks_both (HeightByKeyword style) (λ m r z. (m.known.width ≡ None) × (z.width ≡ clamped r.width box.min.width box.max.width)) (λ (k : Size (Option Float)). k.width ≡ None) container style candidate
+          (asks_height_first container style candidate q (HeightByKeyword style) e (λ m k n. (k, n))) (leaves_width container style candidate q e)
+          (λ known a. not_both_width (stretched style box known).known (h known a).0)
+          (λ known a r. ((h known a).0, absent_side (stretched style box known).known.width box.min.width _ box.max.width r.width (h known a).0 (ap (λ (m : Size (Option Float)). m.width) (h known a).1)))),
+      λ e s. (let h : (known : Size (Option Float)) → known.height ≡ None → ((stretched style box known).known.height ≡ None) × ((stretched style box known).min ≡ box.min) = λ known a. auto_height style box known false q t a s in
+          asks_both (WidthByKeyword style) (λ m r z. (m.known.height ≡ None) × (z.height ≡ clamped r.height box.min.height box.max.height)) (λ (k : Size (Option Float)). k.height ≡ None) container style candidate
+          (asks_width_first container style candidate q (WidthByKeyword style) e (λ m k n. (k, n))) (leaves_height container style candidate q e)
+          (λ known a. not_both_height (stretched style box known).known (h known a).0)
+          (λ known a r. ((h known a).0, absent_side (stretched style box known).known.height box.min.height _ box.max.height r.height (h known a).0 (ap (λ (m : Size (Option Float)). m.height) (h known a).1)))),
     )
 
 -- ---- a table
@@ -442,37 +524,39 @@ raised false min low fit e = e
 raised_absent : (m : Option Float) (s b : Bool) (min : Option Float) (low fit : Float) → m ≡ None → s ≡ b → min ≡ Some low → raised_min (not (is_some m) && s) min fit ≡ Some (table_min b low fit)
 raised_absent m s b min low fit e f g = ap (λ (c : Bool). raised_min c min fit) (absent_and m s b e f) ∙ raised b min low fit g
 
-module _ (style : Style) (box : ResolvedBox) (table : style.table ≡ true) where
-  table_known : (stretched style box box.size).known ≡ box.size
+module _ (style : Style) (box : ResolvedBox) (known : Size (Option Float)) (table : style.table ≡ true) where
+  table_known : (stretched style box known).known ≡ known
   unfolding stretched
   table_known = rw (is_table_lem style.table _ _ table) refl
 
-  table_width : (low : Float) → box.size.width ≡ None → box.min.width ≡ Some low → (stretched style box box.size).min.width ≡ Some (table_min (stretches box.horizontal false) low box.fit.width)
+  table_width : (low : Float) → known.width ≡ None → box.min.width ≡ Some low → (stretched style box known).min.width ≡ Some (table_min (stretches box.horizontal false) low box.fit.width)
   unfolding stretched
-  table_width low e m = rw (is_table_lem style.table _ _ table) (raised_absent box.size.width _ _ box.min.width low box.fit.width e (ap (λ (p : Bool). stretches box.horizontal p) (not_stretchable style table)) m)
+  table_width low e m = rw (is_table_lem style.table _ _ table) (raised_absent known.width _ _ box.min.width low box.fit.width e (ap (λ (p : Bool). stretches box.horizontal p) (not_stretchable style table)) m)
 
-  table_height : (low : Float) → box.size.height ≡ None → box.min.height ≡ Some low → (stretched style box box.size).min.height ≡ Some (table_min (stretches box.vertical false) low box.fit.height)
+  table_height : (low : Float) → known.height ≡ None → box.min.height ≡ Some low → (stretched style box known).min.height ≡ Some (table_min (stretches box.vertical false) low box.fit.height)
   unfolding stretched
-  table_height low e m = rw (is_table_lem style.table _ _ table) (raised_absent box.size.height _ _ box.min.height low box.fit.height e (ap (λ (p : Bool). stretches box.vertical p) (not_stretchable style table)) m)
+  table_height low e m = rw (is_table_lem style.table _ _ table) (raised_absent known.height _ _ box.min.height low box.fit.height e (ap (λ (p : Bool). stretches box.vertical p) (not_stretchable style table)) m)
 
 pub table_is_measured : TableIsMeasured
 unfolding final_size clamped_floats filled_size
-table_is_measured container style candidate low k t =
-    let z = (auto_is_no_size container style candidate).0 in
-    let box = resolved_box container style candidate in
-    let at = stretched style box box.size in (
-      λ e m. (let h = ap (λ (s : Size (Option Float)). s.width) (table_known style box t) ∙ z.width k.ratio e in
-          asks_both (λ m r z. (m.known.width ≡ None) × (z.width ≡ clamped r.width (Some (table_min (stretches box.horizontal false) low (stretch_fit box.horizontal))) box.max.width)) container style candidate k (not_both_width at.known h)
-          (λ r. (
-            h,
-            absent_side at.known.width _ _ box.max.width r.width h
-                (table_width style box t low (z.width k.ratio e) m ∙ ap (λ (x : Float). Some (table_min (stretches box.horizontal false) low x)) (fit_across container style candidate)),
+table_is_measured container style candidate low q t =
+    let box = resolved_box container style candidate in (
+      λ e m. (let h : (known : Size (Option Float)) → known.width ≡ None → (stretched style box known).known.width ≡ None = λ known a. ap (λ (s : Size (Option Float)). s.width) (table_known style box known t) ∙ a in
+          asks_both (HeightByKeyword style) (λ m r z. (m.known.width ≡ None) × (z.width ≡ clamped r.width (Some (table_min (stretches box.horizontal false) low (stretch_fit box.horizontal))) box.max.width)) (λ (k : Size (Option Float)). k.width ≡ None) container style candidate
+          (asks_height_first container style candidate q (HeightByKeyword style) e (λ m k n. (k, n))) (leaves_width container style candidate q e)
+          (λ known a. not_both_width (stretched style box known).known (h known a))
+          (λ known a r. (
+            h known a,
+            absent_side (stretched style box known).known.width _ _ box.max.width r.width (h known a)
+                (table_width style box known t low a m ∙ ap (λ (x : Float). Some (table_min (stretches box.horizontal false) low x)) (fit_across container style candidate)),
           ))),
-      λ e m. (let h = ap (λ (s : Size (Option Float)). s.height) (table_known style box t) ∙ z.height k.ratio e in
-          asks_both (λ m r z. (m.known.height ≡ None) × (z.height ≡ clamped r.height (Some (table_min (stretches box.vertical false) low (stretch_fit box.vertical))) box.max.height)) container style candidate k (not_both_height at.known h)
-          (λ r. (
-            h,
-            absent_side at.known.height _ _ box.max.height r.height h
-                (table_height style box t low (z.height k.ratio e) m ∙ ap (λ (x : Float). Some (table_min (stretches box.vertical false) low x)) (fit_down container style candidate)),
+      λ e m. (let h : (known : Size (Option Float)) → known.height ≡ None → (stretched style box known).known.height ≡ None = λ known a. ap (λ (s : Size (Option Float)). s.height) (table_known style box known t) ∙ a in
+          asks_both (WidthByKeyword style) (λ m r z. (m.known.height ≡ None) × (z.height ≡ clamped r.height (Some (table_min (stretches box.vertical false) low (stretch_fit box.vertical))) box.max.height)) (λ (k : Size (Option Float)). k.height ≡ None) container style candidate
+          (asks_width_first container style candidate q (WidthByKeyword style) e (λ m k n. (k, n))) (leaves_height container style candidate q e)
+          (λ known a. not_both_height (stretched style box known).known (h known a))
+          (λ known a r. (
+            h known a,
+            absent_side (stretched style box known).known.height _ _ box.max.height r.height (h known a)
+                (table_height style box known t low a m ∙ ap (λ (x : Float). Some (table_min (stretches box.vertical false) low x)) (fit_down container style candidate)),
           ))),
     )

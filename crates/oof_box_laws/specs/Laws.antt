@@ -40,7 +40,7 @@ use Rattle.oof_box.specs.declared.question.Question.{Question}
 use Rattle.oof_box.specs.declared.question.Question.TheVariants.{MeasureBoth, MeasureWidth, MeasureHeight, LayOut}
 use Rattle.util_exact.specs.Value.{Quarter, MaybeQuarters}
 use Rattle.oof_axis_laws.specs.Laws.{◌=Σ◌, ◌≤Σ◌}
-use Rattle.oof_box_laws.specs.Resolved.{IsAutoSize}
+use Rattle.oof_box_laws.specs.Resolved.{IsAutoSize, HasKeyword}
 
 -- ---- whatever the host replies
 
@@ -53,9 +53,23 @@ pub data Always {A : Type 0} (P : A → Type 0) : Talk A → Type 0 where
 abbrev pub SizeAlways : (Size Float → Type 0) → ContainingBlock → Style → OofCandidate → Type 0
 SizeAlways P container style candidate = Always (λ (p : Placed). P p.outcome.layout.size) (placed container style candidate)
 
--- the dialogue opens with the question for both sizes, and P holds of the question, of its reply and of the outcome
-pub data Measures (P : MeasureInput → Size Float → Placed → Type 0) : Talk Placed → Type 0 where
-  measures : {m : MeasureInput} {next : Size Float → Talk Placed} → ((r : Size Float) → Always (P m r) (next r)) → Measures P (ask (MeasureBoth m) next)
+-- P holds of every question
+pub data Asks {A : Type 0} (P : Question → Type 0) : Talk A → Type 0 where
+  ends : {a : A} → Asks P (done a)
+  asks : {q : Question} {next : ReplyTo q → Talk A} → P q → ((r : ReplyTo q) → Asks P (next r)) → Asks P (ask q next)
+
+-- nothing is measured
+abbrev pub OnlyLayOut : Question → Type 0
+OnlyLayOut (MeasureBoth m) = ⊥
+OnlyLayOut (MeasureWidth m) = ⊥
+OnlyLayOut (MeasureHeight m) = ⊥
+OnlyLayOut (LayOut l) = Unit {0}
+
+-- both sizes are asked for, after questions that B holds of, if any, and then nothing is measured; P holds of that question, of its reply and of
+-- the outcome
+pub data Measures (B : Question → Type 0) (P : MeasureInput → Size Float → Placed → Type 0) : Talk Placed → Type 0 where
+  measures : {m : MeasureInput} {next : Size Float → Talk Placed} → ((r : Size Float) → Always (P m r) (next r)) → ((r : Size Float) → Asks OnlyLayOut (next r)) → Measures B P (ask (MeasureBoth m) next)
+  after : {q : Question} {next : ReplyTo q → Talk Placed} → B q → ((r : ReplyTo q) → Measures B P (next r)) → Measures B P (ask q next)
 
 -- ---- sizes. Min, max and size are those of step 2, as Resolved.antt says on the style's words.
 
@@ -98,31 +112,47 @@ pub record Plain (style : Style) : Type 0 where
 abbrev pub stretchable : Style → Bool
 stretchable style = not style.replaced && not style.table
 
--- stretch fills: an auto size that stretches is the stretch-fit size, clamped, whatever is measured. Where the box then stands is said by
--- `StretchedBoxFillsItsBlock`.
+-- stretch fills: an auto size that stretches is the stretch-fit size, clamped, whatever is measured, also beside a side with a size keyword.
+-- Where the box then stands is said by `StretchedBoxFillsItsBlock`.
 abbrev pub StretchFills : Type 0
 StretchFills =
     (container : ContainingBlock) (style : Style) (candidate : OofCandidate)
     → let box = resolved_box container style candidate in
-    Plain style → style.table ≡ false
+    style.ratio ≡ None → style.table ≡ false
     → (IsAutoSize style.size.width → stretches box.horizontal (stretchable style) ≡ true
     → SizeAlways (λ s. s.width ≡ clamped (stretch_fit box.horizontal) box.min.width box.max.width) container style candidate)
     × (IsAutoSize style.size.height → stretches box.vertical (stretchable style) ≡ true
     → SizeAlways (λ s. s.height ≡ clamped (stretch_fit box.vertical) box.min.height box.max.height) container style candidate)
 
--- any other auto size is fit-content: it is asked for, and is the reply, clamped
+-- a question for one side alone, by its size keyword (step 4: Keywords.antt), with the other side unknown; of a side without a keyword there is
+-- none
+abbrev pub WidthByKeyword : Style → Question → Type 0
+WidthByKeyword style (MeasureBoth m) = ⊥
+WidthByKeyword style (MeasureWidth m) = HasKeyword style.size.width × (m.known.height ≡ None)
+WidthByKeyword style (MeasureHeight m) = ⊥
+WidthByKeyword style (LayOut l) = ⊥
+
+abbrev pub HeightByKeyword : Style → Question → Type 0
+HeightByKeyword style (MeasureBoth m) = ⊥
+HeightByKeyword style (MeasureWidth m) = ⊥
+HeightByKeyword style (MeasureHeight m) = HasKeyword style.size.height × (m.known.width ≡ None)
+HeightByKeyword style (LayOut l) = ⊥
+
+-- any other auto size is fit-content: it is asked for with the other side, and is the reply, clamped, also beside a side with a size keyword,
+-- whose question comes first. (What is told of that side: `StretchKeywordIsTold`, `WidthIsMeasured`, `HeightIsMeasured`; in which space:
+-- `FilledInTheSpace`.)
 abbrev pub MeasuredIsTheReply : Type 0
 MeasuredIsTheReply =
     (container : ContainingBlock) (style : Style) (candidate : OofCandidate)
     → let box = resolved_box container style candidate in
-    Plain style → style.table ≡ false
+    style.ratio ≡ None → style.table ≡ false
     → (IsAutoSize style.size.width → stretches box.horizontal (stretchable style) ≡ false
-    → Measures (λ m r p. (m.known.width ≡ None) × (p.outcome.layout.size.width ≡ clamped r.width box.min.width box.max.width)) (placed container style candidate))
+    → Measures (HeightByKeyword style) (λ m r p. (m.known.width ≡ None) × (p.outcome.layout.size.width ≡ clamped r.width box.min.width box.max.width)) (placed container style candidate))
     × (IsAutoSize style.size.height → stretches box.vertical (stretchable style) ≡ false
-    → Measures (λ m r p. (m.known.height ≡ None) × (p.outcome.layout.size.height ≡ clamped r.height box.min.height box.max.height)) (placed container style candidate))
+    → Measures (WidthByKeyword style) (λ m r p. (m.known.height ≡ None) × (p.outcome.layout.size.height ≡ clamped r.height box.min.height box.max.height)) (placed container style candidate))
 
--- a table is never stretched (css-tables-3): an auto size of it is asked for, and is the reply, clamped with its min raised to the stretch-fit size where
--- the alignment is stretch
+-- an auto size of a table is never stretched (css-tables-3) but asked for, and is the reply, clamped, with its min raised to the stretch-fit size
+-- between two insets where the alignment is stretch
 abbrev pub table_min : Bool → Float → Float → Float
 table_min stretchesSide low fit = cond stretchesSide (larger low fit) low
 
@@ -130,22 +160,17 @@ abbrev pub TableIsMeasured : Type 0
 TableIsMeasured =
     (container : ContainingBlock) (style : Style) (candidate : OofCandidate) (low : Float)
     → let box = resolved_box container style candidate in
-    Plain style → style.table ≡ true
+    style.ratio ≡ None → style.table ≡ true
     → (IsAutoSize style.size.width → box.min.width ≡ Some low
-    → Measures
+    → Measures (HeightByKeyword style)
     (λ m r p. (m.known.width ≡ None)
     × (p.outcome.layout.size.width ≡ clamped r.width (Some (table_min (stretches box.horizontal false) low (stretch_fit box.horizontal))) box.max.width)) (placed container style candidate))
     × (IsAutoSize style.size.height → box.min.height ≡ Some low
-    → Measures
+    → Measures (WidthByKeyword style)
     (λ m r p. (m.known.height ≡ None)
     × (p.outcome.layout.size.height ≡ clamped r.height (Some (table_min (stretches box.vertical false) low (stretch_fit box.vertical))) box.max.height)) (placed container style candidate))
 
 -- ---- what the host is asked
-
--- P holds of every question
-pub data Asks {A : Type 0} (P : Question → Type 0) : Talk A → Type 0 where
-  ends : {a : A} → Asks P (done a)
-  asks : {q : Question} {next : ReplyTo q → Talk A} → P q → ((r : ReplyTo q) → Asks P (next r)) → Asks P (ask q next)
 
 -- the room of a side: the inset-modified block less the margins that aren't auto, at least 0 (the stretch-fit size); of a table no more than
 -- the containing block less them (css-tables-3)
@@ -199,16 +224,17 @@ GivenSizeIsTold =
     → let box = resolved_box container style candidate in
     (box.size.width ≡ Some x → Asks (WidthTold x) (placed container style candidate)) × (box.size.height ≡ Some x → Asks (HeightTold x) (placed container style candidate))
 
--- an auto size that stretches is told: the height of a stretched width is measured at that width
+-- an auto size that stretches is told: the height of a stretched width is measured at that width. Only the question of the other side's keyword,
+-- which comes first, doesn't tell it.
 abbrev pub StretchedSizeIsTold : Type 0
 StretchedSizeIsTold =
     (container : ContainingBlock) (style : Style) (candidate : OofCandidate)
     → let box = resolved_box container style candidate in
-    Plain style → style.table ≡ false
+    style.ratio ≡ None → style.table ≡ false
     → (IsAutoSize style.size.width → stretches box.horizontal (stretchable style) ≡ true
-    → Asks (WidthTold (clamped (stretch_fit box.horizontal) box.min.width box.max.width)) (placed container style candidate))
+    → Asks (λ q. WidthTold (clamped (stretch_fit box.horizontal) box.min.width box.max.width) q ⊎ HeightByKeyword style q) (placed container style candidate))
     × (IsAutoSize style.size.height → stretches box.vertical (stretchable style) ≡ true
-    → Asks (HeightTold (clamped (stretch_fit box.vertical) box.min.height box.max.height)) (placed container style candidate))
+    → Asks (λ q. HeightTold (clamped (stretch_fit box.vertical) box.min.height box.max.height) q ⊎ WidthByKeyword style q) (placed container style candidate))
 
 -- the last question is lay out, and P holds of it, of its reply and of the outcome
 pub data LaysOut (P : LayoutInput → Laid → Placed → Type 0) : Talk Placed → Type 0 where
@@ -275,7 +301,7 @@ StretchedBoxFillsItsBlock =
     (container : ContainingBlock) (style : Style) (candidate : OofCandidate)
     → let box = resolved_box container style candidate in
     let offset = container.area.offset in
-    Plain style → style.table ≡ false
+    style.ratio ≡ None → style.table ≡ false
     → (IsAutoSize style.size.width → StretchesFreely box.horizontal (stretchable style) box.min.width box.max.width → InQuarters box.horizontal offset.x
     → Always
     (λ (p : Placed). let l = p.outcome.layout in MarginBoxIs (block box.horizontal) offset.x l.location.x l.size.width (line_x l.margin))

@@ -38,6 +38,17 @@ IsAuto l = l.tag ≡ 3
 abbrev pub IsAutoSize : CompactLength → Type 0
 IsAutoSize l = (l.tag ≡ 3) ⊎ (l.tag ≡ 35)
 
+abbrev pub IsStretchKeyword : CompactLength → Type 0
+IsStretchKeyword l = l.tag ≡ 75
+
+-- a size keyword: min-content, fit-content of a percentage, max-content, fit-content of pixels, fit-content, stretch
+abbrev pub HasKeyword : CompactLength → Type 0
+HasKeyword l = (l.tag ≡ 11) ⊎ ((l.tag ≡ 15) ⊎ ((l.tag ≡ 27) ⊎ ((l.tag ≡ 43) ⊎ ((l.tag ≡ 59) ⊎ IsStretchKeyword l))))
+
+-- auto or a keyword: it comes to no number of pixels
+abbrev pub NoLength : CompactLength → Type 0
+NoLength l = IsAutoSize l ⊎ HasKeyword l
+
 -- what a length comes to: pixels are themselves, a percentage is of the basis, a sum is that percentage plus the second value, each operation
 -- rounded once and no range kept (css-values-4 #calc-range would raise a negative sum to 0 in padding, border and sizes). The second value of
 -- the other two may be any
@@ -199,14 +210,16 @@ AutoIsNoSize =
     AutoIs absent_size style.ratio style.size box.size × AutoIs absent_size style.ratio style.max box.max
     × AutoIs (definite (padding_border_of box)) style.ratio style.min box.min
 
--- a ratio r, of width to height, completes a lone side: width = r × height, height = width ÷ r; of size, min and max
+-- a ratio r, of width to height, completes a lone side: width = r × height, height = width ÷ r; of size, min and max. The side that it
+-- completes is auto or has a size keyword, which then has no say (document 01's and the Rust's; in CSS the keyword holds: css-sizing-4 #aspect-ratio
+-- completes auto sizes).
 pub record RatioOf (area : Size Float) (r x : Float) (style : Style) (box : ResolvedBox) : Type 0 where
-  pub max_width : IsAutoSize style.max.width → Comes area.height style.max.height x → box.max.width ≡ Some (x ⊗ r ⊕ (to_border_box style box).width)
-  pub max_height : IsAutoSize style.max.height → Comes area.width style.max.width x → box.max.height ≡ Some (x ⊘ r ⊕ (to_border_box style box).height)
-  pub min_width : IsAutoSize style.min.width → Comes area.height style.min.height x → box.min.width ≡ Some (larger (x ⊗ r ⊕ (to_border_box style box).width) (padding_border_of box).width)
-  pub min_height : IsAutoSize style.min.height → Comes area.width style.min.width x → box.min.height ≡ Some (larger (x ⊘ r ⊕ (to_border_box style box).height) (padding_border_of box).height)
-  pub width : IsAutoSize style.size.width → Comes area.height style.size.height x → box.size.width ≡ Some (clamped (x ⊗ r ⊕ (to_border_box style box).width) box.min.width box.max.width)
-  pub height : IsAutoSize style.size.height → Comes area.width style.size.width x → box.size.height ≡ Some (clamped (x ⊘ r ⊕ (to_border_box style box).height) box.min.height box.max.height)
+  pub max_width : NoLength style.max.width → Comes area.height style.max.height x → box.max.width ≡ Some (x ⊗ r ⊕ (to_border_box style box).width)
+  pub max_height : NoLength style.max.height → Comes area.width style.max.width x → box.max.height ≡ Some (x ⊘ r ⊕ (to_border_box style box).height)
+  pub min_width : NoLength style.min.width → Comes area.height style.min.height x → box.min.width ≡ Some (larger (x ⊗ r ⊕ (to_border_box style box).width) (padding_border_of box).width)
+  pub min_height : NoLength style.min.height → Comes area.width style.min.width x → box.min.height ≡ Some (larger (x ⊘ r ⊕ (to_border_box style box).height) (padding_border_of box).height)
+  pub width : NoLength style.size.width → Comes area.height style.size.height x → box.size.width ≡ Some (clamped (x ⊗ r ⊕ (to_border_box style box).width) box.min.width box.max.width)
+  pub height : NoLength style.size.height → Comes area.width style.size.width x → box.size.height ≡ Some (clamped (x ⊘ r ⊕ (to_border_box style box).height) box.min.height box.max.height)
 
 abbrev pub RatioCompletes : Type 0
 RatioCompletes =
