@@ -4,7 +4,8 @@ and which boxes no scrolling brings up.
 
     tools/picture.py SCREEN.. > out.svg             boxes from target/bin/boxlist, verdicts from target/bin/boxreach
     tools/picture.py --from FOLDER SCREEN..         the programs of another folder
-    tools/picture.py --stored SCREEN..              NAME.list and NAME.reach beside NAME.screen, and no program
+    tools/picture.py --stored SCREEN..              NAME.list and NAME.reach beside NAME.screen, and no program; where there is a NAME.rust,
+                                                    that list as well, as what was before request #106, and the anchors
     tools/picture.py --write                        writes the pictures of docs/ (from what is stored)
     tools/picture.py --check                        fails unless these are what it makes of them, and every stored screen can be drawn
 
@@ -33,17 +34,21 @@ PICTURES = {
     "docs/layers.svg": ("Boxes that overlap, in the order in which they are drawn", {0: "reel A", 1: "reel B", 2: "note", 3: "alarm", 4: "mark"}, ["screens/layers"]),
     "docs/sums.svg": ("Labels that stand half the area less 12 px from an edge, and other sums",
                       {0: "column", 1: "column", 2: "label", 3: "from the right", 4: "min", 5: "max", 6: "note", 7: "mark"}, ["screens/sums"]),
+    "docs/anchor.svg": ("Labels that stretch from their anchors to the panel's edge, where they ran off it before, and their Arabic mirror image",
+                        {0: "start", 1: "end", 2: "center", 3: "fit-content", 4: "margins", 5: "down", 6: "both"}, ["screens/anchor", "screens/anchor-arabic"]),
     "docs/scrolled.svg": ("Panels that scroll, and one that clips across", {}, ["screens/scrolled", "screens/scrolled-arabic", "screens/clipped", "screens/sixteenth"]),
 }
 
 OVERFLOWS = ("visible", "clip", "hidden", "scroll")
 MEANINGS = {"8": "The text is no screen.", "1": "Line 1 has a direction, claims or an overflow outside its list.",
             "3": "An item has a tag or a code that its field doesn't take.", "4": "A candidate has a node that is no item, a code outside its list, or a layer above 255."}
-SEEN, SCROLLED, UNSEEN, REFUSED = "seen", "scrolled", "unseen", "refused"
+SEEN, SCROLLED, UNSEEN, REFUSED, BEFORE, ANCHOR = "seen", "scrolled", "unseen", "refused", "before", "anchor"
 # fields of a screen file, from 0: of the first line, of a candidate line; and the positions that are claimed, each with its bit in claims
 CLAIMS, ITEM_COUNT = 5, 8
 NODE, POSITION, LAYER = 0, 2, 13
 CLAIMED_BY = {2: 1, 3: 2}
+# of an axis in a candidate line, start, end and edge; words of a length, and the tag of an inset that isn't given
+AXES, LENGTH, AUTO = (3, 8), 3, 3
 
 # pixels of the picture
 GAP, SIDE, MOST_HEIGHT, EDGE = 24, 456, 360, 22
@@ -56,6 +61,7 @@ STYLES = {
     SCROLLED: f'fill="#d4e4f8" stroke="{LINES[SCROLLED]}" stroke-width="1.5"',
     UNSEEN: f'fill="url(#hatch)" stroke="{LINES[UNSEEN]}" stroke-width="2" stroke-dasharray="7 3"',
     REFUSED: f'fill="url(#dots)" stroke="{LINES[REFUSED]}" stroke-width="1.5" stroke-dasharray="2 3"',
+    BEFORE: 'fill="#fbe3dc" stroke="#b4462f" stroke-width="1.5" stroke-dasharray="5 3"',
 }
 PATTERNS = """<defs>
 <pattern id="hatch" patternUnits="userSpaceOnUse" width="9" height="9" patternTransform="rotate(45)"><rect width="9" height="9" fill="#fdeeeb"/><line x1="0" y1="0" x2="0" y2="9" stroke="#c8524a" stroke-width="3.5"/></pattern>
@@ -114,10 +120,26 @@ def number(text):
     return None if text == "*" else int(text)
 
 
+def parted(text):
+    """The fields of a good screen: the first line's, those of the items, and those of the claimed candidates."""
+    header, *rows = ([int(f) for f in columns(line, 11)] for line in text.decode().splitlines())
+    items, candidates = rows[:header[ITEM_COUNT]], rows[header[ITEM_COUNT]:]
+    return header, items, [row for row in candidates if header[CLAIMS] & CLAIMED_BY.get(row[POSITION], 0)]
+
+
 def claimed(text):
     """Node and layer of each claimed candidate of a good screen, in hoisted order: the candidate lines in turn, as no box surfaces any."""
-    header, *rows = ([int(f) for f in columns(line, 11)] for line in text.decode().splitlines())
-    return [(row[NODE], row[LAYER]) for row in rows[header[ITEM_COUNT]:] if header[CLAIMS] & CLAIMED_BY.get(row[POSITION], 0)]
+    return [(row[NODE], row[LAYER]) for row in parted(text)[2]]
+
+
+def anchors(text):
+    """Of each box without insets its node and its anchor, in eighths from the area's left and top edge."""
+    header, items, candidates = parted(text)
+    for row in candidates:
+        if all(items[row[NODE]][LENGTH * inset] == AUTO for inset in range(4)):
+            # a start edge, a center or an end edge
+            sides = [(row[at], (row[at] + row[at + 1]) / 2, row[at + 1])[row[at + 2]] for at in AXES]
+            yield row[NODE], tuple(side - offset for side, offset in zip(sides, header[2:4]))
 
 
 class Box:
@@ -144,7 +166,8 @@ class Box:
 
 
 class Screen:
-    def __init__(self, name, text, listed, verdicts, names):
+    def __init__(self, name, text, listed, verdicts, names, before=None):
+        """before: the list as it was before request #106, or None"""
         self.name, self.text, self.names = name, text, names
         self.refusal = listed.decode().rstrip("\n") if listed.startswith(b" refused") else None
         if self.refusal:
@@ -169,6 +192,12 @@ class Screen:
         self.drawing_order = sorted(claims, key=lambda claim: claim[1])
         self.drawn_last = {node: at for at, (node, _) in enumerate(self.drawing_order)}
         self.layered = any(layer for _, layer in claims)
+        # where boxes were that are elsewhere now, by node; and anchors
+        self.before, self.anchors = {}, []
+        if before is not None:
+            rows = [Box(columns(row, 8), [REFUSED], self.offset) for row in before.decode().splitlines()[1:-1]]
+            self.before = {box.node: box.span() for box in rows if box.span() != self.by_node[box.node].span()}
+            self.anchors = list(anchors(text))
 
     def place(self, listed, reached, claimed_node, layer):
         """A node that is claimed twice has one layout: it is one box, on two layers."""
@@ -281,6 +310,8 @@ def notes_of(screen):
         few = seen[:12]
         notes.append((SEEN, f"{listing([screen.called(b) for b in few])}: seen without scrolling." if len(seen) == len(few)
                       else f"{len(seen)} boxes are seen without scrolling."))
+    if screen.before:
+        notes.append((BEFORE, before_said(screen)))
     if screen.layered:
         notes.append((None, order_said(screen)))
     if not screen.boxes:
@@ -288,6 +319,17 @@ def notes_of(screen):
     if None in screen.overflow:
         notes.append((None, "The overflow rectangle isn't drawn: a number of it is no whole eighth, or above 9,999,999 eighths in size (*)."))
     return notes
+
+
+def before_said(screen):
+    """How far the boxes ran off the area."""
+    said_of = []
+    for node, (left, top, right, bottom) in screen.before.items():
+        beyond = [(-left, "left"), (right - screen.width, "right"), (bottom - screen.height, "down")]
+        off = [f"{pixels(n)} px {way}" for n, way in beyond if n > 0]
+        if off:
+            said_of.append(f"{screen.called(screen.by_node[node])} by {listing(off)}")
+    return f"Before request #106 they ran off the area: {', '.join(said_of)}." if said_of else "Before request #106 they stood elsewhere."
 
 
 def order_said(screen):
@@ -362,13 +404,16 @@ class Drawing:
         if None not in s.overflow:
             left, right = s.from_start(*s.overflow[:2])
             overflow = (left, s.overflow[2], right, s.overflow[3])
-        window = self.window(area, [x for x in (*spans, shown, overflow) if x])
+        window = self.window(area, [x for x in (*spans, *s.before.values(), shown, overflow) if x])
         height = self.framed(window)
         if shown and shown != area:
             self.kinds.add("shown")
             self.rect(shown, f'fill="{SHOWN}" stroke="#8a97a6" stroke-width="1"')
         self.rect(area, f'fill="{AREA}" stroke="{INK}" stroke-width="2.5"')
         self.obstacles = [*lines_of(self.at(area), 5)]
+        for span in s.before.values():
+            self.kinds.add(BEFORE)
+            self.rect(span, STYLES[BEFORE])
         beyond = [b for b, span in zip(self.drawable, spans) if not inside(span, window)]
         visible = [b for b in self.drawable if b not in beyond]
         dotted = self.boxes(visible)
@@ -378,7 +423,10 @@ class Drawing:
             self.kinds.add("overflow")
             self.rect(overflow, 'fill="none" stroke="#6a3d9a" stroke-width="2" stroke-dasharray="10 5"')
             self.obstacles += lines_of(self.at(overflow), 4)
-        taken = self.labels(visible, self.at(area), dotted) + [self.at(b.span()) for b in visible]
+        for _, (x, y) in s.anchors:
+            self.kinds.add(ANCHOR)
+            self.parts.append(mark(*self.at((x, y, x, y))[:2]))
+        taken = self.labels(visible, self.at(area), dotted) + [self.at(b.span()) for b in visible] + [self.at(span) for span in s.before.values()]
         if len(visible) <= MANY:
             self.captions(area, shown, taken)
         self.parts.append("</g>")
@@ -600,6 +648,11 @@ def sample(kind, x, y, width, height):
     return out
 
 
+def mark(x, y):
+    """an anchor"""
+    return f'<circle cx="{x:.1f}" cy="{y:.1f}" r="4" fill="{INK}" stroke="#ffffff" stroke-width="1.5"/>'
+
+
 def covered_style(kind):
     return f'fill="none" stroke="{LINES[kind]}" stroke-width="1.2" stroke-dasharray="1.5 3.5"'
 
@@ -628,6 +681,10 @@ def legend_rows(drawings):
             rows.append((STYLES[kind], text))
     if "covered" in kinds:
         rows.append((covered_style(SEEN), "Where a box is covered: those over it are drawn later."))
+    if BEFORE in kinds:
+        rows.append((STYLES[BEFORE], "Where a box was before request #106, as the published Rust has it."))
+    if ANCHOR in kinds:
+        rows.append((ANCHOR, "An anchor: a box without insets is measured from it."))
     return rows
 
 
@@ -645,7 +702,7 @@ def legend(drawings, width):
         at = y
         for style, text in rows[c * per:(c + 1) * per]:
             x = c * (wide + GAP)
-            parts.append(rectangle(x + 1, at + 3, 26, 14, style))
+            parts.append(mark(x + 14, at + 10) if style == ANCHOR else rectangle(x + 1, at + 3, 26, 14, style))
             if style == STYLES[SCROLLED]:
                 parts.append(rectangle(x + 4, at + 6, 20, 8, f'fill="none" stroke="{LINES[SCROLLED]}" stroke-width="1"'))
             for line in wrapped(text, wide - 38):
@@ -698,7 +755,9 @@ def read_screen(path, name, names, source):
     try:
         text = path.read_bytes()
         if source is None:
-            return Screen(name, text, path.with_suffix(".list").read_bytes(), path.with_suffix(".reach").read_bytes(), names)
+            before = path.with_suffix(".rust")
+            return Screen(name, text, path.with_suffix(".list").read_bytes(), path.with_suffix(".reach").read_bytes(), names,
+                          before.read_bytes() if before.exists() else None)
         return Screen(name, text, printed(source / "boxlist", text), printed(source / "boxreach", text), names)
     except OSError as e:
         raise Fault(f"{e.filename}: {e.strerror}")

@@ -14,6 +14,7 @@ use library::Words;
 use oof::ffi::Reply;
 use oof::words::{CANDIDATE, LAYER, STYLE};
 use oof::{first_bad_word, BadWord};
+use oracle::set::{has_size_keyword, on_the_set};
 use rust::Tree;
 use scene::{scene, Scene};
 use std::hint::black_box;
@@ -68,9 +69,12 @@ fn shown(seconds: f64) -> String {
     }
 }
 
-/// Both place every box alike
-fn agree(tree: &Tree, words: &Words) {
-    for (at, l) in tree.layouts.iter().enumerate() {
+/// Both place every box alike, but for those with a size keyword that request #106 doesn't compare
+fn agree(scene: &Scene, tree: &Tree, words: &Words) {
+    for (at, (l, style)) in tree.layouts.iter().zip(&scene.styles).enumerate() {
+        if has_size_keyword(style) && !on_the_set(&scene.area, style) {
+            continue;
+        }
         let w: Vec<f32> = words.layouts[23 * at..23 * at + 23].iter().map(|&w| f32::from_bits(w)).collect();
         let ours = [w[1], w[2], w[9], w[10], w[19], w[20], w[21], w[22]];
         let m = l.margin;
@@ -85,12 +89,12 @@ fn side_by_side(name: &str, rounds: usize, scenes: &[(usize, usize)]) {
     let mut trees: Vec<Tree> = scenes.iter().map(Tree::new).collect();
     let mut words: Vec<Words> = scenes.iter().map(Words::new).collect();
     let (mut questions, mut boxes) = (0, 0);
-    for (tree, words) in trees.iter_mut().zip(&mut words) {
+    for ((tree, words), scene) in trees.iter_mut().zip(&mut words).zip(&scenes) {
         boxes += tree.run().hoisted.len();
         assert_eq!(words.run(), 0);
         assert_eq!(words.answer[1], tree.questions);
         questions += tree.questions;
-        agree(tree, words);
+        agree(scene, tree, words);
     }
     let count = scenes.len();
     let mut rust = || {

@@ -1,13 +1,15 @@
 #!/usr/bin/env python3
-"""How sharp the differential runs are: changes one place of the published Rust at a time, and says whether diff/runs notices.
+"""What the differential runs notice: changes one place of the published Rust, or of the second implementation, at a time, and says whether
+diff/runs notices.
 
-    diff/mutants/run.py [CASES of each profile, 20,000 unless said] [EVERY, 1 unless said] [sums]
+    diff/mutants/run.py [CASES of each profile, 20,000 unless said] [EVERY, 1 unless said] [sums, stretch or a Rust file's name]
 
-Each mutant is a copy of the Rust files with one operator, side, constant or branch changed, or one place of what the Rust does with a sum
-(tag 129): where its calc branch resolves a length, what basis it is given, and how the oracle's tree computes it and reads its words.
-With `sums` only the latter are made. diff/runs is built against the copy and run; a difference from the library (or a panic) means that it
-was noticed. Survivors are printed: either the change doesn't change what the function says, or the cases miss it. EVERY takes each
-EVERYth mutant only. A mutant takes some five seconds.
+Each mutant is a copy of the Rust files with one operator, side, constant or branch changed; or one place of what the Rust does with a sum
+(tag 129): where its calc branch resolves a length, what basis it is given, and how the oracle's tree computes it and reads its words; or a
+wrong reading of the stretch size that the second implementation has by request #106. With a name only the latter two, or only the mutants of
+that file, are made. diff/runs is built against the copy and run; a difference from the library (or a panic) means that it was noticed. What
+the two implementations say of each other doesn't count. Survivors are printed: either the change doesn't change what the function says where
+it is compared, or the cases miss it. EVERY takes each EVERYth mutant only. A mutant takes some five seconds.
 """
 import os
 import pathlib
@@ -71,6 +73,50 @@ SUMS = [
     ("case.rs", "if w[0] == SUM {", "if w[0] % 256 == SUM {"),
     ("case.rs", "if w[0] == SUM {", "if w[0] == SUM || w[0] == 4 {"),
 ]
+# of the second implementation's stretch size: file of the oracle, what stands there once and what is put for it
+BLOCK = "Stretch::FromBlock => self.block().span()"
+LESS_INSETS = "self.size - or_zero(self.inset[0]) - or_zero(self.inset[1])"
+KEYWORD_STRETCH = "larger(room - or_zero(self.margin[0]) - or_zero(self.margin[1]), 0.0)"
+STRETCH = [
+    # the area less its insets always; but where no inset is given; but where one isn't; but where they don't cross
+    ("second/axis.rs", BLOCK, "Stretch::FromBlock => " + LESS_INSETS),
+    ("second/axis.rs", BLOCK, "Stretch::FromBlock if self.inset != [None; 2] => " + LESS_INSETS + ",\n" + BLOCK),
+    ("second/axis.rs", BLOCK, "Stretch::FromBlock if self.has_both_insets() => " + LESS_INSETS + ",\n" + BLOCK),
+    ("second/axis.rs", BLOCK, "Stretch::FromBlock if self.block().span() > 0.0 => " + LESS_INSETS + ",\n" + BLOCK),
+    # the block not closed up; from the static area's end; the area
+    ("second/axis.rs", BLOCK, "Stretch::FromBlock => self.open_block().0.span()"),
+    ("second/axis.rs", BLOCK, "Stretch::FromBlock if self.inset == [None; 2] => self.size - self.anchor.end,\n" + BLOCK),
+    ("second/axis.rs", BLOCK, "Stretch::FromBlock => self.size"),
+    # margins by their sum; end first; one of them or both left out; no floor
+    ("second/axis.rs", KEYWORD_STRETCH, "larger(room - (or_zero(self.margin[0]) + or_zero(self.margin[1])), 0.0)"),
+    ("second/axis.rs", KEYWORD_STRETCH, "larger(room - or_zero(self.margin[1]) - or_zero(self.margin[0]), 0.0)"),
+    ("second/axis.rs", KEYWORD_STRETCH, "larger(room - or_zero(self.margin[0]), 0.0)"),
+    ("second/axis.rs", KEYWORD_STRETCH, "larger(room - or_zero(self.margin[1]), 0.0)"),
+    ("second/axis.rs", KEYWORD_STRETCH, "larger(room, 0.0)"),
+    ("second/axis.rs", KEYWORD_STRETCH, "room - or_zero(self.margin[0]) - or_zero(self.margin[1])"),
+    ("second/axis.rs", KEYWORD_STRETCH, "larger(larger(room, 0.0) - or_zero(self.margin[0]), 0.0) - or_zero(self.margin[1])"),
+    # the offset not taken off
+    ("second/item.rs", "float(anchor[0]) - area.offset[which]", "float(anchor[0])"),
+    ("second/item.rs", "float(anchor[1]) - area.offset[which]", "float(anchor[1])"),
+    # in steps 3 and 5, in step 3 alone, in step 5 alone
+    ("second/axis.rs", "larger(self.block().span() - (start + end), 0.0)", "self.keyword_stretch(Stretch::FromBlock)"),
+    ("second/item.rs", "let fit = self.axes[axis].stretch_fit();\n        if !", "let fit = self.axes[axis].keyword_stretch(super::Stretch::FromBlock);\n        if !"),
+    ("second/item.rs", "let fit = self.axes[axis].stretch_fit();\n            if table", "let fit = self.axes[axis].keyword_stretch(super::Stretch::FromBlock);\n            if table"),
+    # as or above the limit of a fit-content of px and of percent
+    ("second/item.rs", "43 => Keyword::Measure(definite(value))", "43 => Keyword::Measure(definite(stretch))"),
+    ("second/item.rs", "43 => Keyword::Measure(definite(value))", "43 => Keyword::Measure(definite(smaller(value, stretch)))"),
+    ("second/item.rs", "definite(self.axes[axis].size * value)", "definite(stretch)"),
+    ("second/item.rs", "definite(self.axes[axis].size * value)", "definite(stretch * value)"),
+    # the Rust's for stretch, for fit-content, or for the other axis' space alone; there the area
+    ("second/item.rs", "Keyword::Exact(stretch)", "Keyword::Exact(self.axes[axis].keyword_stretch(super::Stretch::FromArea))"),
+    ("second/item.rs", "Keyword::Measure(definite(stretch))", "Keyword::Measure(definite(self.axes[axis].keyword_stretch(super::Stretch::FromArea)))"),
+    ("second/mod.rs", "definite(stretch[1])", "definite(item.axes[1].keyword_stretch(Stretch::FromArea))"),
+    ("second/mod.rs", "unwrap_or(stretch[0])", "unwrap_or(item.axes[0].keyword_stretch(Stretch::FromArea))"),
+    ("second/mod.rs", "definite(stretch[1])", "definite(self.area.size[1])"),
+    ("second/mod.rs", "unwrap_or(stretch[0])", "unwrap_or(self.area.size[0])"),
+    # there also where a width is known
+    ("second/mod.rs", "item.known[0].unwrap_or(stretch[0])", "stretch[0]"),
+]
 SKIP = re.compile(r"^\s*(//|#\[|use |debug_assert|let _ =|\})|debug_assert|cfg\(|must be resolved|fn \w+\(")
 
 
@@ -102,10 +148,10 @@ def mutants(source):
                     yield source / file, i + 1, line.strip(), changed.strip(), "".join(lines[:i] + [changed] + lines[i + 1:])
 
 
-def mutants_of_sums(source, oracle):
-    """The same of sums, of the Rust's files and the oracle's."""
-    for file, old, new in SUMS:
-        path = oracle / file if file == "case.rs" else source / file
+def mutants_of(changes, source, oracle):
+    """The same of a list of changes, of the Rust's files and the oracle's."""
+    for file, old, new in changes:
+        path = oracle / file if (oracle / file).exists() else source / file
         text = path.read_text()
         places = [m.start() for m in re.finditer(re.escape(old), text)]
         assert places, f"{file}: {old} stands nowhere"
@@ -117,7 +163,7 @@ def outcome_of(mutant, cases, env):
     """Builds diff/runs with the mutant in its place, and runs it."""
     path, _, _, _, text = mutant
     build = ["cargo", "build", "--offline", "--locked", "--release", "--quiet", "--config", "profile.release.opt-level=1"]
-    run = [WORK / "cargo/release/runs", cases, "1", "--damaged", "0", "--large", "0", "--sabotaged", "0"]
+    run = [WORK / "cargo/release/runs", cases, "1", "--damaged", "0", "--large", "0", "--sabotaged", "0", "--library-alone"]
     kept = path.read_text()
     path.write_text(text)
     try:
@@ -140,9 +186,11 @@ def main():
         shutil.copytree(of or ROOT / part, WORK / part)
     library = os.environ.get("OOF_LIB") or ROOT / "target" / "staticlib"
     env = dict(os.environ, TAFFY_SRC=str(WORK / "src"), CARGO_TARGET_DIR=str(WORK / "cargo"), OOF_LIB=str(library))
-    made = list(mutants_of_sums(WORK / "src", WORK / "diff/oracle/src"))
-    if sys.argv[3:] != ["sums"]:
-        made = list(mutants(WORK / "src")) + made
+    name = sys.argv[3] if len(sys.argv) > 3 else None
+    made = [mutant for mutant in mutants(WORK / "src") if name in (None, mutant[0].name)]
+    for changes, of in (("sums", SUMS), ("stretch", STRETCH)):
+        if name in (None, changes):
+            made += mutants_of(of, WORK / "src", WORK / "diff/oracle/src")
     found = {"noticed": 0, "survived": 0, "does not build": 0}
     for mutant in made[::every]:
         outcome = outcome_of(mutant, cases, env)

@@ -1,6 +1,7 @@
 #!/bin/sh
-# Runs the published Rust and the static library side by side, damages calls, and tests that a wrong answer would be noticed.
-# Prints one line of figures; exits with 1 at the first difference.
+# Runs the oracle's own tests (rows of document 01 and of where size keywords are compared, sweeps); then the published Rust, a second
+# implementation and the static library side by side, damages calls, and tests that a wrong answer would be noticed. Prints one line
+# of figures; exits with 1 at the first difference.
 #
 #     diff/runs/run.sh [CASES of each profile, 17,000 unless said] [SEED, the time unless said] [OPTIONS of the program]
 #
@@ -23,6 +24,8 @@ seed=${2:-$(date +%s)}
 [ $# -lt 1 ] || shift
 log=$(mktemp)
 trap 'rm -f "$log"' EXIT
+cd "$root/diff/oracle"
+cargo test --offline --locked --release > "$log" 2>&1 || { cat "$log"; exit 1; }
 cd "$here"
 cargo build --offline --locked --release > "$log" 2>&1 || { cat "$log"; exit 1; }
 "$CARGO_TARGET_DIR/release/runs" "$cases" "$seed" "$@"

@@ -1,6 +1,8 @@
 #!/usr/bin/env python3
-"""Holds `boxlist` to the published Rust, and `boxreach` to a model over the Rust's list (tools/samples/reach_model.py): ORACLE is the program
-of diff/oracle (`run.sh` builds it, and does a little of each).
+"""Holds `boxlist` to the published Rust, or to the second implementation where request #106 doesn't compare with the Rust, and `boxreach` to a
+model over that list (tools/samples/reach_model.py): ORACLE is the program of diff/oracle (`run.sh` builds it, and does a little of each), which
+says where; tools/samples/answers.py must say the same. Boxes with a size keyword are counted by what they were held to: with 1,000 random screens
+or more it is a failure if none was held to the Rust.
 
     diff/screens/compare.py ORACLE random SEED COUNT     random screens, about a quarter of them damaged
     diff/screens/compare.py ORACLE large SEED COUNT      random good screens of up to 128 items and 256 candidates
@@ -16,19 +18,22 @@ import collections, glob, os, random, re, subprocess, sys, tempfile, time
 root = os.path.join(os.path.dirname(os.path.abspath(__file__)), '..', '..')
 sys.path.insert(0, os.path.join(root, 'tools', 'samples'))
 sys.dont_write_bytecode = True
-import reach_model
+import answers, reach_model
+from answers import FIELD as WIDTH, LENGTH, LENGTHS, SCROLLBAR, SUM
 
 boxlist, boxreach = (os.path.join(os.environ.get('PROGRAMS') or os.path.join(root, 'target', 'bin'), name) for name in ('boxlist', 'boxreach'))
 HEADER = rb'    node       x       y   width  height    left   right     top  bottom\n'
 LIST = re.compile(HEADER + rb'(?:(?: {0,7}(?:-?\d{1,7}|\*)){9}\n)*overflow(?: {0,7}(?:-?\d{1,7}|\*)){4}\n')
 LINE = re.compile(rb' refused       ([1-8])\n')
-WIDTH = 11
 # bytes of the three lines, each with its feed, and of the largest screen
-LENGTH, LENGTHS = 3, 22
 FIRST, ITEM, CANDIDATE = (WIDTH * fields + 1 for fields in (10, LENGTH * LENGTHS + 13 + 6, 14))
 LARGEST = FIRST + 128 * ITEM + 256 * CANDIDATE
 MOST = 9999999
-SUM = 129
+# the most in size that is compared with the Rust, in eighths
+COMPARED = 8 * answers.MOST
+HELD_TO = {'rust': 'by the Rust', 'second': 'by the second implementation'}
+# so many random screens have a box with a size keyword that is compared with the Rust
+ENOUGH = 1000
 # the neighbours of a sum's tag, one with its low byte, the Rust's own tags of calc and of fit-content with calc
 NO_TAGS = 128, 130, 385, 4, 6
 # a second value as it stands in its field, and the refusal that it gets under whatever tag
@@ -50,10 +55,24 @@ def fail(text, why):
     sys.exit('%s: %s' % (f.name, why))
 
 
-kinds, verdicts = collections.Counter(), collections.Counter()
+kinds, verdicts, keywords = collections.Counter(), collections.Counter(), collections.Counter()
 
 
-def hold(text, expected):
+def count_keywords(text, told):
+    """the boxes with a size keyword of a screen that is no refusal; told: by whom it is, as the oracle says"""
+    by, boxes = answers.by_whom(text)
+    if told != by:
+        fail(text, 'by %s says the oracle, by %s tools/samples/answers.py' % (told, by))
+    keywords[HELD_TO[by]] += boxes
+
+
+def asked(oracle, text):
+    return run([oracle, 'screen', '--by'], text)
+
+
+def hold(text, answer):
+    """answer: as it was asked for"""
+    told, expected = answers.parted(answer)
     found = run([boxlist], text)
     if found != expected:
         fail(text, 'printed %r, expected %r' % (found[:200], expected[:200]))
@@ -63,6 +82,7 @@ def hold(text, expected):
     elif LIST.fullmatch(found) and all(len(l) in (41, 73) for l in found.splitlines(True)):
         kinds['lists'] += 1
         kinds['rows'] += found.count(b'\n') - 2
+        count_keywords(text, told)
     else:
         fail(text, 'neither a list nor a refusal')
     hold_verdicts(text, expected)
@@ -84,7 +104,8 @@ def random_screens(oracle, seed, count):
     with tempfile.TemporaryDirectory() as folder:
         subprocess.check_call([oracle, 'screens', str(seed), str(count), folder], stdout=subprocess.DEVNULL)
         for name in sorted(glob.glob(folder + '/*.screen')):
-            hold(open(name, 'rb').read(), open(name[:-6] + 'list', 'rb').read())
+            text, by, lines = (open(name[:-6] + part, 'rb').read() for part in ('screen', 'by', 'list'))
+            hold(text, by + lines)
 
 
 def layer(r):
@@ -105,6 +126,25 @@ def with_sums(pairs, some):
     return [word for pair in pairs for word in length(*pair)]
 
 
+def steer(rows, n):
+    """in one screen in three the items with a size keyword, of n, are put where they are compared with the Rust. It is drawn apart."""
+    if steering.randrange(3):
+        return
+    even = lambda v: max(-COMPARED, min(COMPARED, v)) // 2 * 2
+    head = rows[0]
+    head[:4] = map(even, head[:4])
+    for item in (item for item in rows[1:1 + n] if answers.has_keyword(answers.lengths_in(item))):
+        for at in range(0, LENGTH * LENGTHS, LENGTH):
+            item[at] = {5: 1, SUM: 1, 15: 43}.get(item[at], item[at])
+            item[at + 1] = even(item[at + 1]) if item[at] in (1, 43) else item[at + 1]
+        item[SCROLLBAR] = even(item[SCROLLBAR])
+        for axis in (0, 1):
+            at = 2 * LENGTH * axis
+            start = even(steering.choice((0, steering.randint(0, head[axis]), steering.randint(-head[axis], head[axis]))))
+            end = head[axis] - start - even(steering.choice((0, steering.randint(0, abs(head[axis] - start)))))
+            item[at:at + 2], item[at + LENGTH:at + LENGTH + 2] = [1, start], [1, min(end, COMPARED)]
+
+
 def good_screen(r):
     """no word outside its list, so that it is no refusal"""
     n, m = r.choice((1, 2, 5, 20, 128)), r.choice((1, 3, 10, 60, 256))
@@ -122,6 +162,7 @@ def good_screen(r):
                  r.randrange(11), r.randrange(3), r.randrange(4), r.randrange(4), r.randrange(200), r.choice((0, 0, 1, 2, 255))]
         replies = [r.randint(0, some), r.randint(0, some)] + [r.randint(-some // 8, some) for _ in range(4)]
         rows.append(with_sums(pairs, some) + codes + replies)
+    steer(rows, n)
     for k in range(m):
         area = [r.randint(-some // 4, some) for _ in range(4)]
         codes = [r.randrange(3) for _ in range(6)]
@@ -135,7 +176,7 @@ def made_screens(make):
         r = random.Random(seed)
         for _ in range(count):
             text = make(r)
-            hold(text, run([oracle, 'screen'], text))
+            hold(text, asked(oracle, text))
     return compare
 
 
@@ -183,10 +224,10 @@ def varied(vary):
         r = random.Random(seed)
         for _ in range(count):
             text = r.choice((good_screen, around))(r)
-            as_it_is, lines = run([oracle, 'screen'], text), text.splitlines(True)
+            as_it_is, lines = asked(oracle, text), text.splitlines(True)
             for other, refusal in vary(r, lines, 1 + int(lines[0][8 * WIDTH:9 * WIDTH])):
                 wanted = b' refused%8d\n' % refusal if refusal else as_it_is
-                expected = run([oracle, 'screen'], other)
+                expected = asked(oracle, other)
                 if expected != wanted:
                     fail(other, 'the oracle printed %r, the format asks for %r' % (expected[:200], wanted[:200]))
                 hold(other, wanted)
@@ -260,12 +301,15 @@ def fuzzed(oracle, seed, seconds):
             text = r.choice(good)
             for _ in range(r.choice((1, 1, 1, 2, 5))):
                 text = changed(r, text)
-        hold(text, run([oracle, 'screen'], text))
+        hold(text, asked(oracle, text))
 
 
 oracle, what, seed, n = sys.argv[1], sys.argv[2], int(sys.argv[3]), int(sys.argv[4])
-sums = random.Random('sums %d' % seed)
+sums, steering = random.Random('sums %d' % seed), random.Random('steering %d' % seed)
 {'random': random_screens, 'large': made_screens(good_screen), 'around': made_screens(around), 'layers': varied(layers), 'sums': varied(other_sums),
  'bytes': fuzzed}[what](oracle, seed, n)
+if what == 'random' and n >= ENOUGH and not keywords[HELD_TO['rust']]:
+    sys.exit('no box with a size keyword was compared with the Rust')
 total = kinds['lists'] + sum(v for k, v in kinds.items() if k.startswith('refused'))
-print('%d texts, all equal: %s; boxes %s' % (total, *(', '.join('%s %d' % (k, counts[k]) for k in sorted(counts)) or 'none' for counts in (kinds, verdicts))))
+figures = (', '.join('%s %d' % (k, counts[k]) for k in sorted(counts)) or 'none' for counts in (kinds, verdicts, keywords))
+print('%d texts, all equal: %s; boxes %s; with a size keyword %s' % (total, *figures))

@@ -1,7 +1,8 @@
 #!/bin/sh
-# Holds target/bin/boxlist to the published Rust, and target/bin/boxreach to a model over the Rust's list: random screens, large ones,
-# boxes around panels, screens with other layers, with other second values, and any bytes. Prints one line of figures for each; exits
-# with 1 at the first difference, crash, or output that is neither a list nor a refusal.
+# Holds target/bin/boxlist to the published Rust, or to the second implementation (diff/oracle/README.md), and target/bin/boxreach to a
+# model over that list: random screens, large ones, boxes around panels, screens with other layers, with other second values, and any
+# bytes. Prints one line of figures for each; exits with 1 at the first difference, crash, or output that is neither a list nor a
+# refusal.
 #
 #     diff/screens/run.sh [RANDOM SCREENS, 400 unless said] [SEED, the time unless said] [LARGE SCREENS, 100] [SECONDS of any bytes, 5]
 #                         [PANELS, 200] [SCREENS whose layers are changed, 15] [SCREENS whose sums are, 15]

@@ -32,7 +32,6 @@ use oof_axis::resolve_static_offset;
 use style::alignment::AlignItems;
 use tree::layout::AxisStaticPosition;
 use tree_record::candidate::{CANDIDATE_WORDS, candidate_at};
-use tree_record::codes::{edge_code, safety_code};
 use util::bits::to_word;
 
 // Keyword and safety as a style has them; the five words of an axis, and 0 or the number of the refusal.
@@ -51,9 +50,9 @@ pub extern "C" fn static_align(
         Ok(place) => {
             out[0] = to_word(place.area.start);
             out[1] = to_word(place.area.end);
-            out[2] = edge_code(place.align.keyword);
-            out[3] = safety_code(place.align.safety);
-            out[4] = edge_code(place.align.fallback);
+            out[2] = u32::from(place.align.keyword);
+            out[3] = u32::from(place.align.safety);
+            out[4] = u32::from(place.align.fallback);
             0
         }
     }

@@ -1,7 +1,7 @@
 /* Replays stored runs through the entries. Standard input has openings and replies, damaged ones among them; what is answered
- * and written is printed, and run.sh holds it to replay.stdout: what the published Rust answered, or the refusal that
- * document 01 names. Exits with 1 where a call, refused or not, wrote a word that it must keep, or where the input is no such
- * runs.
+ * and written is printed, and run.sh holds it to replay.stdout: what the published Rust answered or, where request #106 doesn't
+ * compare with the Rust, the second implementation, or the refusal that document 01 names. Exits with 1 where a call, refused
+ * or not, wrote a word that it must keep, or where the input is no such runs.
  *
  * replay.stdin, in hexadecimal words (tools/samples/replays.py writes it, and replay.stdout): the number of openings, each with
  * its replies, and of each

@@ -2,24 +2,26 @@
 """axis.py ORACLE: writes the samples of the computed tests of one axis: Quarter, Typical, Wild, Directed and Offsets in
 crates/test_oof_axis_samples/specs. Run at the root of the repository, then `rt fmt`.
 
-ORACLE is a program that runs taffy 0.15.1 on document 01's word records: `ORACLE gen PROFILE SEED COUNT` prints random cases (quarter:
-quarter pixels; wild: any float bits; typical: plausible CSS), `ORACLE run` lays cases out and answers `offset` lines. directed.py
-prints cases that lean to the rare branches. Cases of one item and one candidate are taken. A box gives two samples, x and y: the axis
-as steps 1 and 2 of document 01 resolve it, the final size, and the location and margins that its layout has."""
-import ctypes, random, struct, subprocess, sys
+ORACLE is the program of diff/oracle, on document 01's word records: `ORACLE gen PROFILE SEED COUNT` prints random cases (quarter:
+quarter pixels; wild: any float bits; typical: plausible CSS), `ORACLE answer` lays cases out, by taffy 0.15.1 or, where request #106
+doesn't compare with the Rust, by a second implementation, and `ORACLE run` answers `offset` lines by taffy 0.15.1. directed.py prints
+cases of rare branches. Cases of one item and one candidate are taken, as answers.py says. A box gives two samples, x and y: the axis as steps 1 and
+2 of document 01 resolve it, the final size, and the location and margins that its layout has. #106 changes sizes alone: the rules of an
+axis, given the size, stay the Rust's."""
+import ctypes, random, struct, sys
+
+sys.dont_write_bytecode = True
+import answers
+from answers import f32, of, run, words
 
 oracle = sys.argv[1]
 AUTO = 1 << 32
 # words of a length, the tag of a sum, and where a style's margins (a length) and codes stand
 LENGTH, SUM = 3, 129
 MARGIN, DIRECTION, JUSTIFY = 4, 70, 71
-here = sys.argv[0].rsplit('/', 1)[0]
 
-def f32(word): return struct.unpack('<f', struct.pack('<I', word))[0]
 def bits(x): return struct.unpack('<I', bytes(ctypes.c_float(x)))[0]
 def plain(word): return 0x7FC00000 if word & 0x7FFFFFFF > 0x7F800000 else word
-def run(args, text=None): return subprocess.run(args, input=text, capture_output=True, text=True, check=True).stdout
-def words(line): return [int(w, 0) for w in line.split()[1:]]
 
 def length(style, i, basis):
     tag, value, second = style[LENGTH * i:][:LENGTH]
@@ -35,16 +37,6 @@ def axis(area, style, cand, y):
     if keyword in (5, 6): keyword = keyword - 4 if y or style[DIRECTION] == area[4] else 7 - keyword
     return [plain(area[y])] + [length(style, 2 * y + k, area[y]) for k in (0, 1)] + [length(style, MARGIN + 2 * y + k, area[0]) for k in (0, 1)] \
         + [plain(w) for w in cand[3 + 5 * y:5 + 5 * y]] + cand[5 + 5 * y:8 + 5 * y] + [keyword, safety, int(not y), int(not y and area[4] == 1), int(area[6 + y] >= 2)]
-
-def boxes(profile, seed, wanted):
-    """Laid-out boxes of cases with one item and one candidate: area, style, candidate, layout."""
-    text = run([sys.executable, here + '/directed.py', str(seed), str(4 * wanted)] if profile == 'directed' else [oracle, 'gen', profile, str(seed), str(40 * wanted)])
-    cases = [[l for l in c.split('\n') if l and l[0] != '#'] for c in text.split('end\n')]
-    cases = [c for c in cases if sum(l.startswith('style') for l in c) == 1 and sum(l.startswith('cand') for l in c) == 1]
-    runs = run([oracle, 'run'], ''.join('\n'.join(c) + '\nend\n' for c in cases)).split('end\n')
-    for case, out in zip(cases, runs):
-        layout = [l for l in out.split('\n') if l.startswith('layout')]
-        if layout: yield [words([l for l in case if l.startswith(k)][0]) for k in ('area', 'style', 'cand')] + [words(layout[0])[1:]]
 
 def chain(ws): return '(' + ' ∷ '.join(map(str, ws)) + ' ∷ [])'
 
@@ -63,13 +55,19 @@ def write(name, said, kind, what, rows):
     open('crates/test_oof_axis_samples/specs/%s.antt' % name, 'w').write(HEAD % (said, kind, what, kind, what, '\n    ∷ '.join(rows)))
     print(name, len(rows))
 
+everything, files = answers.Tally(), []
 for profile, seed, wanted in (('quarter', 7, 60), ('typical', 7, 60), ('wild', 7, 60), ('directed', 7, 180)):
-    rows = []
-    for area, style, cand, layout in list(boxes(profile, seed, wanted))[:wanted]:
+    rows, tally = [], answers.Tally()
+    for area, style, cand, out, kinds in answers.boxes(oracle, profile, seed, wanted):
+        layout = words(of(out, 'layout')[0])[1:]
         for y in (0, 1):
             rows.append('record { axis = %s; offset = %d; size = %d; found = %s }' % (
                 chain(axis(area, style, cand, y)), plain(area[2 + y]), layout[1 + y], chain([layout[9 + y]] + layout[19 + 2 * y:21 + 2 * y])))
-    write(profile.capitalize(), 'Both axes of %d boxes that the Rust laid out (profile %s, seed %d).' % (len(rows) // 2, profile, seed), 'Sample', 'boxes', rows)
+        tally.add(kinds)
+        everything.add(kinds)
+    files.append((profile.capitalize(), 'Both axes of %s; those without are the Rust\'s. Profile %s, seed %d.' % (tally.said(), profile, seed), 'Sample', 'boxes', rows))
+everything.hold('by axis', answers.ALL_COMPARED | answers.ALL_OTHERS)
+for file in files: write(*file)
 
 r = random.Random(7)
 def number(): return bits(r.choice([float(r.randint(-100, 100)), r.uniform(-100, 100), r.randint(-400, 400) / 4]))

@@ -2,16 +2,19 @@
 """Writes the telling screens (screens/) and those at the limits of the format (screens/limits/), each with its list and its verdicts, and
 what crates/boxlist and crates/boxreach are run on.
 
-    tools/samples/boxlists.py ORACLE     writes all; ORACLE is the program of diff/oracle, which runs the published Rust
+    tools/samples/boxlists.py ORACLE     writes all; ORACLE is the program of diff/oracle
     tools/samples/boxlists.py --reach    writes all but the lists, from the stored lists
     tools/samples/boxlists.py --check    says whether all is what this script makes of it, and each screen has a list
 
-The screens come from here. A list (NAME.list, for `boxlist`) is what the published Rust makes of its screen or, where that is refused, the
-refusal by document 01's table, which ORACLE has a model of. The verdicts (NAME.reach, for `boxreach`) are what reach_model.py makes of
-the screen's first line and its list. None of it comes from the Rattle code."""
+The screens come from here. A list (NAME.list, for `boxlist`) is what the published Rust makes of its screen or, where request #106
+doesn't compare with the Rust, what ORACLE's second implementation does (`answers.py` says where that is); of a refused screen it is the
+refusal by document 01's table, which ORACLE has a model of. NAME.rust, of the screens in BESIDE, is the published Rust's list all the same. The verdicts
+(NAME.reach, for `boxreach`) are what reach_model.py makes of the screen's first line and its list. None of it comes from the Rattle
+code."""
 import os, subprocess, sys
 
 sys.dont_write_bytecode = True
+import answers
 import reach_model
 
 root = os.path.join(os.path.dirname(os.path.abspath(__file__)), '..', '..')
@@ -168,6 +171,25 @@ summed = (
     ], [candidate(k, order=k, x=(16, 16), y=(40, 40)) for k in range(8)])
 
 
+# labels with a size keyword and no insets, each where its anchor is. A stretched one goes from its anchor to the panel's edge, or as far on
+# both sides of a center. Node 3 is asked for its width in 500, and answers that
+def anchor(node, x, y, across=EDGE_START):
+    return candidate(node, order=node, x=(x, x), y=(y, y), edges=(across, 0, 0, EDGE_START, 0, 0))
+
+
+anchored = (
+    opening(800, 480), [
+        item(style(width=word(STRETCH)), (160, 66)),
+        item(style(width=word(STRETCH)), (160, 66)),
+        item(style(width=word(STRETCH)), (160, 66)),
+        item(style(width=word(FIT)), (500, 66)),
+        item(style(margin=(px(20), px(30), none, none), width=word(STRETCH)), (160, 66)),
+        item(style(width=px(120), height=word(STRETCH))),
+        item(style(width=word(STRETCH), height=word(STRETCH))),
+    ], [anchor(0, 300, 6), anchor(1, 500, 78, EDGE_END), anchor(2, 500, 150, EDGE_CENTER), anchor(3, 300, 222), anchor(4, 300, 294), anchor(5, 40, 372),
+        anchor(6, 300, 372)])
+
+
 def sixteenth(*overflow):
     """box 0 is centered left of the panel, and its free space is an odd count of eighths: x is half an eighth off. Box 1 is whole"""
     return screen(
@@ -212,9 +234,13 @@ telling = {
     'sums': screen(*summed),
     'layers': screen(*layered),
     'layers-arabic': screen(*mirrored(*layered)),
+    'anchor': screen(*anchored),
+    'anchor-arabic': screen(*mirrored(*anchored)),
 }
+# beside whose lists the published Rust's are stored too
+BESIDE = 'anchor', 'anchor-arabic'
 # each with a mirror image that has the same verdicts and the same layers
-IMAGES = {'incident': 'arabic', 'scrolled': 'scrolled-arabic', 'layers': 'layers-arabic', 'reach-touching': 'reach-touching-arabic'}
+IMAGES = {'incident': 'arabic', 'scrolled': 'scrolled-arabic', 'layers': 'layers-arabic', 'anchor': 'anchor-arabic', 'reach-touching': 'reach-touching-arabic'}
 
 ABOUT = {
     'incident': 'a label, and the note that said why a restore was refused, with numbers made up. It ends 8 pixels left of the panel: x −328 pixels (`-2624`), width 320. The overflow holds the label alone: no scrolling goes there. The label is seen, the note unseen. The note is on layer 1, above the label',
@@ -230,6 +256,10 @@ ABOUT = {
     'sums': 'sums of a percentage and a length ([picture](../docs/sums.svg)), in a panel of 800 by 480 at 16, 40 that scrolls. Nodes 0 and 1 are two columns, each "half the area less 36 px" wide, the second from "half the area and 12 px" on. Node 2, a label, stands "half the area less 12 px" from the left and from the top. Node 3 so from the right; its height is a sum of the area\'s height. Nodes 4 and 5 are as large as their content says, within a min or a max that is a sum; node 4\'s padding is one too. Node 6 ends 8 pixels before the panel, since its right inset is "the area and 8 px": unseen. Scrolling down brings up node 7',
     'layers': 'boxes that overlap, on four layers ([picture](../docs/layers.svg), [in which order they are drawn](../docs/SCREEN-FORMAT.md#in-which-order-boxes-are-drawn)): two reel labels (nodes 0 and 1) on layer 0, a note (2) on layer 2, an alarm (3) on layer 255, hoisted first and drawn last, and a mark (4) that is claimed twice, on layers 1 and 2. A further one is fixed, which this panel doesn\'t claim. Hoisted as nodes 3, 0, 2, 1, 4, 4, drawn as places 1, 3, 4, 2, 5, 0. The list doesn\'t tell the layers',
     'layers-arabic': 'its mirror image, right-to-left: the same layers, and so the same drawing order',
+    'anchor': 'labels with the size keyword stretch or fit-content and no insets, in a panel of 800 by 480 ([picture](../docs/anchor.svg)). Their anchors stand in mid-panel, and the size is measured from there: node 0, start edge at 300, is 500 wide and ends at the panel\'s edge. Node 1, end edge at 500, is 500 wide and begins at the other edge. Node 2, center at 500, reaches as far to the left as to the right: 600. Node 3, fit-content at 300, is asked for its width in a space of 500, and answers 500. Node 4 has margins of 20 and 30: 450. Node 5 is stretched down from 372: 108 high. Node 6 is stretched both ways. The overflow ends where the panel does: nothing runs off it. By the published Rust all but node 3 do',
+    'anchor-arabic': 'its mirror image, right-to-left: the same sizes, and in each row the two x and the width add up to 800',
+    'limits/keywords-block': 'the size keyword stretch in an area of 100, by where the box stands. No insets, node 0 to 4: start edge at 40 is 60 wide, end edge at 70 is 70, center at 30 is 60, center at 50 is 100, start edge at 120 is 0. Node 5 has one inset of 30, and is 70 wide. Nodes 6 and 7 have insets that cross, 60 and 60, or one of 120: their block is 0, and with margins of −30 and −30 each is 60 wide',
+    'limits/keywords-both-insets': 'size keywords with both insets of each axis given, in whole quarter pixels: such sizes are the Rust\'s. Nodes 5 and 6 have insets that leave a block of 0: 60 by 60 with margins of −30, else 0 by 0',
     'limits/list-largest': 'one box at the largest numbers that the list prints; the overflow\'s right is larger, and prints `*`',
     'limits/items-128-candidates-256': 'the longest screen, 159,599 bytes, and the longest list: 256 rows, one on each layer',
     'limits/one-byte-too-long': 'such a screen and one byte more, all that the programs read: refusal 8',
@@ -291,6 +321,29 @@ def tiny(boxes, o):
 touching = [(-2, 3, 2, 5), (-2, 3, 3, 5), (7, 3, 2, 5), (8, 3, 2, 5), (3, -4, 2, 4), (3, -4, 2, 5), (3, 15, 2, 4), (3, 16, 2, 4), (-2, -2, 3, 3), (20, 40, 4, 6)]
 flat = [(0, 0, 0, 5), (0, 0, 5, 0), (10, 4, 0, 5), (2, 2, 1, 1), (60, 70, 1, 1)]
 
+# stretch in an area of 100, by what leads to the block: no insets and the anchor, one inset, insets that cross
+pull = (px(-30), px(-30), none, none)
+blocks = (
+    opening(100, 100), [
+        *[item(style(top=px(10 * k), width=word(STRETCH), height=px(8))) for k in range(5)],
+        item(style(left=px(30), top=px(50), width=word(STRETCH), height=px(8))),
+        item(style(left=px(60), right=px(60), top=px(60), margin=pull, width=word(STRETCH), height=px(8))),
+        item(style(left=px(120), top=px(70), margin=pull, width=word(STRETCH), height=px(8)))],
+    [*(anchor(k, x, 0, edge) for k, (x, edge) in enumerate([(40, EDGE_START), (70, EDGE_END), (30, EDGE_CENTER), (50, EDGE_CENTER), (120, EDGE_START)])),
+     *(candidate(k, order=k) for k in (5, 6, 7))])
+
+# every keyword that isn't a percentage, in both axes
+both_insets = (
+    opening(600, 400), [
+        item(style(px(10), px(10), px(60), px(60), width=word(STRETCH), height=word(STRETCH))),
+        item(style(px(100), px(100), px(0), px(300), width=word(FIT), height=word(FIT)), (320, 20)),
+        item(style(px(10), px(490), px(10), px(350), width=word(MIN_CONTENT), height=word(MAX_CONTENT)), (90, 40)),
+        item(style(px(20), px(80.25), px(100), px(100), width=word(MAX_CONTENT), height=word(MIN_CONTENT)), (180, 220)),
+        item(style(px(0), px(0), px(0), px(0), width=word(FIT_PX, 150), height=word(FIT_PX, 75)), (140, 60)),
+        item(style(px(350), px(250), px(240), px(160), margin=(px(-30),) * 4, width=word(STRETCH), height=word(STRETCH))),
+        item(style(px(350), px(250), px(240), px(160), width=word(STRETCH), height=word(STRETCH)))],
+    [candidate(k, order=k) for k in range(7)])
+
 limits = {
     'example': example,
     'empty': b'',
@@ -350,6 +403,8 @@ limits = {
     'refusal-4-node': one(candidate=put(CANDIDATE, 0, 1)),
     'refusal-3-before-layer': one(style=put(example_style, 0, 2), candidate=put(CANDIDATE, LAYER, 256)),
     'refusal-4-no-item': screen(opening(800, 480), [], [candidate(0)]),
+    'keywords-block': screen(*blocks),
+    'keywords-both-insets': screen(*both_insets),
     'reach-touching': screen(*tiny(touching, opening(1, 2, x=3, y=-5, overflow=(SCROLL, HIDDEN)))),
     'reach-touching-arabic': screen(*mirrored(*tiny(touching, opening(1, 2, x=3, y=-5, overflow=(SCROLL, HIDDEN))))),
     'reach-still': screen(*tiny(touching, opening(1, 2, overflow=(VISIBLE, CLIP)))),
@@ -377,13 +432,45 @@ overflow       0    4000       0     960
 """
 
 
-def files(lists):
+def listed(oracle, text):
+    """the list of a screen, or its refusal"""
+    printed = subprocess.run([oracle, 'screen', '--by'], input=text, stdout=subprocess.PIPE, check=True).stdout
+    by, lines = answers.parted(printed)
+    assert by == (None if is_refusal(lines) else answers.by_whom(text)[0]), (by, text)
+    return lines
+
+
+def listed_by_rust(oracle, text):
+    return subprocess.run([oracle, 'screen', '--rust'], input=text, stdout=subprocess.PIPE, check=True).stdout
+
+
+def is_refusal(lines):
+    return lines.startswith(reach_model.REFUSED)
+
+
+def sizes(printed):
+    """width and height of the boxes of a list, in pixels"""
+    return [tuple(int(n) / 8 for n in reach_model.columns(row, 8)[3:5]) for row in printed.splitlines()[1:-1]]
+
+
+# sizes by hand, from request #106
+SIZES = {
+    'anchor': [(500, 66), (500, 66), (600, 66), (500, 66), (450, 66), (120, 108), (500, 108)],
+    'keywords-block': [(w, 8) for w in (60, 70, 60, 100, 0, 70, 60, 60)],
+    'keywords-both-insets': [(580, 280), (320, 20), (90, 40), (180, 220), (140, 60), (60, 60), (0, 0)],
+}
+SIZES['anchor-arabic'] = SIZES['anchor']
+
+
+def files(lists, by_rust):
     """every file that this script writes, by its place; lists by name, None where there is none"""
     out = {}
     for name, text in {**telling, **limits}.items():
         out[place(name) + '.screen'] = text
         out[place(name) + '.list'] = lists[name]
         out[place(name) + '.reach'] = lists[name] and reach_model.printed(text, lists[name])
+    for name in BESIDE:
+        out[place(name) + '.rust'] = by_rust[name]
     for name, image in IMAGES.items():
         assert out[place(name) + '.reach'] == out[place(image) + '.reach'], name
         assert layers(out[place(name) + '.screen']) == layers(out[place(image) + '.screen']), name
@@ -392,7 +479,7 @@ def files(lists):
     if os.path.isdir(os.path.join(root, 'crates/boxreach')):
         out['crates/boxreach/stdin'] = telling['scrolled']
         out['crates/boxreach/stdout'] = out[place('scrolled') + '.reach']
-    out['screens/README.md'] = readme().encode()
+    out['screens/README.md'] = readme(lists).encode()
     return out
 
 
@@ -407,13 +494,20 @@ def place(name):
     return ('screens/' if name in telling else 'screens/limits/') + name
 
 
-def readme():
+def names_by(by, lists):
+    """the screens with a list whose placed items with a size keyword are so answered"""
+    found = ((n, *answers.by_whom(t)) for n, t in {**telling, **limits}.items() if lists[n] and not is_refusal(lists[n]))
+    return [place(n)[len('screens/'):] for n, whose, boxes in found if boxes and whose == by]
+
+
+def readme(lists):
     return """# Telling screens
 
 Each `NAME.screen` is a [screen file](../docs/SCREEN-FORMAT.md). Beside it stand what two programs print of it, byte for byte:
 
-- `NAME.list`, by `boxlist`: where each box goes. It is what the published Rust makes of the screen or, where it is refused, the refusal by document 01's table.
+- `NAME.list`, by `boxlist`: where each box goes. It is what the published Rust makes of the screen or, where it is refused, the refusal by document 01's table. Where request #106 doesn't compare with the Rust, it is what a second implementation makes of it ([diff/oracle](../diff/oracle/README.md)): """ + ', '.join('`%s`' % n for n in names_by('second', lists)) + """.
 - `NAME.reach`, by `boxreach`: [which boxes scrolling brings up](../docs/SCREEN-FORMAT.md#can-each-box-be-reached). It is worked out from the screen's first line and its list, by a search over the offsets (`tools/samples/reach_model.py`).
+- `NAME.rust`, of """ + ' and '.join('`%s`' % n for n in BESIDE) + """: the published Rust's list all the same, as it was before request #106. The picture shows both.
 
 Such as:
 
@@ -447,15 +541,21 @@ def main():
     texts = {**telling, **limits}
     if sys.argv[1] in ('--check', '--reach'):
         lists = {n: stored(place(n) + '.list') for n in texts}
+        by_rust = {n: stored(place(n) + '.rust') for n in BESIDE}
     else:
-        lists = {n: subprocess.run([sys.argv[1], 'screen'], input=t, stdout=subprocess.PIPE, check=True).stdout for n, t in texts.items()}
+        lists = {n: listed(sys.argv[1], t) for n, t in texts.items()}
+        by_rust = {n: listed_by_rust(sys.argv[1], texts[n]) for n in BESIDE}
     assert lists['example'] in (None, EXAMPLE)
-    made = files(lists)
+    for name, wanted in SIZES.items():
+        assert lists[name] is None or sizes(lists[name]) == wanted, (name, sizes(lists[name]))
+    made = files(lists, by_rust)
     if sys.argv[1] == '--check':
         wrong = [p for p, text in made.items() if text is None or stored(p) != text] + left_over(made)
         for p in wrong:
             print(p, 'is not what tools/samples/boxlists.py writes')
         sys.exit(1 if wrong else 0)
+    print('%d screens; with a placed item with a size keyword: %s by the published Rust, %s by the second implementation' % (
+        len(texts), *(len(names_by(by, lists)) for by in ('rust', 'second'))))
     for p, text in made.items():
         if text is not None:
             p = os.path.join(root, p)

@@ -1,5 +1,5 @@
 """What `boxreach` must print for a screen, worked out apart from the Rattle code: from the first line of the screen and from what
-`boxlist` must print for it (the published Rust's boxes and overflow rectangle), by a search over the scroll offsets in the words of
+`boxlist` must print for it (boxes and overflow rectangle, as boxlists.py has them), by a search over the scroll offsets in the words of
 request #102 (docs/02-change-requests.md). Used by boxlists.py, tools/run-screens and diff/screens.
 
     printed(screen, list) -> the bytes that boxreach must print

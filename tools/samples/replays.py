@@ -1,19 +1,21 @@
 #!/usr/bin/env python3
-"""Writes the runs that hosts/c/replay.c replays, and what it must print (hosts/c/replay.stdin and replay.stdout): runs of the Rust with
-surfaced boxes, and damaged calls between them. A call is damaged by its reply, by words that the host rewrote, by a state that the host
-forged, or by several of these.
+"""Writes the runs that hosts/c/replay.c replays, and what it must print (hosts/c/replay.stdin and replay.stdout): runs with surfaced boxes
+by the published Rust or, where request #106 doesn't compare with the Rust, by a second implementation, and damaged calls between them. A
+call is damaged by its reply, by words that the host rewrote, by a state that the host forged, or by several of these.
 
     tools/samples/replays.py ORACLE [RUNS]
 
-ORACLE is a program that runs the published Rust on word records (`gen`, `fix`, `run`); RUNS (70 unless said) is the number of runs of each
-of its three profiles. What the runs must answer and write is the Rust's, but for the layers, which it hasn't: those of the lists are the
+ORACLE is the program of diff/oracle (`gen`, `answer`); RUNS (70 unless said) is the number of runs of each of its three profiles, taken as
+answers.py says. What the runs must answer and write is `answer`'s, but for the layers, which it hasn't: those of the lists are the
 layers of the candidates and surfaced records that went there, in turn. What a damaged call must answer is worked out here from document
 01's table of refusals. A damaged call changes nothing, so that the run goes on after it as if it had not been made. Now and then the count
 of answered questions is forged within its bound: that call is accepted, and the finish has the forged count.
 """
 import pathlib
-import subprocess
 import sys
+
+sys.dont_write_bytecode = True
+import answers
 
 STYLE, CANDIDATE, LAYOUT = 79, 14, 23
 # words of a length: tag, value, second value
@@ -154,19 +156,11 @@ def forgery(draw, state, run):
     return what, draw.pick([n[0] % 2**32, n[1], 0xFFFFFFFF])
 
 
-# ---- the Rust's runs
+# ---- the runs
 
 
-def cases(text):
-    """Cases or transcripts: each a list of lines as fields."""
-    case = []
-    for line in text.splitlines():
-        fields = line.split()
-        if fields[0] == "end":
-            yield case
-            case = []
-        elif fields[0] != "case":
-            case.append(fields)
+def fields(lines):
+    return [line.split() for line in lines]
 
 
 def words(fields):
@@ -209,7 +203,7 @@ class Script:
 
 
 def layered(area, candidates, answer):
-    """Both lists as the run leaves them: the Rust's words, and behind each record the layer of what went there."""
+    """Both lists as the run leaves them: the answer's words, and behind each record the layer of what went there."""
     given = candidates + [w for f in answer if f[0] == "reply" for w in words(f[1:])[4:]]
     lists = {}
     for name, inside in (("working", True), ("unclaimed", False)):
@@ -221,7 +215,7 @@ def layered(area, candidates, answer):
 
 
 def replay(script, draw, case, answer):
-    """One run of the Rust, with damaged calls in between."""
+    """One run, with damaged calls in between."""
     area = next(words(f[1:]) for f in case if f[0] == "area")
     styles = [w for f in case if f[0] == "style" for w in words(f[1:])]
     candidates = [w for f in case if f[0] == "cand" for w in words(f[1:])]
@@ -348,15 +342,19 @@ def main():
     oracle, runs = sys.argv[1], int(sys.argv[2]) if len(sys.argv) > 2 else 70
     script, draw = Script(), Draw(20)
 
-    def ask(*args, text=""):
-        return subprocess.run([oracle, *args], input=text, capture_output=True, text=True, check=True).stdout
-
+    tally, compared = answers.Tally(), 0
     for seed, profile in enumerate(("quarter", "wild", "typical"), 1):
-        generated = ask("gen", profile, str(seed), str(runs), "6")
-        for case, answer in zip(cases(ask("fix", text=generated)), cases(ask("run", text=generated))):
-            replay(script, draw, case, answer)
+        cases = answers.cut(answers.run([oracle, "gen", profile, str(seed), str(10 * runs), "6"]))
+        found = [(case, out, answers.placed(case, by, out, same)) for case, (by, out, same) in zip(cases, answers.answered(oracle, cases))]
+        for case, answer, boxes in answers.chosen(found, runs, lambda f: set().union(*f[2])):
+            replay(script, draw, fields(case[1:]), fields(answer[1:]))
             if draw.below(2) == 0:
-                refuse_opening(script, draw, case)
+                refuse_opening(script, draw, fields(case[1:]))
+            for kinds in boxes:
+                tally.add(kinds)
+            compared += "second" not in set().union(*boxes)
+    tally.hold("replays", answers.ALL_COMPARED | {answers.UNLIKE})
+    print(f"{compared} of {3 * runs} runs by the Rust")
     (HERE / "replay.stdin").write_text("\n".join([f"{script.runs:x}", *script.input]) + "\n")
     (HERE / "replay.stdout").write_text("\n".join(script.output) + "\n")
 

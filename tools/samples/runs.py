@@ -1,15 +1,20 @@
 #!/usr/bin/env python3
 """runs.py ORACLE: writes the recorded runs of the computed test of a call, crates/test_run_rows/specs/Runs.antt, and the test itself,
-crates/test_run_rows/proofs/Computed.antt, whose `unfolding` line names every definition that a call leans on. Run at the root of the
+crates/test_run_rows/proofs/Computed.antt, whose `unfolding` line names every definition that a call uses. Run at the root of the
 repository, then `rt fmt`.
 
-ORACLE is a program that runs taffy 0.15.1 on document 01's word records: `ORACLE gen PROFILE SEED COUNT SURFACED` prints random cases
-(quarter: quarter pixels; wild: any float bits; typical: plausible CSS) whose host surfaces SURFACED candidates at most, `ORACLE run`
-lays them out. Of each profile the first WANTED runs are taken that have two items or more, two candidates or more, from 3 to MOST
-questions, a surfaced candidate that is claimed and a candidate that isn't, and that differ in the kinds of their questions. Each list is
-lent one record more than the run fills, and each slice is full of UNUSED words. The Rust has no layers: those of the lists are the
-layers of the candidates and surfaced records that went there, in turn."""
-import re, subprocess, sys
+ORACLE is the program of diff/oracle, on document 01's word records: `ORACLE gen PROFILE SEED COUNT SURFACED` prints random cases
+(quarter: quarter pixels; wild: any float bits; typical: plausible CSS) whose host surfaces SURFACED candidates at most, `ORACLE answer`
+lays them out, by taffy 0.15.1 or, where request #106 doesn't compare with the Rust, by a second implementation. Of each profile WANTED
+runs are taken, as answers.py says, of those that have two items or more, two candidates or more, from 3 to MOST questions, a surfaced
+candidate that is claimed and a candidate that isn't, and that differ in the kinds of their questions. Each list is lent one record more than the run fills,
+and each slice is full of UNUSED words. Neither implementation has layers: those of the lists are the layers of the candidates and surfaced
+records that went there, in turn."""
+import re, sys
+
+sys.dont_write_bytecode = True
+import answers
+from answers import of
 
 oracle = sys.argv[1]
 SEED, SURFACED, MOST, WANTED, UNUSED = 11, 2, 8, 4, 7
@@ -19,10 +24,8 @@ NAMED = dict(none=1 << 32, min=1 << 32, max=(1 << 32) + 1)
 KINDS = dict(both=0, width=1, height=2, layout=3)
 FOLDER = 'crates/test_run_rows/'
 
-def run(args, text=None): return subprocess.run(args, input=text, capture_output=True, text=True, check=True).stdout
 def number(w): return NAMED[w] if w in NAMED else int(w, 0)
 def words(line): return [number(w) for w in line.split()[1:]]
-def of(lines, kind): return [l for l in lines if l.startswith(kind + ' ')]
 def flat(rows): return [w for row in rows for w in row]
 def chain(ws): return '(' + ''.join('%s ∷ ' % w for w in ws) + '[])'
 
@@ -38,7 +41,7 @@ def candidates(case, out):
     return [words(l) for l in of(case, 'cand')] + [surfaced[i:i + CANDIDATE] for i in range(0, len(surfaced), CANDIDATE)]
 
 def layered(case, out, name, inside):
-    """The words of a list: the Rust's, and behind each record its layer."""
+    """The words of a list: the answer's, and behind each record its layer."""
     area = words(of(case, 'area')[0])
     layers = [c[LAYER] for c in candidates(case, out) if claimed(area, c) == inside]
     records = [words(l) for l in of(out, name)]
@@ -65,20 +68,27 @@ def surfaces(case, out):
     area = words(of(case, 'area')[0])
     return len(of(out, 'working')) > sum(claimed(area, words(l)) for l in of(case, 'cand')) > 0 and of(out, 'unclaimed')
 
-def taken(profile, wanted):
-    cases = [c.split('\n') for c in run([oracle, 'gen', profile, str(SEED), '2000', str(SURFACED)]).split('end\n') if c.strip()]
-    runs = [r.split('\n') for r in run([oracle, 'run'], ''.join('\n'.join(c) + 'end\n' for c in cases)).split('end\n') if r.strip()]
-    seen, rows = set(), []
-    for case, out in zip(cases, runs):
-        kinds = tuple(l.split()[1] for l in of(out, 'ask'))
-        if len(of(case, 'style')) < 2 or len(of(case, 'cand')) < 2 or not 3 <= len(kinds) <= MOST or not surfaces(case, out) or kinds in seen: continue
-        seen.add(kinds)
-        rows.append(record(case, out))
-        print(profile, *kinds)
-        if len(rows) == wanted: return rows
+def kinds_of(case, out): return tuple(l.split()[1] for l in of(out, 'ask'))
 
-rows = [row for profile in ('quarter', 'typical', 'wild') for row in taken(profile, WANTED)]
-open(FOLDER + 'specs/Runs.antt', 'w').write('''-- %d whole runs of the Rust with surfaced boxes (profiles quarter, typical, wild; seed %d).
+def taken(profile):
+    """cases, answers and the kinds of the placed boxes"""
+    cases = answers.cut(answers.run([oracle, 'gen', profile, str(SEED), '2000', str(SURFACED)]))
+    found = []
+    for case, (by, out, same) in zip(cases, answers.answered(oracle, cases)):
+        if len(of(case, 'style')) >= 2 and len(of(case, 'cand')) >= 2 and 3 <= len(kinds_of(case, out)) <= MOST and surfaces(case, out):
+            found.append((case, out, answers.placed(case, by, out, same)))
+    return list(answers.chosen(found, WANTED, lambda f: set().union(*f[2]), lambda f: kinds_of(*f[:2])))
+
+rows, tally, compared = [], answers.Tally(), 0
+for profile in ('quarter', 'typical', 'wild'):
+    for case, out, boxes in taken(profile):
+        rows.append(record(case, out))
+        print(profile, *kinds_of(case, out))
+        for kinds in boxes: tally.add(kinds)
+        compared += 'second' not in set().union(*boxes)
+tally.hold('runs', {('stretch', 'x'), answers.UNLIKE})
+open(FOLDER + 'specs/Runs.antt', 'w').write('''-- %d whole runs with surfaced boxes, %d of them by the published Rust (profiles quarter, typical, wild; seed %d).
+-- %s.
 -- Made by tools/samples/runs.py: edit that, not this. Assumes nothing.
 use Rattle.std.specs.Prelude.{List, [], ◌∷◌}
 use Rattle.test_run_rows.specs.Script.{Run, both, width, height, laid}
@@ -87,7 +97,7 @@ unfoldable pub runs : List Run
 runs =
     %s
     ∷ []
-''' % (len(rows), SEED, '\n    ∷ '.join(rows)))
+''' % (len(rows), compared, SEED, tally.said(), '\n    ∷ '.join(rows)))
 
 # ---- the test: every definition on the way, by its module; of two names that are alike, the later one is primed
 
@@ -97,8 +107,8 @@ geometry Geometry
 style Codes Values Resolve
 records Records
 style_record Record Check Decode
-tree Static
-tree_record Codes Candidate Layout
+tree Static Codes
+tree_record Candidate Layout
 sweep Sweep
 oof_common ScrollableOverflow SizingKeyword
 oof_axis Axis

@@ -158,7 +158,8 @@ ThreeQuestionsEach =
 -- contracts are equations with the definition, and by it the calls are the straight run (run/specs/Straight.antt) of boxes that each read
 -- straight through (oof_box/specs/Box.antt). This holds after each call, whatever replies were refused before it.
 -- That the definition is CSS's is no theorem. What holds it to CSS: the laws of one axis and of one box (oof_axis/specs/Laws.antt,
--- oof_axis_laws/specs, oof_box_laws/specs), document 01's rows, and the differential runs beside the Rust (docs/DIFFERENCES.md).
+-- oof_axis_laws/specs, oof_box_laws/specs), document 01's rows, and the differential runs beside the Rust
+-- or, for size keywords off request #106's set, a second implementation (docs/DIFFERENCES.md).
 
 abbrev pub EqualsStraightRun : Type 0
 EqualsStraightRun =

@@ -1,4 +1,4 @@
--- The definitions agree with the boxes that the Rust laid out, by computation: zeros are equal, and so are NaNs.
+-- The definitions agree with the stored boxes, by computation: zeros are equal, and so are NaNs.
 use Rattle.std.specs.Prelude.{is_some, unwrap_or}
 use mathlib.Core.Path.{◌≡◌, refl}
 use mathlib.Core.Bool.{true}

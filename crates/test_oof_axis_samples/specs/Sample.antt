@@ -1,4 +1,4 @@
--- One axis of a box that the Rust laid out, in words, and whether the definition agrees. Assumes nothing.
+-- One axis of a stored box, in words, and whether the definition agrees. Assumes nothing.
 use Rattle.std.specs.Prelude.{ℕ, zero, suc, Bool, true, cond, ◌&&◌, ◌||◌, List, [], ◌∷◌, eqb, Float, None, Option, Some}
 use Rattle.std.specs.Float.Ieee.{eq, is_nan, of_bits}
 use Rattle.std.specs.Float.{binary32}
@@ -63,7 +63,7 @@ static_of ws n offset =
 
 -- ---- boxes
 
--- an axis of a laid-out box: what it was laid out with, and what the Rust found
+-- an axis of a laid-out box: what it was laid out with, and what was found
 pub record Sample : Type 0 where
   -- block size; insets and margins, start and end; static position (5 words); alignment keyword, safety; inline, reversed, scrolls
   pub axis : List ℕ

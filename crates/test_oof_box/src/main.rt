@@ -1,6 +1,7 @@
-// Replays on the code 2,000 boxes that the Rust laid out, read from standard input: every question, the layout and the finish
-// rectangle. Then document 01's rows 12 and 13, whose numbers it must write. tools/samples/boxes.py made the input and says how a
-// box stands in it.
+// Replays on the code 2,000 boxes, read from standard input: every question, the layout and the finish rectangle. The Rust laid them out
+// or, where request #106 doesn't compare with the Rust, the second implementation did. Then document 01's rows 12 and 13, whose numbers it
+// must write.
+// tools/samples/boxes.py made the input and says how a box stands in it.
 #![tactic(auto)]
 
 ghost use Rattle.std.specs.Prelude.{◌≡◌, length};

@@ -1,4 +1,4 @@
--- The definition asks, lays out and contributes what the Rust did, by computation: zeros are equal, and so are NaNs.
+-- The definition asks, lays out and contributes what the Rust or the second implementation did, by computation: zeros are equal, and so are NaNs.
 use Rattle.std.specs.Prelude.{is_some, option_map, unwrap_or}
 use Rattle.std.specs.Option.{option_or}
 use mathlib.Core.Path.{◌≡◌, refl}

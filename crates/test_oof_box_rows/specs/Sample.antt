@@ -1,4 +1,5 @@
--- A box that the Rust laid out, in words, and whether the definition asks, lays out and contributes the same. Assumes nothing.
+-- A stored box in words, laid out by the Rust or, where request #106 doesn't compare with the Rust, by the second implementation, and whether
+-- the definition asks, lays out and contributes the same. Assumes nothing.
 use Rattle.std.specs.Prelude.{ℕ, Bool, true, false, cond, ◌&&◌, List, [], ◌∷◌, eqb, get_or, Float, None, Option, Some}
 use Rattle.std.specs.Float.Ieee.{to_bits}
 use Rattle.std.specs.Float.{binary32}

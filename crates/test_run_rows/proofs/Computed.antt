@@ -9,7 +9,7 @@ use Rattle.test_run_rows.specs.Readings.{px, minus, length_of, lengths, item, si
 use Rattle.util.specs.Order.{zero_of, before, larger, smaller, magnitude}
 use Rattle.util.specs.Maybe.{map_add, map_larger, at_most, at_least, clamped, map_clamped}
 use Rattle.geometry.specs.Geometry.{rect_or_zero, sum_x, sum_y, sums, rect_sum, union_of, smaller_size, definite, both_present, first_size, filled_size, added_size, raised_size, clamped_size, clamped_floats, completed, with_ratio}
-use Rattle.style.specs.Codes.{position_code, position_of, sizing_code, overflow_code, direction_code, safety_code, keyword_code, bits_code, sizing_of, overflow_of, direction_of, safety_of, keyword_of, alignment_of, contain_of}
+use Rattle.style.specs.Codes.{position_code, sizing_code, overflow_code, direction_code, safety_code, keyword_code, bits_code, position_of, sizing_of, overflow_of, direction_of, safety_of, keyword_of, alignment_of, contain_of}
 use Rattle.style.specs.Values.{self_relative, clamped_space, clamped_spaces, definite_spaces}
 use Rattle.style.specs.Resolve.{by_tag, resolved, takes, maybe_resolved, resolved_rect, resolved_size}
 use Rattle.records.specs.Records.{record_at, records, room, written, wrong, canonical_word, canonical_from, every, breaks, good, good_records}
@@ -33,5 +33,5 @@ use Rattle.run.specs.Run.{box_at_hand, asking, finishing, proceeding, opening_ve
 use Rattle.run.specs.Theorems.{asked_at_opening, asked_with, asked_for_in, next, heeded, hearing, laid_into}
 
 calls_agree : (all_agree runs ≡ true) × (all readings ≡ true)
-unfolding add sub mul div neg lt le eq is_nan sum round units odd size span climb of_bits to_bits of_fields nan_bits of_int opening_of both width height laid known_word space_word measure_words question_words answer_words told plain same same_all lent_to agrees all_agree runs px minus length_of lengths item sized box broken candidate on_layer absolute fixed bad_absolute bad_fixed over left opening_in opening reply surfacing lending with_extents with_counts at_lay_out refuses measures_both measures_width measures_height lays_out finishes unwritten counts laid_at never_laid box_asked box_end all refused_opening lending57 one_more opened_box finished lengths_kept twelve measuring measured surfaced_by_kind limits unclaimed_only without_boxes styles opened_two after_one rewriting rewriting_unclaimed candidates opened_in_two full_by_one full counted forged pair opened_pair redirected kept first least_by_stretch least_by_most least_by_auto narrow hundred_by_least stretch_by_least measures claimed_twice layouts flat_box outside overflows thirteen over_words rewriting_unclaimed_layer aside surfacing_two shifted layers in_order readings zero_of before larger smaller magnitude map_add map_larger at_most at_least clamped map_clamped rect_or_zero sum_x sum_y sums rect_sum union_of smaller_size definite both_present first_size filled_size added_size raised_size clamped_size clamped_floats completed with_ratio sizing_code overflow_code direction_code safety_code keyword_code bits_code sizing_of overflow_of direction_of safety_of keyword_of alignment_of contain_of self_relative clamped_space clamped_spaces definite_spaces by_tag resolved takes maybe_resolved resolved_rect resolved_size record_at records room written wrong canonical_word canonical_from every breaks good good_records length_field length_kinds code_kinds kind_of items safety_breaks breaks_as breaks_rule breaks' first_from first_broken or_rest checked_from checked length_at rect_at size_at align_at ratio_at overflow_at style_of style_at from_alignment shifted_axis translated position_code position_of edge_code edge_of axis_of candidate_of candidate_words rect_of layout_of layout_words first_candidates candidates_in moved side keep list_words swept propagates reach placed_at contribution by_keyword of_resolved keyword_of' absolute_stretch if_absent keywords_of from_resolved align_in centered_block static_block inset_block start_is_weaker repaired block both_insets stretch_fit stretching stretches is_stretch halves filled_margins margins is_normal align_edge limit kept_within self_aligned static_aligned position_in position placement of_width of_each_axis less_offset horizontal vertical padding_or_border style_size min_size less_margins space_for resolved_box scrollbar_of layout_of' from_origin box_layout keyword_stretch size_keywords settled width_as height_as in_turn by_keywords keyword_sizes ignores_ratio stretch_ratio widened heightened raised_min stretched final_size measured' placed taken known_by stretched_by size_by keyword_asked size_asked asked_of asked_after layout_after ◌when◌else◌ bad_area bad_table bad_list bad_slices other_lengths bad_style bad_candidate list_full wrong_counts box_at_hand asking finishing proceeding opening_verdict closed begun opened taken_by reply_verdict measured_on laid_out replied asked_at_opening asked_with asked_for_in next heeded hearing laid_into
+unfolding add sub mul div neg lt le eq is_nan sum round units odd size span climb of_bits to_bits of_fields nan_bits of_int opening_of both width height laid known_word space_word measure_words question_words answer_words told plain same same_all lent_to agrees all_agree runs px minus length_of lengths item sized box broken candidate on_layer absolute fixed bad_absolute bad_fixed over left opening_in opening reply surfacing lending with_extents with_counts at_lay_out refuses measures_both measures_width measures_height lays_out finishes unwritten counts laid_at never_laid box_asked box_end all refused_opening lending57 one_more opened_box finished lengths_kept twelve measuring measured surfaced_by_kind limits unclaimed_only without_boxes styles opened_two after_one rewriting rewriting_unclaimed candidates opened_in_two full_by_one full counted forged pair opened_pair redirected kept first least_by_stretch least_by_most least_by_auto narrow hundred_by_least stretch_by_least measures claimed_twice layouts flat_box outside overflows thirteen over_words rewriting_unclaimed_layer aside surfacing_two shifted layers in_order readings zero_of before larger smaller magnitude map_add map_larger at_most at_least clamped map_clamped rect_or_zero sum_x sum_y sums rect_sum union_of smaller_size definite both_present first_size filled_size added_size raised_size clamped_size clamped_floats completed with_ratio position_code sizing_code overflow_code direction_code safety_code keyword_code bits_code position_of sizing_of overflow_of direction_of safety_of keyword_of alignment_of contain_of self_relative clamped_space clamped_spaces definite_spaces by_tag resolved takes maybe_resolved resolved_rect resolved_size record_at records room written wrong canonical_word canonical_from every breaks good good_records length_field length_kinds code_kinds kind_of items safety_breaks breaks_as breaks_rule breaks' first_from first_broken or_rest checked_from checked length_at rect_at size_at align_at ratio_at overflow_at style_of style_at from_alignment shifted_axis translated edge_code edge_of axis_of candidate_of candidate_words rect_of layout_of layout_words first_candidates candidates_in moved side keep list_words swept propagates reach placed_at contribution by_keyword of_resolved keyword_of' absolute_stretch if_absent keywords_of from_resolved align_in centered_block static_block inset_block start_is_weaker repaired block both_insets stretch_fit stretching stretches is_stretch halves filled_margins margins is_normal align_edge limit kept_within self_aligned static_aligned position_in position placement of_width of_each_axis less_offset horizontal vertical padding_or_border style_size min_size less_margins space_for resolved_box scrollbar_of layout_of' from_origin box_layout keyword_stretch size_keywords settled width_as height_as in_turn by_keywords keyword_sizes ignores_ratio stretch_ratio widened heightened raised_min stretched final_size measured' placed taken known_by stretched_by size_by keyword_asked size_asked asked_of asked_after layout_after ◌when◌else◌ bad_area bad_table bad_list bad_slices other_lengths bad_style bad_candidate list_full wrong_counts box_at_hand asking finishing proceeding opening_verdict closed begun opened taken_by reply_verdict measured_on laid_out replied asked_at_opening asked_with asked_for_in next heeded hearing laid_into
 calls_agree = (refl, refl)

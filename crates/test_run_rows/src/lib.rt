@@ -1,2 +1,2 @@
-// Worked examples of a call, computed from its definition: whole runs of the Rust, and the inputs that tell the readings of document 01 apart.
+// Worked examples of a call, computed from its definition: stored runs, and the inputs that tell the readings of document 01 apart.
 #![tactic(auto)]

@@ -34,6 +34,11 @@ pub struct Question {
 pub trait Host {
     fn answer(&mut self, question: &Question) -> Vec<u32>;
 }
+impl Host for Box<dyn Host> {
+    fn answer(&mut self, question: &Question) -> Vec<u32> {
+        (**self).answer(question)
+    }
+}
 
 /// What laying out one box wrote
 #[derive(Copy, Clone, Debug, PartialEq)]

@@ -1,7 +1,9 @@
-//! Document 01's screen file: what `boxlist` must print for it, by the published Rust. Also random screens.
+//! Document 01's screen file: what `boxlist` must print for it (`set::answer`). Also random screens.
 use crate::case::{at, float, Case, CANDIDATE, LENGTH, LENGTHS, STYLE, SUM};
+use crate::gen;
 use crate::host::Random;
-use crate::run::{run, Host, Kind, Question};
+use crate::run::{run, Host, Kind, Question, Transcript};
+use crate::set::{answer, By};
 
 const LIMIT: i64 = 9_999_999;
 /// The style words that hold floats, a length's two values among them whatever its tag; the candidate words too
@@ -107,13 +109,20 @@ fn refused(n: u32) -> String {
     format!(" refused{n:>8}\n")
 }
 
-/// What `boxlist` prints
-pub fn list(text: &[u8]) -> String {
+/// What `boxlist` prints, and by whom that is; a refusal is by none
+pub fn list(text: &[u8]) -> (String, Option<By>) {
+    let Some(screen) = parse(text) else { return (refused(8), None) };
+    match answer(&screen.case, || Items(&screen.replies)) {
+        Ok((transcript, by)) => (listed(&transcript), Some(by)),
+        Err(number) => (refused(number), None),
+    }
+}
+/// The published Rust's list, also where request #106 doesn't compare with the Rust
+pub fn list_by_rust(text: &[u8]) -> String {
     let Some(screen) = parse(text) else { return refused(8) };
-    let t = match run(&screen.case, &mut Items(&screen.replies)) {
-        Ok(t) => t,
-        Err(n) => return refused(n),
-    };
+    run(&screen.case, &mut Items(&screen.replies)).map_or_else(refused, |transcript| listed(&transcript))
+}
+fn listed(t: &Transcript) -> String {
     let head = ["node", "x", "y", "width", "height", "left", "right", "top", "bottom"];
     let mut out = head.map(|h| format!("{h:>8}")).concat() + "\n";
     for &node in &t.hoisted {
@@ -141,8 +150,29 @@ fn with_second(tag: i64, value: i64, sums: &mut Random) -> [i64; LENGTH] {
     }
 }
 
-/// A random screen; about one in three is damaged. Sums and second values come from `sums`, so that no other word depends on them.
-pub fn random(r: &mut Random, sums: &mut Random) -> Vec<u8> {
+/// Puts the items with a size keyword on the set where they are compared with the Rust, as `gen::steer` does to a case: `rows` are the
+/// screen's lines as far as the items go
+fn steer(rows: &mut [Vec<i64>], seed: u64, number: u64) {
+    let word = |is_float: bool, v: i64| if is_float { (v as f32 / 8.0).to_bits() } else { v as u32 };
+    let area = std::array::from_fn(|i| word(i < 4, rows[0][i]));
+    let styles = rows[1..].iter().map(|row| std::array::from_fn(|i| word(style_float(i), row[i]))).collect();
+    let mut case = Case { name: String::new(), area, styles, candidates: vec![] };
+    let before = case.clone();
+    gen::steer(&mut case, seed, number);
+    let back = |is_float: bool, w: u32| if is_float { (float(w) * 8.0) as i64 } else { w as i64 };
+    for i in (0..4).filter(|&i| case.area[i] != before.area[i]) {
+        rows[0][i] = back(true, case.area[i]);
+    }
+    for (row, (style, before)) in rows[1..].iter_mut().zip(case.styles.iter().zip(&before.styles)) {
+        for i in (0..STYLE).filter(|&i| style[i] != before[i]) {
+            row[i] = back(style_float(i), style[i]);
+        }
+    }
+}
+
+/// A random screen; about one in three is damaged. Sums and second values come from `sums`, so that no other word depends on them; what
+/// puts items on the set comes from the seed and the screen's number.
+pub fn random(r: &mut Random, sums: &mut Random, seed: u64, number: u64) -> Vec<u8> {
     let (n, m) = (r.draw(4) as i64, r.draw(6) as i64);
     let n = if r.draw(12) == 0 { r.draw(128) as i64 + 1 } else { n };
     let mut rows: Vec<Vec<i64>> = vec![];
@@ -196,6 +226,7 @@ pub fn random(r: &mut Random, sums: &mut Random) -> Vec<u8> {
         f.extend([size(r, 4000), size(r, 2000), -size(r, 200), size(r, 5000), -size(r, 200), size(r, 3000)]);
         rows.push(f);
     }
+    steer(&mut rows, seed, number);
     for _ in 0..m {
         let node = if n == 0 { 0 } else { r.draw(n as u32) as i64 };
         let position = [2, 2, 2, 3, 3, 0, 1, 4][r.draw(8) as usize];

@@ -1,11 +1,13 @@
-//! Runs the published Rust and the static library side by side, then damages calls.
+//! Runs the published Rust, the second implementation and the static library side by side, then damages calls.
 //!
-//!     runs [CASES] [SEED] [--damaged CALLS] [--large CASES] [--sabotaged CASES] [--figures]
+//!     runs [CASES] [SEED] [--damaged CALLS] [--large CASES] [--sabotaged CASES] [--library-alone] [--figures]
 //!
 //! CASES (20,000 unless said) are run of each profile, CALLS (as many as CASES) are damaged in each family, and 50 large cases
 //! are run. Then one bit of what the library says is flipped in each of 2,000 runs of each profile, and in 200 refused calls of
 //! each family: all must be noticed. The first difference is printed with its case, and the exit status is 1; so it is if no sum
-//! stood in some length. With --figures the counts of each part are printed.
+//! stood in some length, or if too few boxes with a size keyword were compared with the Rust. With --library-alone the second
+//! implementation isn't held to the Rust (diff/mutants changes one of them). With --figures the counts of each part are printed.
+mod answers;
 mod damage;
 mod model;
 mod rng;
@@ -13,6 +15,7 @@ mod side;
 mod typed;
 mod words;
 
+use answers::{Answers, Keywords};
 use oracle::case::{at, Case, CANDIDATE, LENGTH, LENGTHS, STYLE};
 use oracle::gen;
 use oracle::host::Profile;
@@ -27,12 +30,22 @@ struct Options {
     damaged: u64,
     large: u64,
     sabotaged: u64,
+    library_alone: bool,
     figures: bool,
 }
 
+const UNLESS_SAID: Options = Options {
+    cases: 20_000,
+    seed: 1,
+    damaged: u64::MAX,
+    large: 50,
+    sabotaged: 2000,
+    library_alone: false,
+    figures: false,
+};
+
 fn options() -> Options {
-    let mut o = Options { cases: 20_000, seed: 1, damaged: u64::MAX, large: 50, sabotaged: 2000, figures: false };
-    let mut args = std::env::args().skip(1);
+    let (mut o, mut args) = (UNLESS_SAID, std::env::args().skip(1));
     let mut place = 0;
     while let Some(arg) = args.next() {
         let number = |text: Option<String>| match text.as_deref().unwrap_or("").replace(['_', ','], "").parse() {
@@ -43,6 +56,7 @@ fn options() -> Options {
             "--damaged" => o.damaged = number(args.next()),
             "--large" => o.large = number(args.next()),
             "--sabotaged" => o.sabotaged = number(args.next()),
+            "--library-alone" => o.library_alone = true,
             "--figures" => o.figures = true,
             _ => {
                 *(if place == 0 { &mut o.cases } else { &mut o.seed }) = number(Some(arg));
@@ -56,17 +70,20 @@ fn options() -> Options {
     o
 }
 fn usage() -> ! {
-    eprintln!("usage: runs [CASES] [SEED] [--damaged CALLS] [--large CASES] [--sabotaged CASES] [--figures]");
+    eprintln!(
+        "usage: runs [CASES] [SEED] [--damaged CALLS] [--large CASES] [--sabotaged CASES] [--library-alone] [--figures]"
+    );
     exit(2)
 }
 
-/// Case `number` of a profile. One in 4 leans to rare branches; one in 16 has a code replaced, so that an opening may be
+/// Case `number` of a profile. One in 4 takes rare branches (`lean`); one in 16 has a code replaced, so that an opening may be
 /// refused 1, 3 or 4.
 fn small_case(profile: Profile, seed: u64, number: u64) -> (Case, Setting, Rng) {
     let (mut case, host_seed) = gen::case(profile, seed, number);
     let mut rng = Rng::of_case(seed, &case.name, number);
     if rng.one_in(4) {
         lean(&mut case, profile, &mut rng);
+        gen::steer(&mut case, seed, number);
     }
     if rng.one_in(16) {
         break_code(&mut case, &mut rng);
@@ -162,50 +179,60 @@ fn large_case(seed: u64, number: u64) -> (Case, Setting, Rng) {
     for c in &mut case.candidates {
         c[0] = rng.below(items as u32);
     }
+    gen::steer(&mut case, seed, number);
     let surfaced = if number < 3 { 0 } else { rng.below(100) };
     (case, Setting { host_seed, profile, surfaced, spare: [0, 0] }, rng)
 }
 
 /// Runs a case; what differs ends the program
-fn side_by_side(case: &Case, setting: &Setting, mut rng: Rng, seen: &mut Counted) {
-    if let Err(difference) = compare(case, setting, &mut Library::default(), &mut rng, seen) {
+fn side_by_side(o: &Options, case: &Case, setting: &Setting, mut rng: Rng, seen: &mut Counted) {
+    let answers = Answers::of(case, setting);
+    let held = if o.library_alone { Ok(()) } else { answers.hold() };
+    let outcome = held.and_then(|()| compare(case, setting, &answers, &mut Library::default(), &mut rng, seen));
+    if let Err(difference) = outcome {
         let Setting { host_seed, surfaced, .. } = setting;
         println!(
-            "DIFFERENCE in {}: {difference}\nhost seed {host_seed:#010x}, {surfaced} surfaced\n{case:x?}",
-            case.name
+            "DIFFERENCE in {} (by {:?}): {difference}\nhost seed {host_seed:#010x}, {surfaced} surfaced\n{case:x?}",
+            case.name, answers.by
         );
         exit(1);
     }
 }
 
+fn show(name: &str, seen: &Counted) {
+    let Counted { cases, boxes, questions: q, surfaced, unclaimed, words, nans, signs, refused, .. } = seen;
+    println!("{name}: {cases} cases, {boxes} boxes, {surfaced} surfaced, {unclaimed} unclaimed, questions {q:?} (both, width, height, lay out)");
+    println!("    {words} words compared, {nans} NaNs in layouts, {signs} zeros of another sign; openings refused {:?} (1 to 4)", &refused[1..5]);
+    let Counted { with_sums, styles, styles_with_sums, sums, .. } = seen;
+    println!("    {with_sums} runs by sums: {styles_with_sums} of {styles} styles, in each length {sums:?}");
+    let Keywords { compared, closed, alone, other, runs_by_rust, runs_by_second } = seen.keywords;
+    println!("    {runs_by_rust} runs held to the Rust, {runs_by_second} to the second implementation alone; boxes with a size keyword: {compared} compared with the Rust, {closed} of them with a block of size 0; {alone} held to the second implementation alone, {other} of them not as the Rust has them");
+}
+
 fn all_profiles(o: &Options) -> Counted {
     let mut all = Counted::default();
-    let show = |name: &str, seen: &Counted| {
-        if o.figures {
-            let Counted { cases, boxes, questions: q, surfaced, unclaimed, words, nans, signs, refused, .. } = seen;
-            println!("{name}: {cases} cases, {boxes} boxes, {surfaced} surfaced, {unclaimed} unclaimed, questions {q:?} (both, width, height, lay out)");
-            println!("    {words} words compared, {nans} NaNs in layouts, {signs} zeros of another sign; openings refused {:?} (1 to 4)", &refused[1..5]);
-            let Counted { with_sums, styles, styles_with_sums, sums, .. } = seen;
-            println!("    {with_sums} runs by sums: {styles_with_sums} of {styles} styles, in each length {sums:?}");
-        }
-    };
     for (name, profile) in Profile::NAMES {
         let mut seen = Counted::default();
         for number in 0..o.cases {
             let (case, setting, rng) = small_case(profile, o.seed, number);
-            side_by_side(&case, &setting, rng, &mut seen);
+            side_by_side(o, &case, &setting, rng, &mut seen);
         }
-        show(name, &seen);
-        all += &seen;
+        keywords_were_compared(o, name, &seen.keywords);
+        add(o, name, &seen, &mut all);
     }
     let mut seen = Counted::default();
     for number in 0..o.large {
         let (case, setting, rng) = large_case(o.seed, number);
-        side_by_side(&case, &setting, rng, &mut seen);
+        side_by_side(o, &case, &setting, rng, &mut seen);
     }
-    show("large", &seen);
-    all += &seen;
+    add(o, "large", &seen, &mut all);
     all
+}
+fn add(o: &Options, name: &str, seen: &Counted, all: &mut Counted) {
+    if o.figures {
+        show(name, seen);
+    }
+    *all += seen;
 }
 
 /// Damaged calls of every family; their number
@@ -239,12 +266,13 @@ fn sabotage(o: &Options) -> u64 {
             let mut seen = Counted::default();
             let questions = {
                 let mut count = Counted::default();
-                side_by_side(&case, &setting, rng.clone(), &mut count);
+                side_by_side(o, &case, &setting, rng.clone(), &mut count);
                 count.questions.iter().sum::<u64>() as u32
             };
+            let answers = Answers::of(&case, &setting);
             let saboteur = Saboteur { wait: rng.below(questions + 1), rng: Rng(rng.next()), done: false };
             let mut library = Library { saboteur: Some(saboteur) };
-            if compare(&case, &setting, &mut library, &mut rng, &mut seen).is_ok() {
+            if compare(&case, &setting, &answers, &mut library, &mut rng, &mut seen).is_ok() {
                 println!("UNNOTICED in {}", case.name);
                 exit(1);
             }
@@ -277,9 +305,20 @@ fn sabotage(o: &Options) -> u64 {
     runs + calls
 }
 
-/// A sum stood in every length of a style that a box was placed by, if there were so many cases of each profile
+/// With so many cases of each profile it is a failure if something never occurred
+const LONG_ENOUGH: u64 = 1000;
+
+/// Of the boxes with a size keyword, one in six or more was compared with the Rust, some of them with a block of size 0
+fn keywords_were_compared(o: &Options, name: &str, seen: &Keywords) {
+    let enough = 6 * seen.compared >= seen.compared + seen.alone && seen.closed > 0;
+    if o.cases >= LONG_ENOUGH && !enough {
+        println!("TOO FEW boxes with a size keyword were compared with the Rust in {name}: {seen:?}");
+        exit(1);
+    }
+}
+
+/// A sum stood in every length of a style that a box was placed by
 fn every_length_held_a_sum(o: &Options, seen: &Counted) {
-    const LONG_ENOUGH: u64 = 1000;
     let none: Vec<usize> = (0..LENGTHS).filter(|&length| seen.sums[length] == 0).collect();
     if o.cases >= LONG_ENOUGH && !none.is_empty() {
         println!("NO SUM in the lengths {none:?}");
@@ -293,8 +332,9 @@ fn main() {
     every_length_held_a_sum(&o, &seen);
     let calls = damaged(&o);
     let flips = sabotage(&o);
+    let Keywords { compared, alone, runs_by_rust, runs_by_second, .. } = seen.keywords;
     println!(
-        "diff/runs: seed {}: {} runs agree with the Rust ({} boxes, {} questions; {} styles with sums, {} sums or more in each length), {calls} damaged calls with document 01's table; {flips} flipped bits, all noticed",
+        "diff/runs: seed {}: {} runs agree, {runs_by_rust} with the Rust, {runs_by_second} with the second implementation ({} boxes, {} questions; with a size keyword {compared} boxes with the Rust, {alone} with the second implementation; {} styles with sums, {} sums or more in each length), {calls} damaged calls with document 01's table; {flips} flipped bits, all noticed",
         o.seed,
         seen.cases,
         seen.boxes,

@@ -1,13 +1,14 @@
-//! One case, run by the Rust and by the library: after every call, every word that the library may write is held to what the
-//! Rust's run says, the layers of the lists to those of the records that went there.
+//! One case, run by the library: after every call, every word that it may write is held to what the wanted run says, the Rust's or
+//! the second implementation's (`answers.rs`), the layers of the lists to those of the records that went there.
+use crate::answers::{Answers, Keywords};
 use crate::model;
 use crate::rng::Rng;
 use crate::typed;
 use crate::words::{Library, Said, Words};
 use oof::ffi::state;
 use oracle::case::{at::SIZE, bits, float, Case, CANDIDATE, LAYER, LAYOUT, LENGTH, LENGTHS, STYLE, SUM};
-use oracle::host::{Profile, Random};
-use oracle::run::{run, Host, Kind, Question, Space, Transcript};
+use oracle::host::Profile;
+use oracle::run::{Host, Kind, Question, Space, Transcript};
 use std::ops::AddAssign;
 
 /// What was compared
@@ -30,12 +31,13 @@ pub struct Counted {
     pub styles: u64,
     pub styles_with_sums: u64,
     pub sums: [u64; LENGTHS],
+    pub keywords: Keywords,
 }
 impl Counted {
     /// The sums of a run: of each item that was placed, once
-    fn sums(&mut self, case: &Case, rust: &Transcript) {
+    fn sums(&mut self, case: &Case, run: &Transcript) {
         let before = self.styles_with_sums;
-        for (style, _) in case.styles.iter().zip(&rust.layouts).filter(|(_, layout)| layout.is_some()) {
+        for (style, _) in case.styles.iter().zip(&run.layouts).filter(|(_, layout)| layout.is_some()) {
             let sums: Vec<usize> = (0..LENGTHS).filter(|&length| style[LENGTH * length] == SUM).collect();
             sums.iter().for_each(|&length| self.sums[length] += 1);
             self.styles += 1;
@@ -56,6 +58,7 @@ impl AddAssign<&Counted> for Counted {
         self.with_sums += o.with_sums;
         self.styles += o.styles;
         self.styles_with_sums += o.styles_with_sums;
+        self.keywords.add(&o.keywords);
         (0..LENGTHS).for_each(|i| self.sums[i] += o.sums[i]);
         (0..7).for_each(|i| self.refused[i] += o.refused[i]);
         (0..4).for_each(|i| self.questions[i] += o.questions[i]);
@@ -77,21 +80,20 @@ pub struct Setting {
 pub fn compare(
     case: &Case,
     setting: &Setting,
+    answers: &Answers,
     library: &mut Library,
     rng: &mut Rng,
     seen: &mut Counted,
 ) -> Result<(), Difference> {
-    let host = || Random::new(setting.host_seed, setting.profile, case.styles.len(), setting.surfaced);
-    let rust = run(case, &mut host());
-    let (working, unclaimed) = rust.as_ref().map_or((4, 4), |t| (t.working.len(), t.unclaimed.len()));
+    let run = answers.wanted();
+    let (working, unclaimed) = run.map_or((4, 4), |t| (t.working.len(), t.unclaimed.len()));
     let mut words = Words::lend(case, working + setting.spare[0], unclaimed + setting.spare[1], rng);
     seen.cases += 1;
 
     let mut wanted = words.clone();
-    let number = rust.as_ref().map_or_else(|&number| number, |_| 0);
-    held("the model of the refusals", number, model::opening(&words))?;
+    held("the model of the refusals", run.err().unwrap_or(0), model::opening(&words))?;
     let result = library.open(&mut words);
-    let rust = match rust {
+    let run = match run {
         Ok(transcript) => transcript,
         Err(number) => {
             seen.refused[number as usize] += 1;
@@ -101,12 +103,12 @@ pub fn compare(
         }
     };
     held("opening", 0, result)?;
-    let mut side = Side { rust: &rust, layers: Default::default(), laid: 0, first: true };
+    let mut side = Side { run, layers: Default::default(), laid: 0, first: true };
     side.opened(&mut wanted);
     hold("opening", &words, &wanted, seen)?;
 
-    let mut host = host();
-    for at in 0..rust.questions.len() {
+    let mut host = setting.host(case);
+    for at in 0..run.questions.len() {
         // the library's own question goes to a host of its own
         let question = question(&words).ok_or_else(|| format!("question {at} is no question"))?;
         let said = Said::new(question.kind, &host.answer(&question));
@@ -116,17 +118,18 @@ pub fn compare(
         seen.questions[question.kind as usize] += 1;
         seen.surfaced += (said.surfaced.len() / CANDIDATE) as u64;
     }
-    let hoisted: Vec<u32> = words.working.chunks(CANDIDATE).take(rust.hoisted.len()).map(|w| w[0]).collect();
-    if hoisted != rust.hoisted {
-        return Err(format!("hoisted {hoisted:?}, by the Rust {:?}", rust.hoisted));
+    let hoisted: Vec<u32> = words.working.chunks(CANDIDATE).take(run.hoisted.len()).map(|w| w[0]).collect();
+    if hoisted != run.hoisted {
+        return Err(format!("hoisted {hoisted:?}, not {:?}", run.hoisted));
     }
-    seen.boxes += rust.hoisted.len() as u64;
-    seen.unclaimed += rust.unclaimed.len() as u64;
-    seen.sums(case, &rust);
+    seen.boxes += run.hoisted.len() as u64;
+    seen.unclaimed += run.unclaimed.len() as u64;
+    seen.sums(case, run);
+    seen.keywords.count(case, answers);
     if library.saboteur.is_some() {
         return Ok(());
     }
-    typed::compare(case, setting, &rust, &side.layers)
+    typed::compare(case, setting, run, &side.layers)
 }
 
 fn held(call: &str, wanted: u32, result: u32) -> Result<(), Difference> {
@@ -155,10 +158,10 @@ pub fn question(w: &Words) -> Option<Question> {
     Some(Question { kind, node: a[1], known: [known(2), known(4)], space: [space(6), space(8)] })
 }
 
-/// How far the Rust's run has been followed
+/// How far the wanted run has been followed
 struct Side<'a> {
-    rust: &'a Transcript,
-    /// Of the records of the working and of the unclaimed list, which the Rust has without them: those of the candidates and
+    run: &'a Transcript,
+    /// Of the records of the working and of the unclaimed list, which the run has without them: those of the candidates and
     /// surfaced records that went there, in turn
     layers: [Vec<u32>; 2],
     /// Boxes laid out
@@ -186,8 +189,8 @@ impl Side<'_> {
     /// The lists hold this many records, the new ones with these layers
     fn fill(&mut self, w: &mut Words, layers: [Vec<u32>; 2], filled: [usize; 2]) {
         let lists = [
-            (&mut w.working, &self.rust.working, state::FILLED_WORKING),
-            (&mut w.unclaimed, &self.rust.unclaimed, state::FILLED_UNCLAIMED),
+            (&mut w.working, &self.run.working, state::FILLED_WORKING),
+            (&mut w.unclaimed, &self.run.unclaimed, state::FILLED_UNCLAIMED),
         ];
         for (which, (list, records, count)) in lists.into_iter().enumerate() {
             self.layers[which].extend(&layers[which]);
@@ -210,7 +213,7 @@ impl Side<'_> {
             (Kind::Width, _) => w.state[state::KEYWORD_REPLY..][..3].copy_from_slice(&[2, value(0), 0]),
             (Kind::Height, _) => w.state[state::KEYWORD_REPLY..][..3].copy_from_slice(&[3, 0, value(0)]),
             (Kind::LayOut, _) => {
-                let laid = &self.rust.laid[self.laid];
+                let laid = &self.run.laid[self.laid];
                 w.layouts[LAYOUT * laid.node as usize..][..LAYOUT].copy_from_slice(&laid.layout);
                 self.fill(w, model::layers(&said.surfaced, w.area[5]), [laid.working, laid.unclaimed]);
                 w.state[state::OVERFLOW..][..4].copy_from_slice(&laid.overflow);
@@ -224,10 +227,10 @@ impl Side<'_> {
     /// Question `at`, or the finish, in state and answer
     fn next(&self, at: usize, w: &mut Words) {
         w.answer = [0; 10];
-        let Some(q) = self.rust.questions.get(at) else {
+        let Some(q) = self.run.questions.get(at) else {
             w.state[state::PROGRESS] = 0;
             w.answer[1] = at as u32;
-            w.answer[2..6].copy_from_slice(&self.rust.overflow);
+            w.answer[2..6].copy_from_slice(&self.run.overflow);
             return;
         };
         if self.first {
@@ -258,8 +261,8 @@ impl Side<'_> {
     }
 }
 
-/// Every word as wanted: zeros are equal in floats. What the Rust computed has every NaN as 7FC00000, so a NaN of the
-/// library's with other bits differs.
+/// Every word as wanted: zeros are equal in floats. The wanted run has every NaN as 7FC00000, so a NaN of the library's with other
+/// bits differs.
 fn hold(call: &str, words: &Words, wanted: &Words, seen: &mut Counted) -> Result<(), Difference> {
     let layout_float = |at: usize| at % LAYOUT != 0;
     let candidate_float = |at: usize| [3, 4, 8, 9].contains(&(at % CANDIDATE));

@@ -7,6 +7,7 @@ use oof::{
 use oracle::case::{float, Case, LAYER, NAN, UNLAYERED};
 use oracle::host::Random;
 use oracle::run::{Host, Kind, Question, Space, Transcript};
+use oracle::same;
 
 /// The oracle's host behind the callbacks
 struct Behind {
@@ -67,39 +68,29 @@ fn area(w: &[u32; 8]) -> Area {
     }
 }
 
-/// Places a good case through the Rust host, and holds what it says to the Rust's run and to the layers of its lists
-pub fn compare(case: &Case, setting: &Setting, rust: &Transcript, layers: &[Vec<u32>; 2]) -> Result<(), Difference> {
+/// Places a good case through the Rust host, and holds what it says to the wanted run and to the layers of its lists
+pub fn compare(case: &Case, setting: &Setting, run: &Transcript, layers: &[Vec<u32>; 2]) -> Result<(), Difference> {
     let styles: Vec<Style> = case.styles.iter().map(|w| Style::from_words(w).expect("a good style")).collect();
     let candidates: Vec<Candidate> = case.candidates.iter().map(|w| candidate(w)).collect();
-    let random = Random::new(setting.host_seed, setting.profile, case.styles.len(), setting.surfaced);
-    let mut host = Behind { random, asked: vec![] };
+    let mut host = Behind { random: setting.host(case), asked: vec![] };
     let room =
-        Room { working: rust.working.len() + setting.spare[0], unclaimed: rust.unclaimed.len() + setting.spare[1] };
+        Room { working: run.working.len() + setting.spare[0], unclaimed: run.unclaimed.len() + setting.spare[1] };
     let placed = compute_oof_layout_with(&mut host, &area(&case.area), &styles, &candidates, room);
     let placed = placed.map_err(|refusal| format!("the Rust host is refused: {refusal}"))?;
     hold("drawing order", placed.drawing_order() == drawing_order(&layers[0]))?;
     let Placed { layouts, hoisted, unclaimed, overflow: o, questions, .. } = placed;
 
-    let layouts: Vec<Option<Vec<u32>>> = layouts.iter().map(|l| l.map(|l| l.to_words().to_vec())).collect();
-    let wanted: Vec<Option<Vec<u32>>> = rust.layouts.iter().map(|l| l.map(|l| l.to_vec())).collect();
-    let same = layouts.len() == wanted.len()
-        && layouts.iter().zip(&wanted).all(|(a, b)| match (a, b) {
-            (Some(a), Some(b)) => a[0] == b[0] && same_floats(&a[1..], &b[1..]),
-            (None, None) => true,
-            _ => false,
-        });
+    let same = same::all(&layouts, &run.layouts, |a, b| match (a, b) {
+        (Some(a), Some(b)) => same::layout(&a.to_words(), b),
+        (a, b) => a.is_none() && b.is_none(),
+    });
     hold("layouts", same)?;
-    hold("hoisted", hoisted == rust.hoisted)?;
-    hold("questions", questions == rust.questions.len() && host.asked.len() == questions)?;
-    hold("a question", host.asked.iter().zip(&rust.questions).all(|(a, b)| same_question(a, b)))?;
-    hold("overflow", same_floats(&[o.left, o.right, o.top, o.bottom].map(f32::to_bits), &rust.overflow))?;
+    hold("hoisted", hoisted == run.hoisted)?;
+    hold("questions", questions == run.questions.len() && host.asked.len() == questions)?;
+    hold("a question", same::all(&host.asked, &run.questions, same::question))?;
+    hold("overflow", same::floats(&[o.left, o.right, o.top, o.bottom].map(f32::to_bits), &run.overflow))?;
     let records: Vec<_> = unclaimed.iter().map(Candidate::to_words).collect();
-    let same = records.len() == rust.unclaimed.len()
-        && records
-            .iter()
-            .zip(&rust.unclaimed)
-            .all(|(a, b)| (0..UNLAYERED).all(|at| same_word(a[at], b[at], [3, 4, 8, 9].contains(&at))));
-    hold("unclaimed", same)?;
+    hold("unclaimed", same::all(&records, &run.unclaimed, |a, b| same::record(&a[..UNLAYERED], b)))?;
     hold("an unclaimed layer", records.iter().map(|record| record[LAYER]).eq(layers[1].iter().copied()))
 }
 
@@ -115,22 +106,4 @@ fn hold(what: &str, same: bool) -> Result<(), Difference> {
         return Ok(());
     }
     Err(format!("the Rust host: {what} differs"))
-}
-fn same_word(a: u32, b: u32, is_float: bool) -> bool {
-    a == b || (is_float && a << 1 == 0 && b << 1 == 0)
-}
-fn same_floats(a: &[u32], b: &[u32]) -> bool {
-    a.iter().zip(b).all(|(&a, &b)| same_word(a, b, true))
-}
-fn same_question(a: &Question, b: &Question) -> bool {
-    let known = |a: Option<u32>, b: Option<u32>| match (a, b) {
-        (Some(a), Some(b)) => same_word(a, b, true),
-        (a, b) => a == b,
-    };
-    let space = |a: Space, b: Space| match (a, b) {
-        (Space::Definite(a), Space::Definite(b)) => same_word(a, b, true),
-        (a, b) => a == b,
-    };
-    (a.kind, a.node) == (b.kind, b.node)
-        && (0..2).all(|axis| known(a.known[axis], b.known[axis]) && space(a.space[axis], b.space[axis]))
 }
