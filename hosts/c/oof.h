@@ -151,10 +151,29 @@ enum {
 /* tags of lengths. Insets and margins take px, auto, percent and sum; padding and border px, percent and sum; the sizes all.
  * Percentages and sums are taken of a basis: of the area's height for top and bottom insets, height, min height and max height,
  * of its width for every other length.
+ * Of the tags that only sizes take, content is auto, and the others are size keywords. A keyword in min or max is none. Where a
+ * ratio and the other side are given, the ratio gives the side and its keyword has no say: with ratio 2 and height 10 a stretched
+ * width is 20, whatever the block.
+ *   - OOF_TAG_STRETCH is the stretch size: the block less the left (top) margin, then less the right (bottom) one, auto ones as 0,
+ *     and at least 0; min and max clamp it. The block is what the insets of the axis leave of the area; an auto inset beside a given
+ *     one is 0, and insets that cross leave 0. Where both insets of the axis are auto, it is measured from the anchor, the edge of
+ *     the static area that the candidate names, or its middle: from a start edge to the right (bottom) edge of the area, from the
+ *     left (top) edge to an end edge, around a center as far as the nearer edge. In an area of 100 a label with its start edge at 40
+ *     is 60 wide and ends with the area; with its start edge at -20 it is 120 wide, wider than the area.
+ *   - OOF_TAG_FIT_CONTENT is measured in the stretch size as it is before min and max: in 60 with the start edge at 40, also beside
+ *     a max of 30. The two other fit-content tags are measured in their limit: the value, or basis * value.
+ *   - A question for the width alone has the height's stretch size in OOF_QUESTION_AVAILABLE_HEIGHT, whether the height is known or
+ *     not. It is a space and no known size. A question for the height alone has in OOF_QUESTION_AVAILABLE_WIDTH the width, or its
+ *     stretch size where no width is known.
+ *   - Before request #106 the stretch size was the area less its insets, auto ones as 0, less the margins: 100 in both examples, and
+ *     min-content with its y anchor at 40 in 100 was asked for in a height of 100, now in 60. A host links the new library; none of
+ *     its code changes. Such boxes have other sizes, and so other places, overflow rectangles and verdicts of oof_reach: layouts
+ *     that are stored or expected of them are made anew. A max or an inset that was set to keep such a label in the area still
+ *     counts.
  * OOF_TAG_SUM is the sum of a percentage and a length: basis * value, rounded, plus the second value, rounded; the two float
  * operations are never fused. A percentage is a factor: "half the area less 12 px" is value 0.5, second value -12.
  *   - Any length may be a sum, padding and border, min and max too.
- *   - It comes to a number, as px and percent do: it is no sizing keyword, a ratio completes from it, min and max count.
+ *   - It comes to a number, as px and percent do: it is no size keyword, a ratio completes from it, min and max count.
  *   - With second value -0.0 it is what percent is, bit for bit. In an area of infinite width value 0 with second value 12 is a
  *     NaN, as 0 % is, and not 12.
  *   - Under other tags the second value has no say, under the two fit-content tags neither. No tag is fit-content of a sum. */

@@ -52,7 +52,7 @@ awk '!inside { inside = 1; if ($1 == "refused") refused++; else runs++ }
     $1 == "counts" { calls++ }
     $1 == "unclaimed" { inside = 0 }
     END { printf "hosts/c: %d stored runs, %d refused openings, %d calls", runs, refused, calls
-          print ", as the Rust answered or document 01 refuses" }' stdout
+          print ", as the Rust or the second implementation answered or document 01 refuses" }' stdout
 build stack -D_POSIX_C_SOURCE=200809L -pthread
 ./stack > stdout || { cat stdout; exit 1; }
 cat stdout

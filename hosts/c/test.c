@@ -1,5 +1,5 @@
 /* What the header says of offsets, of layers, of refused calls, of pixels, of boxes that no scrolling brings up, of the drawing
- * order, of words that break a rule and of sums, tried. Prints one line; exits with 1 at the first that isn't so. */
+ * order, of words that break a rule, of sums and of size keywords, tried. Prints one line; exits with 1 at the first that isn't so. */
 #include <stdio.h>
 #include <stdlib.h>
 #include "oof.h"
@@ -1703,6 +1703,73 @@ static void of_sums(void)
     random_sums();
 }
 
+/* ---- the stretch size of a size keyword, from the anchor */
+
+/* a label without insets at 40, 30 of a 200 by 100 area at 10, 20, its width and height by these tags */
+static words anchored(uint32_t across, uint32_t down, uint32_t edge)
+{
+    words w = box_at(10, 20, 50, 50);
+    oof_set_length(w.styles, OOF_STYLE_WIDTH, across, 25);
+    oof_set_length(w.styles, OOF_STYLE_HEIGHT, down, 25);
+    w.candidates[OOF_CANDIDATE_X_EDGE] = edge;
+    return w;
+}
+
+static int has_width(words *w, float x, float width)
+{
+    return placed(w) == OOF_ACCEPTED && oof_float(w->layouts[OOF_LAYOUT_X]) == x && oof_float(w->layouts[OOF_LAYOUT_WIDTH]) == width;
+}
+
+/* whether the opening asks so, in these spaces */
+static int asks(words *w, uint32_t kind, float width, float height)
+{
+    return opened(w) == OOF_ACCEPTED && w->answer[OOF_ANSWER_KIND] == kind
+        && oof_float(w->answer[OOF_QUESTION_AVAILABLE_WIDTH + 1]) == width
+        && oof_float(w->answer[OOF_QUESTION_AVAILABLE_HEIGHT + 1]) == height;
+}
+
+static void stretched_from_anchors(void)
+{
+    words w = anchored(OOF_TAG_STRETCH, OOF_TAG_PX, OOF_EDGE_START);
+    MUST(has_width(&w, 50, 160)); /* from the anchor to the right edge */
+    w = anchored(OOF_TAG_STRETCH, OOF_TAG_PX, OOF_EDGE_END);
+    MUST(has_width(&w, 10, 40)); /* from the left edge to the anchor */
+    w = anchored(OOF_TAG_STRETCH, OOF_TAG_PX, OOF_EDGE_CENTER);
+    MUST(has_width(&w, 10, 80)); /* around the anchor, to the nearer edge */
+    w = anchored(OOF_TAG_STRETCH, OOF_TAG_PX, OOF_EDGE_START);
+    w.direction = OOF_DIRECTION_RTL;
+    MUST(has_width(&w, 50, 160));
+    oof_set_length(w.styles, OOF_STYLE_MARGIN_LEFT, OOF_TAG_PX, 8);
+    oof_set_length(w.styles, OOF_STYLE_MARGIN_RIGHT, OOF_TAG_PX, 2);
+    MUST(has_width(&w, 58, 150));
+    w = anchored(OOF_TAG_PX, OOF_TAG_STRETCH, OOF_EDGE_START);
+    MUST(has_width(&w, 50, 25)); /* the same down, to the bottom edge */
+    MUST(oof_float(w.layouts[OOF_LAYOUT_Y]) == 50 && oof_float(w.layouts[OOF_LAYOUT_HEIGHT]) == 70);
+    /* insets that cross close the block up; margins below 0 are taken off that */
+    w = anchored(OOF_TAG_STRETCH, OOF_TAG_PX, OOF_EDGE_START);
+    oof_set_length(w.styles, OOF_STYLE_INSET_LEFT, OOF_TAG_PX, 120);
+    oof_set_length(w.styles, OOF_STYLE_INSET_RIGHT, OOF_TAG_PX, 120);
+    oof_set_length(w.styles, OOF_STYLE_MARGIN_LEFT, OOF_TAG_PX, -30);
+    oof_set_length(w.styles, OOF_STYLE_MARGIN_RIGHT, OOF_TAG_PX, -30);
+    MUST(has_width(&w, 10 + 120 - 30, 60));
+}
+
+static void measured_from_anchors(void)
+{
+    words w = anchored(OOF_TAG_FIT_CONTENT, OOF_TAG_FIT_CONTENT, OOF_EDGE_START);
+    MUST(asks(&w, OOF_MEASURE_BOTH, 160, 70));
+    w = anchored(OOF_TAG_FIT_CONTENT_PX, OOF_TAG_FIT_CONTENT, OOF_EDGE_START);
+    MUST(asks(&w, OOF_MEASURE_BOTH, 25, 70)); /* its limit, not the stretch size */
+    w = anchored(OOF_TAG_FIT_CONTENT, OOF_TAG_AUTO, OOF_EDGE_START);
+    MUST(asks(&w, OOF_MEASURE_WIDTH, 160, 70));
+    w = anchored(OOF_TAG_FIT_CONTENT, OOF_TAG_PX, OOF_EDGE_START);
+    MUST(asks(&w, OOF_MEASURE_WIDTH, 160, 70)); /* the height is known */
+    w = anchored(OOF_TAG_PX, OOF_TAG_FIT_CONTENT, OOF_EDGE_START);
+    MUST(asks(&w, OOF_MEASURE_HEIGHT, 25, 70)); /* the width is known */
+    w = anchored(OOF_TAG_AUTO, OOF_TAG_FIT_CONTENT, OOF_EDGE_START);
+    MUST(asks(&w, OOF_MEASURE_HEIGHT, 160, 70));
+}
+
 static void of_drawings(void)
 {
     drawing_orders();
@@ -1749,6 +1816,8 @@ int main(void)
     replies_over_bad_words();
     style_word_names();
     of_sums();
+    stretched_from_anchors();
+    measured_from_anchors();
     printf("hosts/c: %d tests passed\n", tried);
     return EXIT_SUCCESS;
 }

@@ -46,13 +46,17 @@ pub enum Dimension {
     MaxContent,
     /// Same as `Auto`
     Content,
-    /// The content's size, within the space that there is
+    /// Measured in what [`Stretch`](Self::Stretch) would be before min and max
     FitContent,
-    /// `fit-content(...)` in pixels
+    /// `fit-content(...)` in pixels: measured in that
     FitContentPx(f32),
-    /// `fit-content(...)` in parts of the area
+    /// `fit-content(...)` in parts of the area: measured in that
     FitContentPercent(f32),
-    /// The space that there is
+    /// The block less the margins; at least 0, clamped by min and max. Where a ratio and the other side are given, the ratio gives this
+    /// side instead. The block is what the insets of the axis leave of the area; an auto one beside a given one is 0, and insets that
+    /// cross leave 0. Where both are auto, it is measured from the anchor, the edge of the static area that the candidate names, or its
+    /// middle: from a start edge to the right (bottom) edge of the area, from the left (top) edge to an end edge, around a center as
+    /// far as the nearer edge. An anchor before the area may so make it larger than the area.
     Stretch,
 }
 
