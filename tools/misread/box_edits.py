@@ -5,6 +5,10 @@ PLACING, PLACE = 'oof_place/specs/Placing.antt', 'oof_place/src/lib.rt'
 OVERFLOW, OVERFLOWS = 'oof_common/specs/ScrollableOverflow.antt', 'oof_common/src/scrollable_overflow.rt'
 KEYWORD, KEYWORDS = 'oof_common/specs/SizingKeyword.antt', 'oof_common/src/sizing_keyword.rt'
 BOX, CUT, SIZING, DIALOGUE = 'oof_box/specs/Box.antt', 'oof_box/specs/Cut.antt', 'oof_box/src/sizing.rt', 'oof_box/src/dialogue.rt'
+# what the margins leave of the block, at least 0
+LEFT, LEAVES = 'larger (blockSize ⊖ or_zero margin.start ⊖ or_zero margin.end) 0f', """    let free = size - margin.start.unwrap_or(0.0) - margin.end.unwrap_or(0.0);
+    sys::f32_max(free, 0.0)
+"""
 R, P, C, B = ['oof_resolve'], ['oof_place'], ['oof_common'], ['oof_box']
 
 EDITS = [
@@ -102,15 +106,11 @@ EDITS = [
     sizing_keyword::absolute_stretch_size(axis.inset_modified_containing_block_size(), axis.margin)
 """)]),
     ('stretch keyword: margins left out', C, [
-        (KEYWORD, 'larger (blockSize ⊖ or_zero margin.start ⊖ or_zero margin.end) 0f', 'larger blockSize 0f'),
-        (KEYWORDS, """    let free = size - margin.start.unwrap_or(0.0) - margin.end.unwrap_or(0.0);
-    sys::f32_max(free, 0.0)
-""", '    sys::f32_max(size, 0.0)\n')]),
+        (KEYWORD, LEFT, 'larger blockSize 0f'),
+        (KEYWORDS, LEAVES, '    sys::f32_max(size, 0.0)\n')]),
     ('stretch keyword: below 0', C, [
-        (KEYWORD, 'larger (blockSize ⊖ or_zero margin.start ⊖ or_zero margin.end) 0f', 'blockSize ⊖ or_zero margin.start ⊖ or_zero margin.end'),
-        (KEYWORDS, """    let free = size - margin.start.unwrap_or(0.0) - margin.end.unwrap_or(0.0);
-    sys::f32_max(free, 0.0)
-""", '    size - margin.start.unwrap_or(0.0) - margin.end.unwrap_or(0.0)\n')]),
+        (KEYWORD, LEFT, 'blockSize ⊖ or_zero margin.start ⊖ or_zero margin.end'),
+        (KEYWORDS, LEAVES, '    size - margin.start.unwrap_or(0.0) - margin.end.unwrap_or(0.0)\n')]),
     ('the other side\'s space: the room of the side asked for', B, [
         (BOX, 'space = spaceX and Definite stretch.height', 'space = spaceX and Definite stretch.width'),
         (BOX, 'Definite (unwrap_or known.width stretch.width)', 'Definite (unwrap_or known.width stretch.height)'),

@@ -13,7 +13,7 @@ use Rattle.util.specs.Number.{◌⊕◌, ◌⊖◌, 0f}
 use Rattle.util.specs.Order.{zero_of, before, larger, smaller}
 use Rattle.util.specs.Maybe.{at_most, at_least, clamped}
 use Rattle.util.proofs.Order.{eq_self, eq_le, lt_le, le_numbers, not_above_lem, zeros}
-use Rattle.geometry.specs.Geometry.{◌to◌, span}
+use Rattle.geometry.specs.Geometry.{◌to◌, span, line_x, line_y}
 use Rattle.geometry.specs.declared.Line.{Line}
 use Rattle.style.specs.declared.alignment.AlignmentSafety.{AlignmentSafety}
 use Rattle.style.specs.declared.alignment.AlignmentSafety.TheVariants.{Default, Unsafe, Safe}
@@ -24,7 +24,11 @@ use Rattle.oof_axis.specs.declared.OofAlignment.{OofAlignment}
 use Rattle.oof_axis.specs.declared.OofAlignment.TheVariants as align
 use Rattle.oof_axis.specs.declared.OofAxis.{OofAxis}
 use Rattle.oof_resolve.specs.Resolved.{resolved_box}
-use Rattle.oof_box.specs.Box.{placed}
+use Rattle.oof_resolve.specs.declared.ContainingBlock.{ContainingBlock}
+use Rattle.oof_resolve.specs.declared.ResolvedBox.{ResolvedBox}
+use Rattle.style.specs.declared.Style.{Style}
+use Rattle.tree.specs.declared.layout.OofCandidate.{OofCandidate}
+use Rattle.oof_box.specs.Box.{Placed, placed}
 use Rattle.util_exact.specs.Integer.{N, add_n}
 use Rattle.util_exact.specs.Value.{Quarters, Quarter}
 use Rattle.util_exact.proofs.Exact.{Val, Exact, sixteenths, any, zero_exact}
@@ -38,7 +42,7 @@ use Rattle.mirror_axis.proofs.ExactPlace.{place_exact}
 use Rattle.mirror_axis.proofs.Law.{numbers, axis_exact}
 use Rattle.oof_axis_laws.specs.Laws.{Whole, ◌=Σ◌, BeginsAt, EndsAt}
 use Rattle.oof_axis_laws.proofs.Laws.{auto_margins_fill, stretched_box_is_the_block}
-use Rattle.oof_box_laws.specs.Laws.{InQuarters, MarginBoxIs, StretchedBoxFillsItsBlock}
+use Rattle.oof_box_laws.specs.Laws.{Always, SizeAlways, InQuarters, MarginBoxIs, StretchedBoxFillsItsBlock}
 use Rattle.oof_box_laws.proofs.Always.{always_map, always_both}
 use Rattle.oof_box_laws.proofs.Sizes.{stretch_fills}
 use Rattle.oof_box_laws.proofs.Places.{stands_by_its_axes}
@@ -101,6 +105,16 @@ quarters_of {x} {a} n h = go x h.val
 pub moved : {b c : ℕ} {x y : Float} {a d : N} (xs ys : List Float) → Exact 1 b x a → Exact 1 c y d → b + c < 16777216 → x ∷ xs =Σ ys → (x ⊕ y) ∷ xs =Σ y ∷ ys
 moved {x = x} {a = a} {d = d} xs ys h k l (t, u, (p, c, s, rest, e), all, f) =
     (add_n (add_n a d) c, add_n d u, (add_n a d, c, sixteenths (add_exact h k l), rest, refl), (d, u, sixteenths k, all, refl), omega (arith, one_integer x p a s (sixteenths h), e, f))
+
+-- a margin box that is the block in its area is it at the area's offset
+pub on_the_panel : {c : ℕ} {n : N} (a : OofAxis) (offset size : Float) → Exact 1 c (placement a size).position n → Quarter offset → c + 65536 < 16777216
+    → BeginsAt a size (block a).start × EndsAt a size (block a).end → MarginBoxIs (block a) offset ((placement a size).position ⊕ offset) size (placement a size).margin
+on_the_panel a offset size at o room sums =
+    let by = any (quarters_exact o) in
+    let margin = (placement a size).margin in (
+      moved [] ((block a).start ∷ margin.start ∷ []) at by room sums.0,
+      moved (size ∷ margin.end ∷ []) ((block a).end ∷ []) at by room sums.1,
+    )
 
 -- ---- the static area isn't read between two insets
 
@@ -181,13 +195,8 @@ fills_with : (a : OofAxis) (offset : Float) → TwoInsets a → lt 0f (stretch_f
 fills_with a offset insets positive q o =
     let h = axis_exact 16384 0 a q in
     let fit : Exact 4 786432 (stretch_fit a) (stretch_fit_n (shape a) (numbers 16384 0 a q)) = stretch_exact 65536 65536 (lit< tt) a _ h in
-    let at = any (place_exact 65536 65536 786432 (lit< tt) a _ h fit) in
     let sums = go (is_some a.margin.start) (is_some a.margin.end) refl refl (record { lengths = 16384; static = 0; sizes = 196608; room = tt; axis = q; box = quarters_of 196608 fit }) in
-    let by = any (quarters_exact o) in
-    let margin = (placement a (stretch_fit a)).margin in (
-      moved [] ((block a).start ∷ margin.start ∷ []) at by (lit< tt) sums.0,
-      moved (stretch_fit a ∷ margin.end ∷ []) ((block a).end ∷ []) at by (lit< tt) sums.1,
-    )
+    on_the_panel a offset (stretch_fit a) (any (place_exact 65536 65536 786432 (lit< tt) a _ h fit)) o (lit< tt) sums
   where
     go : (b c : Bool) → is_some a.margin.start ≡ b → is_some a.margin.end ≡ c → Whole a (stretch_fit a) → BeginsAt a (stretch_fit a) (block a).start × EndsAt a (stretch_fit a) (block a).end
     go true true e f w =
@@ -209,15 +218,27 @@ fills a plain offset s positive q =
 
 -- ---- the placed box
 
+-- what holds of a size that a side always has, as its axis places it, holds of the layout
+module _ (container : ContainingBlock) (style : Style) (candidate : OofCandidate) (P : Float → Float → Line Float → Type 0) (x : Float) where
+  abbrev own : ResolvedBox
+  own = resolved_box container style candidate
+
+  pub placed_across : SizeAlways (λ s. s.width ≡ x) container style candidate
+      → P ((placement own.horizontal x).position ⊕ container.area.offset.x) x (placement own.horizontal x).margin
+      → Always (λ (p : Placed). let l = p.outcome.layout in P l.location.x l.size.width (line_x l.margin)) (placed container style candidate)
+  placed_across s h =
+      always_map _ _ (placed container style candidate) (λ p k. rw (k.1.0, k.1.2, k.0) h) (always_both _ _ (placed container style candidate) s (stands_by_its_axes container style candidate))
+
+  pub placed_down : SizeAlways (λ s. s.height ≡ x) container style candidate
+      → P ((placement own.vertical x).position ⊕ container.area.offset.y) x (placement own.vertical x).margin
+      → Always (λ (p : Placed). let l = p.outcome.layout in P l.location.y l.size.height (line_y l.margin)) (placed container style candidate)
+  placed_down s h =
+      always_map _ _ (placed container style candidate) (λ p k. rw (k.1.1, k.1.2, k.0) h) (always_both _ _ (placed container style candidate) s (stands_by_its_axes container style candidate))
+
 pub stretched_box_fills_its_block : StretchedBoxFillsItsBlock
 stretched_box_fills_its_block container style candidate k t =
     let box = resolved_box container style candidate in
-    let size = stretch_fills container style candidate k t in
-    let stands = stands_by_its_axes container style candidate in (
-      λ e s q. always_map _ _ (placed container style candidate)
-          (λ p h. rw (h.1.0, h.1.2, h.0, unchanged _ s.room _ _ s.at_least_min s.at_most_max) (fills box.horizontal _ _ s.stretching s.room q))
-          (always_both _ _ (placed container style candidate) (size.0 e s.stretching) stands),
-      λ e s q. always_map _ _ (placed container style candidate)
-          (λ p h. rw (h.1.1, h.1.2, h.0, unchanged _ s.room _ _ s.at_least_min s.at_most_max) (fills box.vertical _ _ s.stretching s.room q))
-          (always_both _ _ (placed container style candidate) (size.1 e s.stretching) stands),
+    let size = stretch_fills container style candidate k t in (
+      λ e s q. placed_across container style candidate (MarginBoxIs (block box.horizontal) container.area.offset.x) _ (size.0 e s.stretching) (rw (unchanged _ s.room _ _ s.at_least_min s.at_most_max) (fills box.horizontal _ _ s.stretching s.room q)),
+      λ e s q. placed_down container style candidate (MarginBoxIs (block box.vertical) container.area.offset.y) _ (size.1 e s.stretching) (rw (unchanged _ s.room _ _ s.at_least_min s.at_most_max) (fills box.vertical _ _ s.stretching s.room q)),
     )

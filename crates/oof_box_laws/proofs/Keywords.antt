@@ -234,13 +234,13 @@ module _ (container : ContainingBlock) (style : Style) (candidate : OofCandidate
       (measured_always (P r) candidate.node whole (stretched style whole (known r)) (f r)) (λ size h. later (λ laid. now h)))
       (λ r. rest_asks (R r) container style candidate (known r) (m r) (l r)))
 
--- a side that is known after step 4 stays known: nothing is asked if both are
-known_both : (a : Size (Option Float)) (x y : Float) → a.width ≡ Some x → a.height ≡ Some y → both_present a ≡ true
+-- nothing is asked where both sides are there
+both_there : {P : Type 0} (s : Size (Option Float)) → is_some s.width ≡ true → is_some s.height ≡ true → both_present s ≡ false → P
 unfolding both_present
-known_both a x y e f = search rules
+both_there s e f n = absurd (false≢true (sym n ∙ rw (e, f) refl))
 
-pub not_asked_lem : {P : Type 0} (a : Size (Option Float)) (x y : Float) → a.width ≡ Some x → a.height ≡ Some y → both_present a ≡ false → P
-not_asked_lem a x y e f n = search (rules, known_both)
+pub not_asked_lem : {P : Type 0} (s : Size (Option Float)) (x y : Float) → s.width ≡ Some x → s.height ≡ Some y → both_present s ≡ false → P
+not_asked_lem s x y e f n = both_there s (ap is_some e) (ap is_some f) n
 
 pub wide_told : (style : Style) (box : ResolvedBox) (known : Size (Option Float)) (x : Float) → known.width ≡ Some (clamped x box.min.width box.max.width)
     → (stretched style box known).known.width ≡ Some (clamped x box.min.width box.max.width)
@@ -384,10 +384,6 @@ module _ (container : ContainingBlock) (style : Style) (candidate : OofCandidate
   unfolding size_keywords keywords_of
   height_is_filled (inl g) = always_map _ _ step_four_of (λ k f. height_there style filled k f) (height_known candidate.node style filled _ _ (given_or_keyword filled.size.height style.size.height _ _ g))
   height_is_filled (inr (q, t, a, s)) = always_map _ _ step_four_of (λ k f. ap is_some (auto_height style filled k true q t f s).0) (leaves_height container style candidate q a)
-
-both_there : {P : Type 0} (s : Size (Option Float)) → is_some s.width ≡ true → is_some s.height ≡ true → both_present s ≡ false → P
-unfolding both_present
-both_there s e f n = absurd (false≢true (sym n ∙ rw (e, f) refl))
 
 pub nothing_is_left_to_fill : NothingIsLeftToFill
 nothing_is_left_to_fill container style candidate w h n =

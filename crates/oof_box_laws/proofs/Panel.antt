@@ -21,7 +21,7 @@ use Rattle.oof_axis.specs.Laws.{NoInset, TwoInsets}
 use Rattle.oof_axis.specs.declared.OofAxis.{OofAxis}
 use Rattle.oof_resolve.specs.Resolved.{of_width, of_each_axis, less_offset, horizontal, vertical, resolved_box}
 use Rattle.oof_common.specs.SizingKeyword.{absolute_stretch}
-use Rattle.oof_box.specs.Box.{placed, keyword_stretch}
+use Rattle.oof_box.specs.Box.{keyword_stretch}
 use Rattle.util_exact.specs.Integer.{N, zero_n, add_n}
 use Rattle.util_exact.specs.Value.{◌≐◌, Quarter, MaybeQuarters}
 use Rattle.util_exact.proofs.Integers.{max_n, min_n}
@@ -40,10 +40,8 @@ use Rattle.oof_axis_laws.proofs.Laws.{stretch_size_exact, stretched_box_is_the_b
 use Rattle.oof_box_laws.specs.Resolved.{IsAuto}
 use Rattle.oof_box_laws.specs.Laws.{MarginBoxIs}
 use Rattle.oof_box_laws.specs.Keywords.{AllInQuarters, StretchKeywordIsItsBlock, MarginBoxInside, StretchesAtMost, StretchKeywordStaysInTheArea, InQuarterPixels, StretchAsTheRust}
-use Rattle.oof_box_laws.proofs.Always.{always_map, always_both}
-use Rattle.oof_box_laws.proofs.Fills.{unchanged, quarters_of, moved, without_static, same_block}
+use Rattle.oof_box_laws.proofs.Fills.{unchanged, quarters_of, on_the_panel, without_static, same_block, placed_across, placed_down}
 use Rattle.oof_box_laws.proofs.Keywords.{stretch_keyword_fills}
-use Rattle.oof_box_laws.proofs.Places.{stands_by_its_axes}
 
 -- ---- an axis in whole quarters
 
@@ -74,27 +72,17 @@ on_its_block a offset q s r =
     let b = bounded a offset q in
     let w = whole_stretch a b in
     let h = axis_exact 16384 32768 a b in
-    let at = any (place_exact 65536 196608 1310720 (lit< tt) a _ h (in_sixteenths a b).1) in
-    let by = any (quarters_exact q.axis.area_offset) in
-    let sums = stretched_box_is_the_block_with_any_insets a (stretch_size a) w (stretch_size_is_stretch_fit a (stretch_size a) w) r s in
-    let margin = (placement a (stretch_size a)).margin in (
-      moved [] ((block a).start ∷ margin.start ∷ []) at by (lit< tt) sums.0,
-      moved (stretch_size a ∷ margin.end ∷ []) ((block a).end ∷ []) at by (lit< tt) sums.1,
-    )
+    on_the_panel a offset (stretch_size a) (any (place_exact 65536 196608 1310720 (lit< tt) a _ h (in_sixteenths a b).1)) q.axis.area_offset (lit< tt)
+    (stretched_box_is_the_block_with_any_insets a (stretch_size a) w (stretch_size_is_stretch_fit a (stretch_size a) w) r s)
 
 -- ---- the placed box
 
 pub stretch_keyword_is_its_block : StretchKeywordIsItsBlock
 stretch_keyword_is_its_block container style candidate =
     let box = resolved_box container style candidate in
-    let size = stretch_keyword_fills container style candidate in
-    let stands = stands_by_its_axes container style candidate in (
-      λ e s f q. always_map _ _ (placed container style candidate)
-          (λ p h. rw (h.1.0, h.1.2, h.0, unchanged _ f.size _ _ f.at_least_min f.at_most_max) (on_its_block box.horizontal _ q f.block f.size))
-          (always_both _ _ (placed container style candidate) (size.0 e s) stands),
-      λ e s f q. always_map _ _ (placed container style candidate)
-          (λ p h. rw (h.1.1, h.1.2, h.0, unchanged _ f.size _ _ f.at_least_min f.at_most_max) (on_its_block box.vertical _ q f.block f.size))
-          (always_both _ _ (placed container style candidate) (size.1 e s) stands),
+    let size = stretch_keyword_fills container style candidate in (
+      λ e s f q. placed_across container style candidate (MarginBoxIs (block box.horizontal) container.area.offset.x) _ (size.0 e s) (rw (unchanged _ f.size _ _ f.at_least_min f.at_most_max) (on_its_block box.horizontal _ q f.block f.size)),
+      λ e s f q. placed_down container style candidate (MarginBoxIs (block box.vertical) container.area.offset.y) _ (size.1 e s) (rw (unchanged _ f.size _ _ f.at_least_min f.at_most_max) (on_its_block box.vertical _ q f.block f.size)),
     )
 
 -- ---- on the panel
@@ -169,10 +157,9 @@ pub stretch_keyword_stays_in_the_area : StretchKeywordStaysInTheArea
 unfolding resolved_box horizontal vertical
 stretch_keyword_stays_in_the_area container style candidate =
     let box = resolved_box container style candidate in
-    let size = stretch_keyword_fills container style candidate in
-    let stands = stands_by_its_axes container style candidate in (
-      λ e s n k f q. always_map _ _ (placed container style candidate) (λ p h. rw (h.1.0, h.1.2, h.0) (stays box.horizontal _ _ _ n k f q)) (always_both _ _ (placed container style candidate) (size.0 e s) stands),
-      λ e s n k f q. always_map _ _ (placed container style candidate) (λ p h. rw (h.1.1, h.1.2, h.0) (stays box.vertical _ _ _ n k f q)) (always_both _ _ (placed container style candidate) (size.1 e s) stands),
+    let size = stretch_keyword_fills container style candidate in (
+      λ e s n k f q. placed_across container style candidate (MarginBoxInside container.area.size.width container.area.offset.x) _ (size.0 e s) (stays box.horizontal _ _ _ n k f q),
+      λ e s n k f q. placed_down container style candidate (MarginBoxInside container.area.size.height container.area.offset.y) _ (size.1 e s) (stays box.vertical _ _ _ n k f q),
     )
 
 -- ---- beside the Rust: the static area has no say between two insets

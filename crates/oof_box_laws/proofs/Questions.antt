@@ -99,16 +99,16 @@ module _ (P : Question → Type 0) (container : ContainingBlock) (style : Style)
 asks_with_width : (node : ℕ) (style : Style) (box : ResolvedBox) (x : Float) → box.size.width ≡ Some x → (tall : Option SizingKeywordResolution)
     → Asks (WidthTold x) (keyword_sizes node style box (record { width = option.None; height = tall }))
 unfolding keyword_sizes by_keywords in_turn width_as height_as ◌>>=◌
-asks_with_width node style box x e option.None = ends
-asks_with_width node style box x e (option.Some (Exact y)) = ends
-asks_with_width node style box x e (option.Some (Measure space)) = asks e (λ r. ends)
+asks_with_width node style _ x e option.None = ends
+asks_with_width node style _ x e (option.Some (Exact y)) = ends
+asks_with_width node style _ x e (option.Some (Measure space)) = asks e (λ r. ends)
 
 asks_with_height : (node : ℕ) (style : Style) (box : ResolvedBox) (x : Float) → box.size.height ≡ Some x → (wide : Option SizingKeywordResolution)
     → Asks (HeightTold x) (keyword_sizes node style box (record { width = wide; height = option.None }))
 unfolding keyword_sizes by_keywords in_turn width_as height_as ◌>>=◌
-asks_with_height node style box x e option.None = ends
-asks_with_height node style box x e (option.Some (Exact y)) = ends
-asks_with_height node style box x e (option.Some (Measure space)) = asks e (λ r. ends)
+asks_with_height node style _ x e option.None = ends
+asks_with_height node style _ x e (option.Some (Exact y)) = ends
+asks_with_height node style _ x e (option.Some (Measure space)) = asks e (λ r. ends)
 
 pub given_size_is_told : GivenSizeIsTold
 unfolding size_keywords keywords_of

@@ -6,6 +6,7 @@ use oracle::run::{run, Kind, Question, Transcript};
 use oracle::same;
 use oracle::second::{self, Stretch};
 use oracle::set::{block_size, by, has_size_keyword, By};
+use std::ops::AddAssign;
 
 type Outcome = Result<Transcript, Refused>;
 
@@ -89,7 +90,9 @@ impl Keywords {
             }
         }
     }
-    pub fn add(&mut self, o: &Keywords) {
+}
+impl AddAssign<&Keywords> for Keywords {
+    fn add_assign(&mut self, o: &Keywords) {
         self.compared += o.compared;
         self.closed += o.closed;
         self.alone += o.alone;

@@ -58,7 +58,7 @@ impl AddAssign<&Counted> for Counted {
         self.with_sums += o.with_sums;
         self.styles += o.styles;
         self.styles_with_sums += o.styles_with_sums;
-        self.keywords.add(&o.keywords);
+        self.keywords += &o.keywords;
         (0..LENGTHS).for_each(|i| self.sums[i] += o.sums[i]);
         (0..7).for_each(|i| self.refused[i] += o.refused[i]);
         (0..4).for_each(|i| self.questions[i] += o.questions[i]);
