@@ -9,7 +9,7 @@ use Rattle.std.specs.Prelude.{Option, Result}
 use Rattle.refusal.specs.declared.Refusal.{Refusal}
 use Rattle.reach.specs.declared.Offsets.{Offsets}
 use Rattle.tree_record.specs.Candidate.{candidate_width}
-use Rattle.run.specs.Call.{Lent}
+use Rattle.run.specs.Call.{Slices}
 use Rattle.run.specs.declared.State.{State}
 use Rattle.finished.proofs.There.{node_is}
 use Rattle.reach.specs.Reach.{reached}
@@ -18,7 +18,7 @@ use Rattle.boxreach_lines.specs.Lines.{VERDICT_ROW, verdict_names, verdict_row}
 use Rattle.boxreach_lines.proofs.Lines.{names_bytes, row_bytes}
 use Rattle.boxlist_print.specs.Verdicts.{verdict_at, verdicts_from, verdicts_text}
 
-module _ (s : State) (lent : Lent) where
+module _ (s : State) (lent : Slices) where
   -- a row, as the code has it: its node is the first word of its record
   pub verdict_row_lem : (place node : ℕ) (r : Result (Option Offsets) Refusal) → node ≡ get_or lent.working (candidate_width * place) 0 → r ≡ reached place s lent
       → verdict_row place node r ≡ verdict_at s lent place

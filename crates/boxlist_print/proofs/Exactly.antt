@@ -24,7 +24,7 @@ use Rattle.run.specs.Refusals.{Verdict, accepted, refused}
 use Rattle.run.specs.Conditions.{places}
 use Rattle.run.proofs.Decides.{Decides, opposite, Says, then, no_more, is_accepted, refusal_by, refused_first, accepted_none}
 use Rattle.run.proofs.Conditions.{area_decided, style_decided, candidate_decided}
-use Rattle.run.specs.Call.{Lent}
+use Rattle.run.specs.Call.{Slices}
 use Rattle.run.specs.declared.State.{State}
 use Rattle.boxreach_lines.specs.Lines.{verdict_names}
 use Rattle.boxlist_print.specs.declared.Listing.{Listing}
@@ -55,7 +55,7 @@ list_byte : (rows : List Row) (overflow : Rect Float) → get_or (list_text rows
 unfolding list_text header_text line_text joined word_text
 list_byte rows overflow = refl
 
-verdicts_byte : (s : State) (lent : Lent) → get_or (verdicts_text s lent) 1 0 ≡ 32
+verdicts_byte : (s : State) (lent : Slices) → get_or (verdicts_text s lent) 1 0 ≡ 32
 unfolding verdicts_text verdict_names line_text joined word_text
 verdicts_byte s lent = refl
 
@@ -75,7 +75,7 @@ boxes_third : (rows : List Row) (overflow : Rect Float) → get_or (list_text ro
 unfolding list_text header_text line_text joined word_text
 boxes_third rows overflow = refl
 
-verdicts_third : (s : State) (lent : Lent) → get_or (verdicts_text s lent) 3 0 ≡ 112
+verdicts_third : (s : State) (lent : Slices) → get_or (verdicts_text s lent) 3 0 ≡ 112
 unfolding verdicts_text verdict_names line_text joined word_text
 verdicts_third s lent = refl
 

@@ -21,7 +21,7 @@ use Rattle.run.specs.declared.Opening.{Opening}
 use Rattle.run.specs.declared.Answer.{Answer}
 use Rattle.run.specs.declared.Answer.TheVariants.{Ask, Finish}
 use Rattle.run.specs.declared.State.{State}
-use Rattle.run.specs.Call.{Lent, Outcome}
+use Rattle.run.specs.Call.{Slices, Outcome}
 use Rattle.script.specs.Script.{played_out}
 use Rattle.geometry.specs.declared.Rect.{Rect}
 use Rattle.boxlist_print.specs.declared.Listing.{Listing}
@@ -40,7 +40,7 @@ few_rows : (o : Opening) (replies candidates styles : List ℕ) (n : ℕ)
     → (played_out o replies candidates (lent_for styles n)).step.state.counts.filled.working ≤ MAX_CANDIDATES
 few_rows o replies candidates styles n = room_kept o replies candidates (lent_for styles n)
 
-finished_fits : (listing : Listing) (s : State) (overflow : Rect Float) (lent : Lent) → s.counts.filled.working ≤ MAX_CANDIDATES
+finished_fits : (listing : Listing) (s : State) (overflow : Rect Float) (lent : Slices) → s.counts.filled.working ≤ MAX_CANDIDATES
     → length (finished_text listing s overflow lent) ≤ LIST_BYTES
 finished_fits Boxes s overflow lent h = rw (list_bytes, rows_count) (omega arith)
 finished_fits Verdicts s overflow lent h = rw (verdicts_bytes s lent) (omega arith)

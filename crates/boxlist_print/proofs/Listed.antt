@@ -19,7 +19,7 @@ use Rattle.screen.proofs.Exactly.{screen_exactly}
 use Rattle.run.specs.declared.Answer.{Answer}
 use Rattle.run.specs.declared.Answer.TheVariants.{Ask, Finish}
 use Rattle.run.specs.declared.Finish.{Finish as FinishOf}
-use Rattle.run.specs.Call.{lent}
+use Rattle.run.specs.Call.{slices}
 use Rattle.run.specs.Conditions.{NoneHolds}
 use Rattle.run.specs.Refusals.{◌when◌else◌}
 use Rattle.run.proofs.Decides.{accepted_none}
@@ -57,7 +57,7 @@ run_is_listed listing text none = go (run_of text).step.answer refl (passes text
     go : (a : Result Answer Refusal) → (run_of text).step.answer ≡ a → is_finish a ≡ true
         → let o = run_of text in
         (f : FinishOf) × (o.step.answer ≡ Ok (Finish f))
-        × (printed listing text ≡ finished_text listing o.step.state f.overflow (lent (styles_of text) o.layouts o.working o.unclaimed))
+        × (printed listing text ≡ finished_text listing o.step.state f.overflow (slices (styles_of text) o.layouts o.working o.unclaimed))
     go (Ok (Ask q)) e h = no h refl
     go (Ok (Finish f)) e h = (f, e, rw (a_screen text none, e) refl)
     go (Err r) e h = no h refl

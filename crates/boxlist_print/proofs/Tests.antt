@@ -25,8 +25,8 @@ use Rattle.sweep.specs.Sweep.{side, first_candidates, candidates_in, keep}
 use Rattle.run.specs.declared.Opening.{Opening}
 use Rattle.run.specs.declared.Answer.{Answer}
 use Rattle.run.specs.declared.Answer.TheVariants.{Ask, Finish}
-use Rattle.run.specs.Call.{Outcome, lent}
-use Rattle.run.specs.Refusals.{Verdict, accepted, refused, ◌when◌else◌, ragged, bad_table, bad_list, bad_slices, list_full}
+use Rattle.run.specs.Call.{Outcome, slices_of, slices}
+use Rattle.run.specs.Refusals.{Verdict, accepted, refused, ◌when◌else◌, ragged, bad_table, bad_list, bad_slices, bad_tally, list_full}
 use Rattle.run.specs.Run.{claims_of, none_filled, opening_verdict, begun, opened}
 use Rattle.run.proofs.Refusals.{proceeding_accepts}
 use Rattle.script.specs.Script.{played_out}
@@ -54,9 +54,12 @@ module _ (styles : List ℕ) (n : ℕ) (e : length styles ≡ n * style_words) (
       rw (items_are, e, le-ltb 1024 n (omega arith), length-replicate {A = ℕ} (n * layout_width) 0, eq-eqb (n * style_words % style_words) 0 (omega arith), eq-eqb (n * layout_width) (layout_width * n) (omega arith))
       refl
 
-  slices_good : bad_slices (lent_for styles n) ≡ false
+  slices_good : bad_slices (slices_of (lent_for styles n)) ≡ false
   unfolding bad_slices bad_list
   slices_good = rw table_good refl
+
+  tally_good : bad_tally (lent_for styles n) ≡ false
+  tally_good = rw (items_are, length-replicate {A = ℕ} n 0, eq-eqb n n refl) refl
 
 -- ---- test 5: room
 
@@ -108,6 +111,7 @@ module _ (text : List ℕ) (e : is_screen text ≡ true) where
       rw (
         e,
         slices_good (styles_of text) (item_count text) words.0 size.1,
+        tally_good (styles_of text) (item_count text) words.0 size.1,
         candidates_whole (candidates_of text) _ words.2 size.2,
         has_room (candidates_of text) _ words.2 size.2 (claims_of (opening_of (header_of text))) (styles_of text) (item_count text),
       )
@@ -138,7 +142,7 @@ module _ (listing : Listing) (o : Opening) (replies candidates styles : List ℕ
       few : end.step.state.counts.filled.working ≤ MAX_CANDIDATES
       few = room_kept o replies candidates (lent_for styles n)
 
-      by : (listing : Listing) → Shows listing accepted (finished_text listing end.step.state f.overflow (lent styles end.layouts end.working end.unclaimed))
+      by : (listing : Listing) → Shows listing accepted (finished_text listing end.step.state f.overflow (slices styles end.layouts end.working end.unclaimed))
       by Boxes = list (rows_at end.working end.step.state.counts.filled.working end.layouts) _ (rw rows_count few)
       by Verdicts = verdicts end.step.state _ few
   finished (Err r) e h = no h refl

@@ -26,6 +26,9 @@ use Rattle.boxlist_print.specs.Printed.{list_from, printed}
 pub zero_layouts : (n : ℕ) → n ≤ MAX_ITEMS → take {A = ℕ} (n * layout_width) (replicate (MAX_ITEMS * layout_width) 0) ≡ replicate (n * layout_width) 0
 zero_layouts n h = take-replicate (n * layout_width) (MAX_ITEMS * layout_width) 0 (mul-le-mul_right layout_width h)
 
+pub zero_tally : (n : ℕ) → n ≤ MAX_ITEMS → take {A = ℕ} n (replicate MAX_ITEMS 0) ≡ replicate n 0
+zero_tally n h = take-replicate n MAX_ITEMS 0 h
+
 -- what was written over the front of zeros is read back there
 front : (vs : List ℕ) (n k : ℕ) → length vs ≡ k → k ≤ n → take {A = ℕ} k (sets (replicate n 0) 0 vs) ≡ vs
 front vs n k e h =

@@ -11,7 +11,7 @@ use Rattle.screen.specs.Screen.{is_screen, header_of, styles_of, candidates_of}
 use Rattle.screen.specs.Laws.{IsScreen}
 use Rattle.run.specs.Conditions.{AreaIsBad, StyleIsBad, places, CandidateIsBad, FirstIs, NoneHolds}
 use Rattle.run.specs.Refusals.{Verdict, accepted, refused, ◌when◌else◌, bad_area, bad_style, bad_candidates}
-use Rattle.run.specs.Call.{Lent, lent}
+use Rattle.run.specs.Call.{Slices, slices}
 use Rattle.run.specs.declared.State.{State}
 use Rattle.run.specs.declared.Answer.TheVariants as answer
 use Rattle.run.specs.declared.Finish.{Finish}
@@ -34,7 +34,7 @@ verdict_of text =
 
 pub data Shows : Listing → Verdict → List ℕ → Type 0 where
   list : (rows : List Row) (overflow : Rect Float) → length rows ≤ MAX_CANDIDATES → Shows Boxes accepted (list_text rows overflow)
-  verdicts : (s : State) (lent : Lent) → s.counts.filled.working ≤ MAX_CANDIDATES → Shows Verdicts accepted (verdicts_text s lent)
+  verdicts : (s : State) (lent : Slices) → s.counts.filled.working ≤ MAX_CANDIDATES → Shows Verdicts accepted (verdicts_text s lent)
   line : {listing : Listing} (r : Refusal) → Shows listing (refused r) (refusal_text (number_of r))
 
 abbrev pub ListOrRefusal : Type 0
@@ -57,7 +57,7 @@ RefusedExactly =
 -- and a list exactly where none holds
 abbrev pub IsList : Listing → List ℕ → Type 0
 IsList Boxes text = (rows : List Row) × (overflow : Rect Float) × (text ≡ list_text rows overflow)
-IsList Verdicts text = (s : State) × (lent : Lent) × (text ≡ verdicts_text s lent)
+IsList Verdicts text = (s : State) × (lent : Slices) × (text ≡ verdicts_text s lent)
 
 abbrev pub ListedExactly : Type 0
 ListedExactly = (listing : Listing) (text : List ℕ) → IsList listing (printed listing text) ↔ NoneHolds (program_tests text)
@@ -68,19 +68,19 @@ RunIsListed =
     (listing : Listing) (text : List ℕ) → NoneHolds (program_tests text)
     → let o = run_of text in
     (f : Finish) × (o.step.answer ≡ Ok (answer.Finish f))
-    × (printed listing text ≡ finished_text listing o.step.state f.overflow (lent (styles_of text) o.layouts o.working o.unclaimed))
+    × (printed listing text ≡ finished_text listing o.step.state f.overflow (slices (styles_of text) o.layouts o.working o.unclaimed))
 
 -- a row of verdicts says seen, unseen or refused 9: a run's own state and words meet 2, 4 and 6 at none of its boxes
 abbrev pub OnlyNineInRows : Type 0
 OnlyNineInRows =
     (text : List ℕ) (place : ℕ) → NoneHolds (program_tests text)
     → let o = run_of text in
-    let verdict = reached place o.step.state (lent (styles_of text) o.layouts o.working o.unclaimed) in
+    let verdict = reached place o.step.state (slices (styles_of text) o.layouts o.working o.unclaimed) in
     place < o.step.state.counts.filled.working → IsOk verdict ⊎ (verdict ≡ Err NotInEighths)
 
 -- a text tells which it is: no list of verdicts is one of boxes, and neither is a refusal's line, whatever its number
 abbrev pub ListsDiffer : Type 0
-ListsDiffer = (s : State) (lent : Lent) (rows : List Row) (overflow : Rect Float) → verdicts_text s lent ≢ list_text rows overflow
+ListsDiffer = (s : State) (lent : Slices) (rows : List Row) (overflow : Rect Float) → verdicts_text s lent ≢ list_text rows overflow
 
 abbrev pub NoListIsALine : Type 0
 NoListIsALine = (listing : Listing) (text : List ℕ) (number : ℕ) → IsList listing text → text ≢ refusal_text number

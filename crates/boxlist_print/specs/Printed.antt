@@ -14,7 +14,7 @@ use Rattle.run.specs.declared.Opening.{Opening}
 use Rattle.run.specs.declared.Answer.{Answer}
 use Rattle.run.specs.declared.Answer.TheVariants.{Ask, Finish}
 use Rattle.run.specs.declared.State.{State}
-use Rattle.run.specs.Call.{Lent, Outcome, lent}
+use Rattle.run.specs.Call.{Slices, Lent, Outcome, slices}
 use Rattle.script.specs.Script.{played_out}
 use Rattle.boxlist_print.specs.declared.Listing.{Listing}
 use Rattle.boxlist_print.specs.declared.Listing.TheVariants.{Boxes, Verdicts}
@@ -28,14 +28,14 @@ LIST_BYTES = (1 + MAX_CANDIDATES) * ROW + OVERFLOW
 -- ---- from a run to its list
 
 -- a finished run: its boxes and its overflow rectangle, the claimed records being the filled ones of the working list; or its verdicts
-abbrev pub finished_text : Listing → State → Rect Float → Lent → List ℕ
+abbrev pub finished_text : Listing → State → Rect Float → Slices → List ℕ
 finished_text Boxes s overflow lent = list_text (rows_at lent.working s.counts.filled.working lent.layouts) overflow
 finished_text Verdicts s overflow lent = verdicts_text s lent
 
 -- a run over these styles. One that is played out never stands at a question
 abbrev pub list_by : Listing → List ℕ → Result Answer Refusal → Outcome → List ℕ
 list_by listing styles (Ok (Ask q)) o = []
-list_by listing styles (Ok (Finish f)) o = finished_text listing o.step.state f.overflow (lent styles o.layouts o.working o.unclaimed)
+list_by listing styles (Ok (Finish f)) o = finished_text listing o.step.state f.overflow (slices styles o.layouts o.working o.unclaimed)
 list_by listing styles (Err r) o = refusal_text (number_of r)
 
 unfoldable pub list_of : Listing → List ℕ → Outcome → List ℕ
@@ -61,7 +61,13 @@ list_words = MAX_CANDIDATES * candidate_width
 -- the styles of n items, and zeros to write into
 abbrev pub lent_for : List ℕ → ℕ → Lent
 lent_for styles n =
-    record { styles = styles; layouts = replicate (n * layout_width) 0; working = replicate list_words 0; unclaimed = replicate list_words 0 }
+    record {
+      styles = styles;
+      layouts = replicate (n * layout_width) 0;
+      working = replicate list_words 0;
+      unclaimed = replicate list_words 0;
+      tally = replicate n 0;
+    }
 
 -- the list of the run that a header, styles, replies and candidates script
 abbrev pub list_from : Listing → List ℕ → List ℕ → ℕ → List ℕ → List ℕ → List ℕ

@@ -14,7 +14,7 @@ ghost use Rattle.boxlist_print.specs.Printed.{finished_text, list_of, opening_of
 
 use boxlist_lines::list;
 use geometry::{Point, Rect, Size};
-use run::{Answer, Lent, Opening, State};
+use run::{Answer, Opening, Slices, State};
 use screen::{LineCounts, ScreenLists};
 use screen_fields::format;
 use style_record::words::STYLE_WORDS;
@@ -84,7 +84,7 @@ fn put_finished(
     out: &mut [u8; LIST_BYTES],
     s: State,
     overflow: Rect<f32>,
-    lent: &Lent,
+    lent: &Slices,
 ) -> usize
     requires { s.counts.filled.working ≤ MAX_CANDIDATES }
     ensures { Prints result out.old out.new (finished_text listing s overflow lent.now) }
@@ -106,17 +106,20 @@ fn list_run(
     layouts: &mut [u32],
     working: &mut [u32],
     unclaimed: &mut [u32],
+    tally: &mut [u32],
     out: &mut [u8; LIST_BYTES],
 ) -> usize
     requires { length working.old ≡ list_words }
-    ensures { Prints result out.old out.new (list_of listing styles.now (played_out o replies.now candidates.now (lent styles.now layouts.old working.old unclaimed.old))) }
+    ensures { Prints result out.old out.new (list_of listing styles.now (played_out o replies.now candidates.now (lent styles.now layouts.old working.old unclaimed.old tally.old))) }
 {
-    let step = script::play_out(o, replies, styles, candidates, layouts, working, unclaimed);
+    let step = script::play_out(
+        o, replies, styles, candidates, layouts, working, unclaimed, tally,
+    );
     match step.answer {
         // a run that is played out stands at no question; for one that did, the definition prints nothing
         Ok(Answer::Ask(_)) => 0,
         Ok(Answer::Finish(finish)) => {
-            let lent = Lent {
+            let lent = Slices {
                 styles,
                 layouts,
                 working,
@@ -128,8 +131,9 @@ fn list_run(
     }
 }
 
-// Prints the list of a screen's words, with zeros to write layouts and lists into. Of the largest lists each run is lent the part for its counts.
-// Three lists of the same items: document 01 has styles and layouts lent apart, and the replies are the screen's own.
+// Prints the list of a screen's words, with zeros to write layouts, lists and tally into. Of the largest layouts and tally each run is lent the
+// part for its counts. Nothing is printed of the tally.
+// Four lists of the same items: document 01 has styles and layouts lent apart, request #107 the tally, and the replies are the screen's own.
 fn list_words(
     listing: Listing,
     counts: LineCounts,
@@ -142,6 +146,7 @@ fn list_words(
     let mut layouts = [0u32; ALL_LAYOUTS];
     let mut working = [0u32; LIST_WORDS];
     let mut unclaimed = [0u32; LIST_WORDS];
+    let mut tally = [0u32; format::MAX_ITEMS];
     list_run(
         listing,
         opening_of(&lists.header),
@@ -151,6 +156,7 @@ fn list_words(
         &mut layouts[..counts.items * LAYOUT_WORDS],
         &mut working,
         &mut unclaimed,
+        &mut tally[..counts.items],
         out,
     )
 }

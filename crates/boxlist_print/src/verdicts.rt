@@ -9,12 +9,12 @@ ghost use Rattle.boxlist_print.specs.Verdicts.{verdict_at, verdicts_from, verdic
 
 use crate::rows::word_at;
 use boxreach_lines::VERDICT_ROW;
-use run::{Lent, State};
+use run::{Slices, State};
 use tree_record::candidate::CANDIDATE_WORDS;
 
 // The row of the box at a place. The bound is a clause, here and below: the count is a state's, and a state may be any words (document 01).
 #[tactic(auto, using(crate::proofs::Each::verdict_row_lem))]
-fn put_verdict(out: &mut [u8], at: usize, place: usize, s: State, lent: &Lent)
+fn put_verdict(out: &mut [u8], at: usize, place: usize, s: State, lent: &Slices)
     requires place_bound { place ≤ MAX_CANDIDATES }
     requires at_in_bounds { at + VERDICT_ROW ≤ length out.old }
     ensures { out.new ≡ sets out.old at (verdict_at s lent.now place) }
@@ -26,7 +26,7 @@ fn put_verdict(out: &mut [u8], at: usize, place: usize, s: State, lent: &Lent)
 
 // The rows of the first n boxes.
 #[tactic(auto, using(crate::proofs::Each::none_left, crate::proofs::Each::row_stored))]
-fn put_each(out: &mut [u8], at: usize, n: usize, s: State, lent: &Lent)
+fn put_each(out: &mut [u8], at: usize, n: usize, s: State, lent: &Slices)
     requires n_bound { n ≤ MAX_CANDIDATES }
     requires n_in_bounds { at + n * VERDICT_ROW ≤ length out.old }
     ensures { out.new ≡ sets out.old at (verdicts_from s lent.now 0 n) }
@@ -39,7 +39,7 @@ fn put_each(out: &mut [u8], at: usize, n: usize, s: State, lent: &Lent)
 
 // The names, and a row for each box. Answers how many bytes they have: at `rows::put_list` stands why.
 #[tactic(auto, using(crate::proofs::Each::verdicts_bytes, crate::proofs::Each::verdicts_stored))]
-pub(crate) fn put_verdicts(out: &mut [u8], s: State, lent: &Lent) -> usize
+pub(crate) fn put_verdicts(out: &mut [u8], s: State, lent: &Slices) -> usize
     requires working_bound { s.counts.filled.working ≤ MAX_CANDIDATES }
     requires working_in_bounds { (1 + s.counts.filled.working) * VERDICT_ROW ≤ length out.old }
     ensures { Prints result out.old out.new (verdicts_text s lent.now) }

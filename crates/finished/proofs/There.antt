@@ -15,7 +15,7 @@ use Rattle.records.proofs.Laws.{word_of_record}
 use Rattle.style_record.specs.Record.{items}
 use Rattle.tree_record.specs.Candidate.{candidate_width, candidate_kinds, candidate_of}
 use Rattle.tree_record.specs.Layout.{layout_width}
-use Rattle.run.specs.Call.{Lent}
+use Rattle.run.specs.Call.{Slices}
 use Rattle.run.specs.Refusals.{accepted, bad_table, bad_list, bad_slices, other_lengths, above_lists}
 use Rattle.run.specs.declared.State.{State}
 use Rattle.run.proofs.Ways.{few_records}
@@ -31,7 +31,7 @@ node_is working place = word_of_record candidate_width working place 0 (lit< tt)
 
 -- ---- where the tests are passed, whatever the part itself calls a bad extent
 
-module _ (s : State) (l : Lent) (other : Bool) (e : finished_verdict s l other ≡ accepted) where
+module _ (s : State) (l : Slices) (other : Bool) (e : finished_verdict s l other ≡ accepted) where
   slices_fine : (bad_slices l ≡ false) × (other ≡ false)
   unfolding finished_verdict
   slices_fine =
@@ -76,7 +76,7 @@ module _ (s : State) (l : Lent) (other : Bool) (e : finished_verdict s l other �
 
 -- ---- where a place without a box is one
 
-module _ (s : State) (l : Lent) (place : ℕ) (e : finished_verdict s l (leb s.counts.filled.working place) ≡ accepted) where
+module _ (s : State) (l : Slices) (place : ℕ) (e : finished_verdict s l (leb s.counts.filled.working place) ≡ accepted) where
   pub box_is_filled : place < s.counts.filled.working
   box_is_filled = leb-false _ _ (not_other s l (leb s.counts.filled.working place) e)
 

@@ -1,5 +1,5 @@
-// What every part that reads a finished run tests first, and how it finds a box's layout. Such a part is lent the slices of a reply, and
-// writes none of them.
+// What every part that reads a finished run tests first, and how it finds a box's layout. Such a part is lent the slices of a run
+// but for the tally, and writes none of them.
 #![tactic(auto)]
 
 ghost use Rattle.std.specs.Prelude.{◌≡◌, ◌||◌, ◌+◌, ◌*◌, ◌≤◌, length, is_some};
@@ -13,19 +13,19 @@ ghost use Rattle.finished.specs.Finished.{finished_verdict};
 use placer_check::{lent, refuse_if};
 use records::record_at;
 use refusal::Refusal;
-use run::{Lent, State};
+use run::{Slices, State};
 use tree::layout::Layout;
 use tree_record::candidate::CANDIDATE_WORDS;
 
 // Refusal 6: an unfinished run, or counts above the lists. Boxes begun and questions answered aren't looked at.
-fn is_unfinished(s: &State, lent: &Lent) -> bool
+fn is_unfinished(s: &State, lent: &Slices) -> bool
     ensures { result ≡ (is_some s.now.progress || above_lists lent.now.working lent.now.unclaimed s.now.counts.filled) }
 {
     s.progress.is_some() || lent::are_above_lists(lent, s.counts.filled)
 }
 
 // Tests 2, 6, 4, in that order. `other` is what the part itself calls a bad extent.
-pub fn check_finished(s: &State, other: bool, lent: &Lent) -> Result<(), Refusal>
+pub fn check_finished(s: &State, other: bool, lent: &Slices) -> Result<(), Refusal>
     ensures { result ≡ finished_verdict s.now lent.now other }
 {
     refuse_if(

@@ -2,6 +2,7 @@
 use Prim.Native.Nat.{ℕ, ◌+◌, ◌<◌}
 use mathlib.Core.Bool.{true, false}
 use mathlib.Core.List.{List, map}
+use lib.ListN.{length, replicate}
 use mathlib.Core.Path.{◌≡◌, refl, sym, ap, ◌∙◌}
 use Rattle.std.specs.Prelude.{None, Ok, Err}
 use Rattle.geometry.specs.Geometry.{zero_rect}
@@ -35,17 +36,17 @@ module _ (o : Opening) (candidates : List ℕ) (l : Lent) where
 
   pub turned_down : (r : Refusal) (step : Step) → opening_verdict o candidates l ≡ refused r
       → step ≡ record { state = closed l; answer = Err r }
-      → outcome step l.layouts l.working l.unclaimed ≡ opened o candidates l
+      → outcome step l.layouts l.working l.unclaimed l.tally ≡ opened o candidates l
   unfolding opened
-  turned_down r step e s = rw e (outcome_is s refl refl refl)
+  turned_down r step e s = rw e (outcome_is s refl refl refl refl)
 
   pub no_room : (r : Refusal) (step : Step) (w u : List ℕ) → sweep.Leaves (Err r) w u sweeping
       → step ≡ record { state = closed l; answer = Err r }
-      → outcome step l.layouts w u ≡ begins
+      → outcome step l.layouts w u l.tally ≡ begins
   unfolding ◌when◌else◌
   no_room r step w u h s =
       let f = was_full (claims_of o) None candidates l none_filled r w u h in
-      rw f.0 (outcome_is (s ∙ rw f.1 refl) refl f.2 f.3)
+      rw f.0 (outcome_is (s ∙ rw f.1 refl) refl f.2 f.3 refl)
 
   -- the first box has its record and its style
   pub first_at_hand : (after : Filled) (w u : List ℕ) → OpeningCleared o candidates l → sweep.Leaves (Ok after) w u sweeping → 0 < after.working
@@ -56,18 +57,19 @@ module _ (o : Opening) (candidates : List ℕ) (l : Lent) where
       (next_at_hand (claims_of o) None candidates l none_filled l.styles (none_below (items l.styles) l.working) (opening_nodes o candidates l e) f.0 0
       (rw (sym (ap (λ (x : Filled). x.working) f.1)) more))
 
-  pub swept_in : (after : Filled) (step : Step) (w u : List ℕ) → sweep.Leaves (Ok after) w u sweeping
+  pub swept_in : (after : Filled) (step : Step) (w u t : List ℕ) → sweep.Leaves (Ok after) w u sweeping
       → step ≡ proceeding l.styles w (record { container = container_of o; claims = claims_of o; extents = extents_of l }) (record { filled = after; begun = 0; answered = 0 }) zero_rect
-      → outcome step l.layouts w u ≡ begins
+      → t ≡ replicate (length l.tally) 0
+      → outcome step l.layouts w u t ≡ begins
   unfolding begun ◌when◌else◌
-  swept_in after step w u h s =
+  swept_in after step w u t h s cleared =
       let f = had_room (claims_of o) None candidates l none_filled after w u h in
       let m = unmoved (candidates_in candidates) in
       let ws : w ≡ appended l.working 0 (keep (claims_of o) true (candidates_in candidates)) = f.2 ∙ ap (λ (cs : List OofCandidate). appended l.working 0 (keep (claims_of o) true cs)) m in
       let us : u ≡ appended l.unclaimed 0 (keep (claims_of o) false (candidates_in candidates)) = f.3 ∙ ap (λ (cs : List OofCandidate). appended l.unclaimed 0 (keep (claims_of o) false cs)) m in
-      rw f.0 (outcome_is (s ∙ rw (ws, f.1) refl) refl ws us)
+      rw f.0 (outcome_is (s ∙ rw (ws, f.1) refl) refl ws us cleared)
 
-  pub opens : (step : Step) (layouts w u : List ℕ) → OpeningCleared o candidates l → outcome step layouts w u ≡ begins
-      → outcome step layouts w u ≡ opened o candidates l
+  pub opens : (step : Step) (layouts w u t : List ℕ) → OpeningCleared o candidates l → outcome step layouts w u t ≡ begins
+      → outcome step layouts w u t ≡ opened o candidates l
   unfolding opened
-  opens step layouts w u e h = rw e h
+  opens step layouts w u t e h = rw e h

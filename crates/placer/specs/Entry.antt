@@ -1,6 +1,6 @@
 -- What the steps of a call ask of one another, and `compute_oof_layout`'s own part (document 01, "The dialogue"). The entries' promises
 -- are `opened` and `replied` of run/specs/Run.antt. Assumes nothing.
-use Rattle.std.specs.Prelude.{ℕ, ◌+◌, ◌*◌, ◌-◌, ◌≤◌, Bool, cond, not, ◌&&◌, List, ◌≡◌, eqb, length, Option, is_some, Result, Ok, Err, Float}
+use Rattle.std.specs.Prelude.{ℕ, ◌+◌, ◌*◌, ◌-◌, ◌≤◌, ◌<◌, Bool, cond, not, ◌&&◌, List, ◌≡◌, eqb, length, get_or, Option, is_some, Result, Ok, Err, Float}
 use Rattle.geometry.specs.Geometry.{union_of}
 use Rattle.geometry.specs.declared.Rect.{Rect}
 use Rattle.refusal.specs.declared.Refusal.{Refusal}
@@ -22,6 +22,10 @@ pub record AtHand (styles working : List ℕ) (begun : ℕ) : Type 0 where
   pub first : 1 ≤ begun
   pub listed : candidate_width * (begun - 1) + candidate_width ≤ length working
   pub styled : style_words * (candidate_of (record_at candidate_width working (begun - 1))).node + style_words ≤ length styles
+
+-- an item has a word of the tally, and one more fits
+abbrev pub OneMoreFits : List ℕ → ℕ → Type 0
+OneMoreFits tally node = (node < length tally) × (get_or tally node 0 < 4294967295)
 
 -- no test before that of room turns the call down
 abbrev pub OpeningCleared : Opening → List ℕ → Lent → Type 0

@@ -1,13 +1,13 @@
 // From one question to the next: the box at hand is asked on, or settled; then the next box begins, or the run finishes.
-ghost use Rattle.std.specs.Prelude.{◌≡◌, ◌+◌, ◌*◌, ◌-◌, ◌≤◌, ◌<◌, length, IfOk};
+ghost use Rattle.std.specs.Prelude.{◌≡◌, ◌+◌, ◌*◌, ◌-◌, ◌≤◌, ◌<◌, length, get_or, IfOk};
 ghost use Rattle.tree_record.specs.Candidate.{candidate_width};
 ghost use Rattle.style_record.specs.Record.{style_words};
 ghost use Rattle.style_record.specs.Decode.{style_at};
 ghost use Rattle.run.specs.Call.{lent, outcome};
 ghost use Rattle.run.specs.Refusals.{accepted, list_full};
-ghost use Rattle.run.specs.Run.{box_at_hand, asking, finishing, proceeding, replied_by};
+ghost use Rattle.run.specs.Run.{box_at_hand, charged, asking, finishing, proceeding, replied_by};
 ghost use Rattle.placer_check.specs.Verdict.{then_room};
-ghost use Rattle.placer.specs.Entry.{AtHand, ReplyCleared, proceeds};
+ghost use Rattle.placer.specs.Entry.{AtHand, OneMoreFits, ReplyCleared, proceeds};
 
 use geometry::Rect;
 use oof_box::dialogue;
@@ -93,11 +93,28 @@ pub fn proceed(s: &State, styles: &[u32], working: &[u32]) -> Step
     finish(s)
 }
 
-// A size was replied: the box goes on.
-pub fn go_on(s: &State, replies: Replies, styles: &[u32], working: &[u32]) -> Step
-    requires { AtHand styles.now working.now s.now.counts.begun × (s.now.counts.answered ≤ 3 * s.now.counts.begun) }
-    ensures { result ≡ asking styles.now working.now s.now.opened (record { filled = s.now.counts.filled; begun = s.now.counts.begun; answered = s.now.counts.answered + 1 }) s.now.overflow replies }
+// One more question is answered for this item.
+#[tactic(auto, unfolding(run::specs::Run::charged))]
+fn charge(tally: &mut [u32], node: u32)
+    requires { OneMoreFits tally.old node }
+    ensures { tally.new ≡ charged tally.old node }
 {
+    tally[node as usize] += 1;
+}
+
+// A size was replied: its item's count goes up, and the box goes on.
+pub fn go_on(
+    s: &State,
+    replies: Replies,
+    styles: &[u32],
+    working: &[u32],
+    tally: &mut [u32],
+) -> Step
+    requires { AtHand styles.now working.now s.now.counts.begun × OneMoreFits tally.old (box_at_hand working.now s.now.counts).node × (s.now.counts.answered ≤ 3 * s.now.counts.begun) }
+    ensures tallied { tally.new ≡ charged tally.old (box_at_hand working.now s.now.counts).node }
+    ensures asks { result ≡ asking styles.now working.now s.now.opened (record { filled = s.now.counts.filled; begun = s.now.counts.begun; answered = s.now.counts.answered + 1 }) s.now.overflow replies }
+{
+    charge(tally, box_at_hand(working, s.counts).node);
     let next = State {
         replies,
         counts: Counts {
@@ -109,7 +126,7 @@ pub fn go_on(s: &State, replies: Replies, styles: &[u32], working: &[u32]) -> St
     ask(&next, styles, working)
 }
 
-// The box at hand is laid out. Room for what it surfaced is decided before its layout is written.
+// The box at hand is laid out. Room for what it surfaced is decided before its layout is written and its item's count goes up.
 // A call of its own: what it works with is off the stack when the next box is asked for.
 #[inline(never)]
 pub fn settle(
@@ -120,10 +137,11 @@ pub fn settle(
     layouts: &mut [u32],
     working: &mut [u32],
     unclaimed: &mut [u32],
+    tally: &mut [u32],
 ) -> Result<State, Refusal>
-    requires { ReplyCleared s.now (Reply.LaidOut overflow) surfaced.now (lent styles.now layouts.old working.old unclaimed.old) }
+    requires { ReplyCleared s.now (Reply.LaidOut overflow) surfaced.now (lent styles.now layouts.old working.old unclaimed.old tally.old) }
     ensures at_hand { IfOk result (λ next. next.counts.begun < next.counts.filled.working → AtHand styles.now working.new (next.counts.begun + 1)) }
-    ensures left { outcome (proceeds s.now styles.now working.new result) layouts.new working.new unclaimed.new ≡ replied_by (then_room accepted (list_full s.now.opened.claims (lent styles.now layouts.old working.old unclaimed.old) s.now.counts.filled surfaced.now)) (Some (Taken.Laid overflow)) s.now surfaced.now (lent styles.now layouts.old working.old unclaimed.old) }
+    ensures left { outcome (proceeds s.now styles.now working.new result) layouts.new working.new unclaimed.new tally.new ≡ replied_by (then_room accepted (list_full s.now.opened.claims (lent styles.now layouts.old working.old unclaimed.old tally.old) s.now.counts.filled surfaced.now)) (Some (Taken.Laid overflow)) s.now surfaced.now (lent styles.now layouts.old working.old unclaimed.old tally.old) }
 {
     let candidate = box_at_hand(working, s.counts);
     let style = style_of(styles, candidate);
@@ -133,6 +151,7 @@ pub fn settle(
     let held = s.counts.filled;
     let filled = sweep::sweep(run.claims, shift, surfaced, working, unclaimed, held)?;
     layout::write_layout(layouts, candidate.node as usize, placed.layout);
+    charge(tally, candidate.node);
     Ok(State {
         counts: Counts {
             filled,

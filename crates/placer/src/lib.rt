@@ -12,7 +12,7 @@ use oof_box::question::{Reply, Taken};
 use oof_resolve::ContainingBlock;
 use placer_check::{opening, reply as answer};
 use refusal::Refusal;
-use run::{Counts, Extents, Lent, Opened, Opening, State, Step};
+use run::{Counts, Extents, Lent, Opened, Opening, Slices, State, Step};
 use style::ContainingBlockClaims;
 use tree::layout::OofPositioningArea;
 
@@ -47,7 +47,8 @@ fn closed(lent: &Lent) -> State
     }
 }
 
-// The opening is checked and the candidates are swept, then the first box begins. `before` is the state of a refused opening.
+// The opening is checked, the candidates are swept and the tally is cleared, then the first box begins. `before` is the state of a refused
+// opening.
 fn begin(
     before: &State,
     o: Opening,
@@ -56,20 +57,22 @@ fn begin(
     layouts: &[u32],
     working: &mut [u32],
     unclaimed: &mut [u32],
+    tally: &mut [u32],
 ) -> Result<Step, Refusal>
-    requires { before.now ≡ closed (lent styles.now layouts.now working.old unclaimed.old) }
-    ensures { outcome (step_by before.now result) layouts.now working.new unclaimed.new ≡ opened o candidates.now (lent styles.now layouts.now working.old unclaimed.old) }
+    requires { before.now ≡ closed (lent styles.now layouts.now working.old unclaimed.old tally.old) }
+    ensures { outcome (step_by before.now result) layouts.now working.new unclaimed.new tally.new ≡ opened o candidates.now (lent styles.now layouts.now working.old unclaimed.old tally.old) }
 {
-    let lent = Lent {
+    let slices = Slices {
         styles,
         layouts,
         working,
         unclaimed,
     };
-    opening::check_opening(o, candidates, &lent)?;
+    opening::check_opening(o, candidates, &Lent { slices, tally })?;
     let claims = ContainingBlockClaims::from(o.claims);
     let held = before.counts.filled;
     let filled = sweep::sweep(claims, None, candidates, working, unclaimed, held)?;
+    tally.fill(0);
     let next = State {
         counts: Counts {
             filled,
@@ -95,17 +98,20 @@ pub fn open(
     layouts: &mut [u32],
     working: &mut [u32],
     unclaimed: &mut [u32],
+    tally: &mut [u32],
 ) -> Step
-    ensures { outcome result layouts.new working.new unclaimed.new ≡ opened o candidates.now (lent styles.now layouts.old working.old unclaimed.old) }
+    ensures { outcome result layouts.new working.new unclaimed.new tally.new ≡ opened o candidates.now (lent styles.now layouts.old working.old unclaimed.old tally.old) }
 {
-    let lent = Lent {
+    let slices = Slices {
         styles,
         layouts,
         working,
         unclaimed,
     };
-    let before = closed(&lent);
-    let opened = begin(&before, o, styles, candidates, layouts, working, unclaimed);
+    let before = closed(&Lent { slices, tally });
+    let opened = begin(
+        &before, o, styles, candidates, layouts, working, unclaimed, tally,
+    );
     step_by(&before, opened)
 }
 
@@ -120,20 +126,23 @@ fn take(
     layouts: &mut [u32],
     working: &mut [u32],
     unclaimed: &mut [u32],
+    tally: &mut [u32],
 ) -> Result<Step, Refusal>
-    ensures { outcome (step_by s.now result) layouts.new working.new unclaimed.new ≡ replied s.now reply surfaced.now (lent styles.now layouts.old working.old unclaimed.old) }
+    ensures { outcome (step_by s.now result) layouts.new working.new unclaimed.new tally.new ≡ replied s.now reply surfaced.now (lent styles.now layouts.old working.old unclaimed.old tally.old) }
 {
-    let lent = Lent {
+    let slices = Slices {
         styles,
         layouts,
         working,
         unclaimed,
     };
-    answer::check_reply(s, reply, surfaced, &lent)?;
+    answer::check_reply(s, reply, surfaced, &Lent { slices, tally })?;
     match answer::taken_by(s, reply).ok_or(Refusal::WrongReply)? {
-        Taken::Kept(replies) => Ok(boxes::go_on(s, replies, styles, working)),
+        Taken::Kept(replies) => Ok(boxes::go_on(s, replies, styles, working, tally)),
         Taken::Laid(overflow) => {
-            let next = boxes::settle(s, overflow, surfaced, styles, layouts, working, unclaimed)?;
+            let next = boxes::settle(
+                s, overflow, surfaced, styles, layouts, working, unclaimed, tally,
+            )?;
             Ok(boxes::proceed(&next, styles, working))
         }
     }
@@ -149,10 +158,13 @@ pub fn reply(
     layouts: &mut [u32],
     working: &mut [u32],
     unclaimed: &mut [u32],
+    tally: &mut [u32],
 ) -> Step
-    ensures { outcome result layouts.new working.new unclaimed.new ≡ replied s reply surfaced.now (lent styles.now layouts.old working.old unclaimed.old) }
+    ensures { outcome result layouts.new working.new unclaimed.new tally.new ≡ replied s reply surfaced.now (lent styles.now layouts.old working.old unclaimed.old tally.old) }
 {
-    let taken = take(&s, reply, surfaced, styles, layouts, working, unclaimed);
+    let taken = take(
+        &s, reply, surfaced, styles, layouts, working, unclaimed, tally,
+    );
     step_by(&s, taken)
 }
 

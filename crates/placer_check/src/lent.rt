@@ -1,9 +1,9 @@
 // Conditions on the lent slices.
 ghost use Rattle.std.specs.Prelude.{◌≡◌};
 ghost use Rattle.tree_record.specs.Candidate.{candidate_width};
-ghost use Rattle.run.specs.Refusals.{ragged, bad_table, bad_list, bad_slices, bad_lent, above_lists, bad_style, bad_candidate};
+ghost use Rattle.run.specs.Refusals.{ragged, bad_table, bad_list, bad_slices, bad_lent, bad_tally, above_lists, any_above, bad_style, bad_candidate};
 
-use run::{Extents, Lent};
+use run::{Extents, Lent, Slices};
 use style_record::check;
 use style_record::words::STYLE_WORDS;
 use sweep::Filled;
@@ -43,7 +43,7 @@ fn is_list_bad(list: &[u32]) -> bool
 
 // Table or lists are bad extents. A line for each list: they are two fields of what is lent.
 #[tactic(auto, unfolding(run::specs::Refusals::bad_slices))]
-pub fn are_slices_bad(lent: &Lent) -> bool
+pub fn are_slices_bad(lent: &Slices) -> bool
     ensures { result ≡ bad_slices lent.now }
 {
     is_table_bad(lent.styles, lent.layouts)
@@ -51,21 +51,30 @@ pub fn are_slices_bad(lent: &Lent) -> bool
         || is_list_bad(lent.unclaimed)
 }
 
-// The four slices of a call after the opening: bad ones, or one of another length than at the opening.
+// The four slices of what reads a finished run: bad ones, or one of another length than at the opening. The tally's length is the opening's,
+// whatever it is: none is lent.
 #[tactic(auto, unfolding(run::specs::Refusals::other_lengths))]
-pub fn is_lent_bad(lent: &Lent, e: Extents) -> bool
+pub fn is_lent_bad(lent: &Slices, e: Extents) -> bool
     ensures { result ≡ bad_lent e lent.now }
 {
-    are_slices_bad(lent) || Extents::from(lent) != e
+    are_slices_bad(lent) || Extents::new(lent, e.tally) != e
+}
+
+// A tally not of one word an item.
+#[tactic(auto, unfolding(style_record::specs::Record::items))]
+pub fn is_tally_bad(lent: &Lent) -> bool
+    ensures { result ≡ bad_tally lent.now }
+{
+    lent.tally.len() != lent.slices.styles.len() / STYLE_WORDS
 }
 
 // ---- 3: bad style
 
 #[tactic(auto, unfolding(run::specs::Refusals::bad_style))]
-pub fn is_style_bad(styles: &[u32]) -> bool
-    ensures { result ≡ bad_style styles.now }
+pub fn is_style_bad(lent: &Lent) -> bool
+    ensures { result ≡ bad_style lent.now.styles }
 {
-    check::check_styles(styles).is_err()
+    check::check_styles(lent.slices.styles).is_err()
 }
 
 // ---- 4: bad candidate
@@ -82,9 +91,16 @@ pub fn is_candidate_bad(styles: &[u32], list: &[u32], count: usize) -> bool
 
 // More filled records than the lists have places for. A line for each list, as at `are_slices_bad`: they are fields of what is lent, and
 // their counts are fields of `Filled`.
-pub fn are_above_lists(lent: &Lent, filled: Filled) -> bool
+pub fn are_above_lists(lent: &Slices, filled: Filled) -> bool
     ensures { result ≡ above_lists lent.now.working lent.now.unclaimed filled }
 {
     lent.working.len() / CANDIDATE_WORDS < filled.working
         || lent.unclaimed.len() / CANDIDATE_WORDS < filled.unclaimed
+}
+
+// A word of the tally is above the run's count of questions answered.
+pub fn is_any_above(tally: &[u32], answered: usize) -> bool
+    ensures { result ≡ any_above answered tally.now }
+{
+    tally.iter().any(|word| answered < *word as usize)
 }

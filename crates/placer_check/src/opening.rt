@@ -1,7 +1,8 @@
 // The tests of an opening.
 ghost use Rattle.std.specs.Prelude.{◌≡◌, ◌||◌};
 ghost use Rattle.tree_record.specs.Candidate.{candidate_width};
-ghost use Rattle.run.specs.Refusals.{bad_area, bad_slices, ragged, list_full};
+ghost use Rattle.run.specs.Refusals.{bad_area, bad_slices, bad_tally, bad_candidates, ragged, list_full};
+ghost use Rattle.run.specs.Call.{slices_of};
 ghost use Rattle.run.specs.Run.{claims_of, none_filled, opening_verdict};
 ghost use Rattle.placer_check.specs.Verdict.{then_room};
 
@@ -20,9 +21,20 @@ fn is_area_bad(o: Opening) -> bool
 
 // 2: bad extent.
 fn are_extents_bad(candidates: &[u32], lent: &Lent) -> bool
-    ensures { result ≡ (bad_slices lent.now || ragged candidate_width candidates.now) }
+    ensures { result ≡ (bad_slices (slices_of lent.now) || bad_tally lent.now || ragged candidate_width candidates.now) }
 {
-    lent::are_slices_bad(lent) || lent::is_ragged(candidates)
+    lent::are_slices_bad(&lent.slices) || lent::is_tally_bad(lent) || lent::is_ragged(candidates)
+}
+
+// 4: bad candidate.
+fn are_candidates_bad(candidates: &[u32], lent: &Lent) -> bool
+    ensures { result ≡ bad_candidates lent.now.styles candidates.now }
+{
+    lent::is_candidate_bad(
+        lent.slices.styles,
+        candidates,
+        candidates.len() / CANDIDATE_WORDS,
+    )
 }
 
 // Tests 1, 2, 3, 4, in that order.
@@ -31,9 +43,6 @@ pub fn check_opening(o: Opening, candidates: &[u32], lent: &Lent) -> Result<(), 
 {
     refuse_if(is_area_bad(o), Refusal::BadArea)?;
     refuse_if(are_extents_bad(candidates, lent), Refusal::BadExtent)?;
-    refuse_if(lent::is_style_bad(lent.styles), Refusal::BadStyle)?;
-    refuse_if(
-        lent::is_candidate_bad(lent.styles, candidates, candidates.len() / CANDIDATE_WORDS),
-        Refusal::BadCandidate,
-    )
+    refuse_if(lent::is_style_bad(lent), Refusal::BadStyle)?;
+    refuse_if(are_candidates_bad(candidates, lent), Refusal::BadCandidate)
 }

@@ -1,7 +1,8 @@
 // The tests of a reply.
 ghost use Rattle.std.specs.Prelude.{◌≡◌, ◌||◌, is_none};
 ghost use Rattle.tree_record.specs.Candidate.{candidate_width};
-ghost use Rattle.run.specs.Refusals.{ragged, bad_lent, lent_by, bad_candidate, bad_candidates, list_full, wrong_counts};
+ghost use Rattle.run.specs.Refusals.{ragged, bad_slices, bad_tally, other_extents, lent_by, bad_candidate, bad_candidates, list_full, wrong_counts};
+ghost use Rattle.run.specs.Call.{slices_of};
 ghost use Rattle.run.specs.Run.{taken_by, reply_verdict};
 ghost use Rattle.placer_check.specs.Verdict.{then_room};
 
@@ -21,11 +22,22 @@ fn lent_by(reply: Reply, surfaced: &[u32]) -> &[u32]
     }
 }
 
+// A slice of another length than at the opening, the tally among them.
+#[tactic(auto, unfolding(run::specs::Refusals::other_lengths))]
+fn are_extents_other(e: Extents, lent: &Lent) -> bool
+    ensures { result ≡ other_extents e lent.now }
+{
+    Extents::from(lent) != e
+}
+
 // 2: bad extent.
 fn are_extents_bad(e: Extents, surfaced: &[u32], lent: &Lent) -> bool
-    ensures { result ≡ (bad_lent e lent.now || ragged candidate_width surfaced.now) }
+    ensures { result ≡ (bad_slices (slices_of lent.now) || bad_tally lent.now || other_extents e lent.now || ragged candidate_width surfaced.now) }
 {
-    lent::is_lent_bad(lent, e) || lent::is_ragged(surfaced)
+    lent::are_slices_bad(&lent.slices)
+        || lent::is_tally_bad(lent)
+        || are_extents_other(e, lent)
+        || lent::is_ragged(surfaced)
 }
 
 // ---- 6: wrong reply
@@ -38,15 +50,17 @@ pub fn taken_by(s: &State, reply: Reply) -> Option<Taken>
     s.replies.take(s.progress?, reply)
 }
 
-// Counts beyond the lists, boxes begun not 1 to the filled working records, or a question count above 3 × the boxes begun.
+// Counts beyond the lists, boxes begun not 1 to the filled working records, a question count above 3 × the boxes begun, or an item's count
+// above that.
 #[tactic(auto, unfolding(run::specs::Refusals::wrong_counts))]
 fn are_counts_wrong(c: Counts, lent: &Lent) -> bool
     ensures { result ≡ wrong_counts lent.now c }
 {
-    lent::are_above_lists(lent, c.filled)
+    lent::are_above_lists(&lent.slices, c.filled)
         || c.begun == 0
         || c.filled.working < c.begun
         || c.begun.saturating_mul(3) < c.answered
+        || lent::is_any_above(lent.tally, c.answered)
 }
 
 // Refusal 6.
@@ -60,8 +74,9 @@ fn is_reply_wrong(s: &State, reply: Reply, lent: &Lent) -> bool
 fn are_candidates_bad(filled: usize, surfaced: &[u32], lent: &Lent) -> bool
     ensures { result ≡ (bad_candidate lent.now.styles lent.now.working filled || bad_candidates lent.now.styles surfaced.now) }
 {
-    lent::is_candidate_bad(lent.styles, lent.working, filled)
-        || lent::is_candidate_bad(lent.styles, surfaced, surfaced.len() / CANDIDATE_WORDS)
+    let styles = lent.slices.styles;
+    lent::is_candidate_bad(styles, lent.slices.working, filled)
+        || lent::is_candidate_bad(styles, surfaced, surfaced.len() / CANDIDATE_WORDS)
 }
 
 // Tests 2, 6, 3, 4, in that order.
@@ -74,7 +89,7 @@ pub fn check_reply(s: &State, reply: Reply, surfaced: &[u32], lent: &Lent) -> Re
         Refusal::BadExtent,
     )?;
     refuse_if(is_reply_wrong(s, reply, lent), Refusal::WrongReply)?;
-    refuse_if(lent::is_style_bad(lent.styles), Refusal::BadStyle)?;
+    refuse_if(lent::is_style_bad(lent), Refusal::BadStyle)?;
     refuse_if(
         are_candidates_bad(s.counts.filled.working, surfaced, lent),
         Refusal::BadCandidate,

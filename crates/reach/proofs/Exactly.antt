@@ -11,7 +11,7 @@ use Rattle.refusal.specs.declared.Refusal.{Refusal}
 use Rattle.refusal.specs.declared.Refusal.TheVariants.{NotInEighths}
 use Rattle.tree.specs.declared.layout.Layout.{Layout}
 use Rattle.pixels.specs.Pixels.{all_accepted}
-use Rattle.run.specs.Call.{Lent}
+use Rattle.run.specs.Call.{Slices}
 use Rattle.run.specs.Refusals.{Verdict, accepted, refused, ◌when◌else◌}
 use Rattle.run.specs.Run.{layout_at}
 use Rattle.run.specs.declared.State.{State}
@@ -54,7 +54,7 @@ goes_after : (v w : Verdict) (a : Result (Option Offsets) Refusal) → GoesBy a 
 goes_after (Ok tt) w a g = g
 goes_after (Err r) w a g = goes_refused r
 
-module _ (place : ℕ) (s : State) (lent : Lent) where
+module _ (place : ℕ) (s : State) (lent : Slices) where
   abbrev box : Layout
   box = layout_at lent.layouts lent.working place
 

@@ -48,7 +48,7 @@ incident_rows = (refl, refl, refl, refl)
 
 pub run_rows : RunRows
 unfolding reached finished_verdict ◌when◌else◌ bad_slices bad_table bad_list other_lengths bad_candidate good_records every good breaks wrong record_at items candidate_of layout_of box_reached all_accepted accepted least first_from shares axis_of last_offset in_eighths count_of counted div neg round units odd size span climb of_bits to_bits of_fields nan_bits of_int
-run_rows = (refl, refl, refl, refl, refl, refl, refl, refl, refl, refl, refl, refl, (refl, refl), refl, (refl, refl))
+run_rows = (refl, refl, refl, refl, refl, refl, refl, refl, refl, refl, refl, refl, (refl, refl), refl, (refl, refl), refl, refl)
 
 pub extent_rows : ExtentRows
 unfolding reached finished_verdict ◌when◌else◌ bad_slices bad_table bad_list other_lengths bad_candidate good_records every good breaks wrong record_at items candidate_of layout_of closed

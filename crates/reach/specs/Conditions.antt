@@ -4,7 +4,7 @@ use Rattle.geometry.specs.declared.Rect.{Rect}
 use Rattle.tree.specs.declared.layout.Layout.{Layout}
 use Rattle.tree.specs.declared.layout.OofPositioningArea.{OofPositioningArea}
 use Rattle.pixels.specs.Conditions.{IsInEighths, NotAllInEighths}
-use Rattle.run.specs.Call.{Lent}
+use Rattle.run.specs.Call.{Slices}
 use Rattle.run.specs.Run.{layout_at}
 use Rattle.run.specs.declared.State.{State}
 use Rattle.finished.specs.Conditions.{finished_tests}
@@ -26,7 +26,7 @@ NotInEighthsHere area rectangle box =
 abbrev pub NoBoxAt : ℕ → State → Type 0
 NoBoxAt place s = s.counts.filled.working ≤ place
 
-abbrev pub reach_tests : ℕ → State → Lent → List (ℕ × Type 0)
+abbrev pub reach_tests : ℕ → State → Slices → List (ℕ × Type 0)
 reach_tests place s lent =
     finished_tests s lent (NoBoxAt place s)
     ((9, NotInEighthsHere s.opened.container.area s.overflow (layout_at lent.layouts lent.working place)) ∷ [])

@@ -12,7 +12,7 @@ use Rattle.style.specs.declared.Overflow.TheVariants.{Hidden, Scroll}
 use Rattle.tree.specs.declared.layout.Layout.{Layout}
 use Rattle.oof_resolve.specs.declared.ContainingBlock.{ContainingBlock}
 use Rattle.pixels.specs.Accepted.{in_eighths}
-use Rattle.run.specs.Call.{Lent}
+use Rattle.run.specs.Call.{Slices}
 use Rattle.run.specs.Conditions.{FirstIs, NoneHolds}
 use Rattle.run.specs.Run.{layout_at}
 use Rattle.run.specs.declared.State.{State}
@@ -149,14 +149,14 @@ OffsetsAreSmall =
 -- each refusal exactly under its condition, by the tests in their order
 abbrev pub RefusedExactly : Type 0
 RefusedExactly =
-    (place : ℕ) (s : State) (lent : Lent) (r : Refusal) → (reached place s lent ≡ Err r) ↔ FirstIs (reach_tests place s lent) (number_of r)
+    (place : ℕ) (s : State) (lent : Slices) (r : Refusal) → (reached place s lent ≡ Err r) ↔ FirstIs (reach_tests place s lent) (number_of r)
 
 -- where none holds, what is told is that of the run's container and rectangle and of the layout at the place
 abbrev pub AnswerIs : Type 0
 AnswerIs =
-    (place : ℕ) (s : State) (lent : Lent) → NoneHolds (reach_tests place s lent)
+    (place : ℕ) (s : State) (lent : Slices) → NoneHolds (reach_tests place s lent)
     → reached place s lent ≡ box_reached s.opened.container s.overflow (layout_at lent.layouts lent.working place)
 
 -- so an answer exactly where none holds
 abbrev pub AnsweredExactly : Type 0
-AnsweredExactly = (place : ℕ) (s : State) (lent : Lent) → IsOk (reached place s lent) ↔ NoneHolds (reach_tests place s lent)
+AnsweredExactly = (place : ℕ) (s : State) (lent : Slices) → IsOk (reached place s lent) ↔ NoneHolds (reach_tests place s lent)

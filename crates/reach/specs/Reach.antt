@@ -13,7 +13,7 @@ use Rattle.tree.specs.declared.layout.OofPositioningArea.{OofPositioningArea}
 use Rattle.oof_resolve.specs.declared.ContainingBlock.{ContainingBlock}
 use Rattle.pixels.specs.Accepted.{in_eighths}
 use Rattle.pixels.specs.Pixels.{numbers_read, all_accepted}
-use Rattle.run.specs.Call.{Lent}
+use Rattle.run.specs.Call.{Slices}
 use Rattle.run.specs.Refusals.{Verdict}
 use Rattle.run.specs.Run.{layout_at}
 use Rattle.run.specs.declared.State.{State}
@@ -132,6 +132,6 @@ abbrev pub answered_by : Verdict → Result (Option Offsets) Refusal → Result 
 answered_by (Ok tt) answer = answer
 answered_by (Err r) answer = Err r
 
-unfoldable pub reached : ℕ → State → Lent → Result (Option Offsets) Refusal
+unfoldable pub reached : ℕ → State → Slices → Result (Option Offsets) Refusal
 reached place s lent =
     answered_by (finished_verdict s lent (leb s.counts.filled.working place)) (box_reached s.opened.container s.overflow (layout_at lent.layouts lent.working place))

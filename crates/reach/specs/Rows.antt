@@ -11,13 +11,13 @@ use Rattle.style.specs.declared.Direction.{Direction}
 use Rattle.style.specs.declared.Direction.TheVariants.{Ltr, Rtl}
 use Rattle.style.specs.declared.Overflow.{Overflow}
 use Rattle.style.specs.declared.Overflow.TheVariants.{Visible, Clip, Hidden, Scroll}
-use Rattle.style_record.specs.Record.{style_words}
+use Rattle.style_record.specs.Record.{style_words, items}
 use Rattle.tree.specs.declared.layout.Layout.{Layout}
 use Rattle.oof_resolve.specs.declared.ContainingBlock.{ContainingBlock}
 use Rattle.oof_box.specs.declared.question.Stage.{Stage}
 use Rattle.oof_box.specs.Cut.{no_replies}
 use Rattle.oof_box.specs.declared.question.Stage.TheVariants as stage
-use Rattle.run.specs.Call.{Lent, lent}
+use Rattle.run.specs.Call.{Slices, Lent, slices, lent}
 use Rattle.run.specs.Run.{extents_of, closed}
 use Rattle.run.specs.declared.Counts.{Counts}
 use Rattle.run.specs.declared.State.{State}
@@ -246,8 +246,8 @@ abbrev styles : ℕ → List ℕ
 styles n = replicate (style_words * n) 0
 
 -- two items, hoisted as 1, 0
-abbrev two : Lent
-two = lent (styles 2) layouts (candidate 1 2 ++ candidate 0 2) []
+abbrev two : Slices
+two = slices (styles 2) layouts (candidate 1 2 ++ candidate 0 2) []
 
 -- filled working and unclaimed records, boxes begun, questions answered
 abbrev counts : ℕ → ℕ → ℕ → ℕ → Counts
@@ -257,41 +257,57 @@ counts working unclaimed begun answered = record { filled = record { working = w
 abbrev panel : Direction → Overflow → Overflow → ContainingBlock
 panel direction overflowx overflowy = container direction overflowx overflowy (e 16) (e 8) (e 24) (e 40)
 
--- a state: its progress, its counts, its container and its rectangle; the slices of its opening
+-- as an opening is lent them: with a tally of n words
+abbrev with_tally : ℕ → Slices → Lent
+with_tally n l = lent l.styles l.layouts l.working l.unclaimed (replicate n 0)
+
+-- with one of a word for each item
+abbrev at_opening : Slices → Lent
+at_opening l = with_tally (items l.styles) l
+
+-- a state: its progress, its counts, its container and its rectangle; what its opening was lent
 abbrev state : Option Stage → Counts → ContainingBlock → Rect Float → Lent → State
-state progress c by overflow slices =
+state progress c by overflow opening =
     record {
       progress = progress;
       replies = no_replies;
       counts = c;
       overflow = overflow;
-      opened = record { container = by; claims = record { absolute = true; fixed = false }; extents = extents_of slices };
+      opened = record { container = by; claims = record { absolute = true; fixed = false }; extents = extents_of opening };
     }
 
 -- scroll across and visible down; the rectangle 48e across, 60e down
-abbrev with_counts : Option Stage → Counts → Lent → State
-with_counts progress c slices = state progress c (panel Ltr Scroll Visible) (rect 0 (e 48) 0 (e 60)) slices
+abbrev with_counts : Option Stage → Counts → Slices → State
+with_counts progress c l = state progress c (panel Ltr Scroll Visible) (rect 0 (e 48) 0 (e 60)) (at_opening l)
 
-abbrev done : Lent → State
-done slices = with_counts None (counts 2 0 2 2) slices
+abbrev done : Slices → State
+done l = with_counts None (counts 2 0 2 2) l
 
-abbrev asked : Lent → State
-asked slices = with_counts (Some stage.LayOut) (counts 2 0 2 2) slices
+abbrev asked : Slices → State
+asked l = with_counts (Some stage.LayOut) (counts 2 0 2 2) l
 
 abbrev by : Direction → Overflow → Overflow → State
-by direction overflowx overflowy = state None (counts 2 0 2 2) (panel direction overflowx overflowy) (rect 0 (e 48) 0 (e 60)) two
+by direction overflowx overflowy = state None (counts 2 0 2 2) (panel direction overflowx overflowy) (rect 0 (e 48) 0 (e 60)) (at_opening two)
 
 -- three items, hoisted as 2, 0, 1: node 1 is 6e by 10e, 4e from the left of the area and 30e from its top; node 0 as node 0 above, node 2 as
 -- node 1 above
-abbrev three : Lent
-three = lent (styles 3) (layout (e 64) (e 42) (e 4) (e 3) ++ layout (e 28) (e 70) (e 6) (e 10) ++ layout (e 44) (e 45) (e 6) (e 10)) (candidate 2 2 ++ candidate 0 2 ++ candidate 1 2) []
+abbrev three : Slices
+three = slices (styles 3) (layout (e 64) (e 42) (e 4) (e 3) ++ layout (e 28) (e 70) (e 6) (e 10) ++ layout (e 44) (e 45) (e 6) (e 10)) (candidate 2 2 ++ candidate 0 2 ++ candidate 1 2) []
 
 abbrev three_by : Overflow → Overflow → State
-three_by overflowx overflowy = state None (counts 3 0 3 3) (panel Ltr overflowx overflowy) (rect 0 (e 48) 0 (e 60)) three
+three_by overflowx overflowy = state None (counts 3 0 3 3) (panel Ltr overflowx overflowy) (rect 0 (e 48) 0 (e 60)) (at_opening three)
+
+-- one item, with the layout of node 0 above
+abbrev one : Slices
+one = slices (styles 1) (layout (e 64) (e 42) (e 4) (e 3)) (candidate 0 2) []
+
+-- its finished run; at the opening the tally had n words
+abbrev tallied : ℕ → State
+tallied n = state None (counts 1 0 1 1) (panel Ltr Scroll Visible) (rect 0 (e 48) 0 (e 60)) (with_tally n one)
 
 -- a rectangle with a NaN
-abbrev broken : Lent → State
-broken slices = state None (counts 2 0 2 2) (panel Ltr Scroll Visible) (rect nan (e 48) 0 (e 60)) slices
+abbrev broken : Slices → State
+broken l = state None (counts 2 0 2 2) (panel Ltr Scroll Visible) (rect nan (e 48) 0 (e 60)) (at_opening l)
 
 abbrev pub RunRows : Type 0
 RunRows =
@@ -312,30 +328,33 @@ RunRows =
     × (reached 0 (by Rtl Scroll Visible) two ≡ Ok None)
     × (reached 1 (by Rtl Scroll Visible) two ≡ Ok None)
     -- a node that is hoisted twice has one layout
-    × (let l = lent (styles 2) layouts (candidate 0 2 ++ candidate 0 2) [] in (reached 0 (done l) l ≡ seen 25 0) × (reached 1 (done l) l ≡ seen 25 0))
+    × (let l = slices (styles 2) layouts (candidate 0 2 ++ candidate 0 2) [] in (reached 0 (done l) l ≡ seen 25 0) × (reached 1 (done l) l ≡ seen 25 0))
     -- the words of the styles aren't read, nor another box's numbers
-    × (let l = lent (replicate (style_words * 2) 2) layouts (candidate 1 2 ++ candidate 0 2) [] in reached 0 (done l) l ≡ seen 5 0)
-    × (let l = lent (styles 2) (layout nan nan nan nan ++ layout (e 44) (e 45) (e 6) (e 10)) (candidate 1 2 ++ candidate 0 2) [] in (reached 0 (done l) l ≡ seen 5 0) × (reached 1 (done l) l ≡ Err NotInEighths))
+    × (let l = slices (replicate (style_words * 2) 2) layouts (candidate 1 2 ++ candidate 0 2) [] in reached 0 (done l) l ≡ seen 5 0)
+    × (let l = slices (styles 2) (layout nan nan nan nan ++ layout (e 44) (e 45) (e 6) (e 10)) (candidate 1 2 ++ candidate 0 2) [] in (reached 0 (done l) l ≡ seen 5 0) × (reached 1 (done l) l ≡ Err NotInEighths))
+    -- one item, asked after request #107 has landed: answered, though no tally is lent, and whatever length it had at the opening
+    × (reached 0 (tallied 1) one ≡ seen 25 0)
+    × (reached 0 (tallied 7) one ≡ seen 25 0)
 
 abbrev pub ExtentRows : Type 0
 ExtentRows =
     -- a place without a box, in a finished run and before 6 in an unfinished one; a run without boxes
     (reached 2 (done two) two ≡ Err BadExtent)
     × (reached 0 (with_counts (Some stage.LayOut) (counts 0 0 0 0) two) two ≡ Err BadExtent)
-    × (reached 0 (closed two) two ≡ Err BadExtent)
+    × (reached 0 (closed (at_opening two)) two ≡ Err BadExtent)
     -- places go by the filled records: the list's second isn't one
     × (reached 1 (with_counts None (counts 1 0 1 1) two) two ≡ Err BadExtent)
     -- one style word more than an item has, though the state recorded so many, before 6 too; a slice of another length than at the opening
-    × (let l = lent (replicate (style_words + 1) 0) (layout (e 64) (e 42) (e 4) (e 3)) (candidate 0 2 ++ candidate 0 2) [] in (reached 0 (done l) l ≡ Err BadExtent) × (reached 0 (asked l) l ≡ Err BadExtent))
-    × (reached 0 (done two) (lent (styles 2) layouts (candidate 1 2) []) ≡ Err BadExtent)
+    × (let l = slices (replicate (style_words + 1) 0) (layout (e 64) (e 42) (e 4) (e 3)) (candidate 0 2 ++ candidate 0 2) [] in (reached 0 (done l) l ≡ Err BadExtent) × (reached 0 (asked l) l ≡ Err BadExtent))
+    × (reached 0 (done two) (slices (styles 2) layouts (candidate 1 2) []) ≡ Err BadExtent)
 
 abbrev pub ProgressRows : Type 0
 ProgressRows =
     -- an unfinished run, and before 4 where a record is bad too
     (reached 0 (asked two) two ≡ Err WrongReply)
-    × (let l = lent (styles 2) layouts (candidate 1 2 ++ candidate 0 5) [] in reached 0 (asked l) l ≡ Err WrongReply)
+    × (let l = slices (styles 2) layouts (candidate 1 2 ++ candidate 0 5) [] in reached 0 (asked l) l ≡ Err WrongReply)
     -- counts above the lists: one record, 2 filled, place 1; and no unclaimed record, 1 filled
-    × (let l = lent (styles 2) layouts (candidate 1 2) [] in reached 1 (done l) l ≡ Err WrongReply)
+    × (let l = slices (styles 2) layouts (candidate 1 2) [] in reached 1 (done l) l ≡ Err WrongReply)
     × (reached 0 (with_counts None (counts 2 1 2 2) two) two ≡ Err WrongReply)
     -- boxes begun and questions answered aren't looked at
     × (reached 0 (with_counts None (counts 2 0 7 99) two) two ≡ seen 5 0)
@@ -344,12 +363,12 @@ ProgressRows =
 abbrev pub CandidateRows : Type 0
 CandidateRows =
     -- a code or a node of another filled record, and before 9 too
-    (let l = lent (styles 2) layouts (candidate 1 2 ++ candidate 0 5) [] in (reached 0 (done l) l ≡ Err BadCandidate) × (reached 0 (broken l) l ≡ Err BadCandidate))
-    × (let l = lent (styles 2) layouts (candidate 1 2 ++ candidate 2 2) [] in reached 0 (done l) l ≡ Err BadCandidate)
+    (let l = slices (styles 2) layouts (candidate 1 2 ++ candidate 0 5) [] in (reached 0 (done l) l ≡ Err BadCandidate) × (reached 0 (broken l) l ≡ Err BadCandidate))
+    × (let l = slices (styles 2) layouts (candidate 1 2 ++ candidate 2 2) [] in reached 0 (done l) l ≡ Err BadCandidate)
     -- a layer above 255 of another filled record; 255 is one
-    × (let l = lent (styles 2) layouts (candidate 1 2 ++ on_layer 256 0 2) [] in reached 0 (done l) l ≡ Err BadCandidate)
-    × (let l = lent (styles 2) layouts (candidate 1 2 ++ on_layer 255 0 2) [] in reached 0 (done l) l ≡ seen 5 0)
+    × (let l = slices (styles 2) layouts (candidate 1 2 ++ on_layer 256 0 2) [] in reached 0 (done l) l ≡ Err BadCandidate)
+    × (let l = slices (styles 2) layouts (candidate 1 2 ++ on_layer 255 0 2) [] in reached 0 (done l) l ≡ seen 5 0)
     × (reached 0 (broken two) two ≡ Err NotInEighths)
     -- not one past the filled records, nor an unclaimed one
-    × (let l = lent (styles 2) layouts (candidate 1 2 ++ candidate 0 2 ++ candidate 2 5) [] in reached 0 (done l) l ≡ seen 5 0)
-    × (let l = lent (styles 2) layouts (candidate 1 2 ++ candidate 0 2) (candidate 2 5) in reached 0 (with_counts None (counts 2 1 2 2) l) l ≡ seen 5 0)
+    × (let l = slices (styles 2) layouts (candidate 1 2 ++ candidate 0 2 ++ candidate 2 5) [] in reached 0 (done l) l ≡ seen 5 0)
+    × (let l = slices (styles 2) layouts (candidate 1 2 ++ candidate 0 2) (candidate 2 5) in reached 0 (with_counts None (counts 2 1 2 2) l) l ≡ seen 5 0)

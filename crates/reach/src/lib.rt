@@ -10,7 +10,7 @@ use geometry::Rect;
 use oof_resolve::ContainingBlock;
 use pixels::{are_accepted, in_eighths};
 use refusal::Refusal;
-use run::{Lent, State};
+use run::{Slices, State};
 use style::{Direction, Overflow};
 use tree::layout::{Layout, OofPositioningArea};
 
@@ -152,7 +152,7 @@ pub fn reach_box(
 }
 
 // Of the box at a place of a finished run's hoisted order, from 0.
-pub fn reach(place: usize, s: State, lent: &Lent) -> Result<Option<Offsets>, Refusal>
+pub fn reach(place: usize, s: State, lent: &Slices) -> Result<Option<Offsets>, Refusal>
     ensures { result ≡ reached place s lent.now }
 {
     let is_none = s.counts.filled.working <= place;

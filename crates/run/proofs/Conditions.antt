@@ -1,6 +1,6 @@
 -- Each test of a verdict decides document 01's condition. Assumes nothing.
 use Rattle.std.specs.Prelude.{is_none, Option, Some, None, Result, Ok, Err, is_err, ⊤}
-use Prim.Native.Nat.{ℕ, ◌+◌, ◌*◌, ◌-◌, ◌/◌, ◌%◌, ◌<◌, ◌≤◌}
+use Prim.Native.Nat.{ℕ, zero, suc, ◌+◌, ◌*◌, ◌-◌, ◌/◌, ◌%◌, ◌<◌, ◌≤◌}
 use native.Mathlib.Omega.{arith}
 use native.Mathlib.Nat.{add-zero, add_assoc}
 use mathlib.Core.Logic.{◌⊎◌, inl, inr, ◌≢◌, ◌↔◌}
@@ -38,10 +38,10 @@ use Rattle.oof_box.specs.declared.question.Stage.TheVariants as stage
 use Rattle.run.specs.declared.Opening.{Opening}
 use Rattle.run.specs.declared.Counts.{Counts}
 use Rattle.run.specs.declared.Extents.{Extents}
-use Rattle.run.specs.Call.{Lent}
-use Rattle.run.specs.Refusals.{bad_area, ragged, bad_table, bad_list, bad_slices, other_lengths, bad_style, bad_candidate, list_full, wrong_counts}
+use Rattle.run.specs.Call.{Slices, Lent, slices_of}
+use Rattle.run.specs.Refusals.{bad_area, ragged, bad_table, bad_list, bad_slices, other_lengths, bad_tally, other_extents, bad_style, bad_candidate, list_full, any_above, wrong_counts}
 use Rattle.run.specs.Run.{extents_of, taken_in}
-use Rattle.run.specs.Conditions.{AreaIsBad, item_words, GoodTable, Whole, GoodList, SlicesAreBad, Among, Allowed, WordIsAllowed, StyleIsBad, places, word, AxisIsBad, RecordIsBad, CandidateIsBad, QuestionKind, both, width, height, lay_out, kind_of_reply, kind_at, NotAsked, CountsAreWrong, SideIsUnresolved}
+use Rattle.run.specs.Conditions.{AreaIsBad, item_words, GoodTable, Whole, GoodList, SlicesAreBad, TallyIsBad, WordIsAbove, Among, Allowed, WordIsAllowed, StyleIsBad, places, word, AxisIsBad, RecordIsBad, CandidateIsBad, QuestionKind, both, width, height, lay_out, kind_of_reply, kind_at, NotAsked, CountsAreWrong, SideIsUnresolved}
 use Rattle.run.proofs.Decides.{Decides, by_iff, either, regroup, opposite, refutes, guard, last, below, at_most, equal, not_every}
 use Rattle.run.proofs.Decides as decides
 
@@ -100,33 +100,40 @@ table_decided styles layouts = refutes there back
         (or_from _ _ (same (length styles % item_words) 0 (omega arith)) (le-ltb _ (length styles / item_words) (omega arith)))
         (same (length layouts) (23 * (length styles / item_words)) (omega arith))
 
-pub slices_decided : (lent : Lent) → Decides (bad_slices lent) (SlicesAreBad lent)
+pub slices_decided : (lent : Slices) → Decides (bad_slices lent) (SlicesAreBad lent)
 unfolding bad_slices
 slices_decided lent = regroup (either (either (table_decided lent.styles lent.layouts) (list_decided lent.working)) (list_decided lent.unclaimed))
 
-pub lengths_decided : (e : Extents) (lent : Lent) → Decides (other_lengths e lent) (extents_of lent ≢ e)
+pub tally_decided : (lent : Lent) → Decides (bad_tally lent) (TallyIsBad lent)
+tally_decided lent = opposite (equal (length lent.tally) (items lent.styles))
+
+pub lengths_decided : (e : Extents) (lent : Lent) → Decides (other_extents e lent) (extents_of lent ≢ e)
 unfolding other_lengths
 lengths_decided e lent = refutes there back
   where
-    there : other_lengths e lent ≡ false → extents_of lent ≡ e
+    there : other_extents e lent ≡ false → extents_of lent ≡ e
     there f =
-        let third = or_parts _ _ f in
+        let fourth = or_parts (other_lengths e (slices_of lent)) _ f in
+        let third = or_parts _ _ fourth.0 in
         let second = or_parts _ _ third.0 in
         let first = or_parts _ _ second.0 in
         let a = eqb-true (length lent.styles) e.styles (not-false _ first.0) in
         let b = eqb-true (length lent.layouts) e.layouts (not-false _ first.1) in
         let c = eqb-true (length lent.working) e.working (not-false _ second.1) in
         let d = eqb-true (length lent.unclaimed) e.unclaimed (not-false _ third.1) in
-        λ i. record { styles = a i; layouts = b i; working = c i; unclaimed = d i }
+        let t = eqb-true (length lent.tally) e.tally (not-false _ fourth.1) in
+        λ i. record { styles = a i; layouts = b i; working = c i; unclaimed = d i; tally = t i }
 
-    back : extents_of lent ≡ e → other_lengths e lent ≡ false
+    back : extents_of lent ≡ e → other_extents e lent ≡ false
     back h =
-        or_from _ _
+        or_from (other_lengths e (slices_of lent)) _
+        (or_from _ _
         (or_from _ _
         (or_from _ _ (same (length lent.styles) e.styles (ap (λ (x : Extents). x.styles) h))
         (same (length lent.layouts) e.layouts (ap (λ (x : Extents). x.layouts) h)))
         (same (length lent.working) e.working (ap (λ (x : Extents). x.working) h)))
-        (same (length lent.unclaimed) e.unclaimed (ap (λ (x : Extents). x.unclaimed) h))
+        (same (length lent.unclaimed) e.unclaimed (ap (λ (x : Extents). x.unclaimed) h)))
+        (same (length lent.tally) e.tally (ap (λ (x : Extents). x.tally) h))
 
 -- ---- 3
 
@@ -287,10 +294,24 @@ asked_decided (Some at) replies given = by_iff (kind_decided replies at given) (
     back (inl e) = no {b = false} (ap is_finished e) refl
     back (inr a) = λ k. a.2 (k ∙ ap kind_at (ap stage_in a.1))
 
-pub counts_decided : (lent : Lent) (c : Counts) → Decides (wrong_counts lent c) (CountsAreWrong lent c)
+-- some word of a list is above n
+above_decided : (n : ℕ) (ws : List ℕ) → Decides (any_above n ws) ((i : ℕ) × (i < length ws) × (n < get_or ws i 0))
+above_decided n [] = record { holds = λ t. no {b = false} t refl; fails = λ f s. let h = s.1 in absurd (omega arith) }
+above_decided n (w ∷ ws) = by_iff (either (below n w) (above_decided n ws)) (to, from)
+  where
+    to : (n < w) ⊎ ((i : ℕ) × (i < length ws) × (n < get_or ws i 0)) → (i : ℕ) × (i < length (w ∷ ws)) × (n < get_or (w ∷ ws) i 0)
+    to (inl h) = (0, omega arith, h)
+    to (inr s) = (suc s.0, let h = s.1 in omega arith, s.2)
+
+    from : (i : ℕ) × (i < length (w ∷ ws)) × (n < get_or (w ∷ ws) i 0) → (n < w) ⊎ ((i : ℕ) × (i < length ws) × (n < get_or ws i 0))
+    from (zero, l, h) = inl h
+    from (suc i, l, h) = inr (i, omega arith, h)
+
+pub counts_decided : (lent : Lent) (c : Counts) → Decides (wrong_counts lent c) (CountsAreWrong lent c ⊎ WordIsAbove lent c)
 unfolding wrong_counts
 counts_decided lent c =
-    regroup
+    either
+    (regroup
     (regroup
     (regroup
     (either
@@ -298,7 +319,8 @@ counts_decided lent c =
     (either (either (below (places lent.working) c.filled.working) (below (places lent.unclaimed) c.filled.unclaimed))
     (by_iff (equal c.begun 0) (λ e. omega arith, λ h. omega arith)))
     (below c.filled.working c.begun))
-    (below (3 * c.begun) c.answered))))
+    (below (3 * c.begun) c.answered)))))
+    (above_decided c.answered lent.tally)
 
 -- ---- 7
 

@@ -22,7 +22,7 @@ use Rattle.run.specs.declared.Counts.{Counts}
 use Rattle.run.specs.declared.State.{State}
 use Rattle.run.specs.declared.Answer.{Answer}
 use Rattle.run.specs.declared.Answer.TheVariants.{Ask, Finish}
-use Rattle.run.specs.Call.{Lent}
+use Rattle.run.specs.Call.{Lent, slices_of}
 use Rattle.run.specs.Refusals.{Verdict, accepted, refused, ◌when◌else◌, wrong_counts, lent_by}
 use Rattle.run.specs.Run.{claims_of, none_filled, opened, opened_by, opening_verdict, taken_by, replied, replied_by, reply_verdict}
 use Rattle.run.specs.Conditions.{places, opening_tests, reply_tests}
@@ -30,7 +30,7 @@ use Rattle.run.specs.Theorems.{OpeningRefusedExactly, OpeningAcceptedExactly, Re
 use Rattle.run.proofs.Ways.{passed}
 use Rattle.run.proofs.Refusals.{begun_accepts, measured_accepts, laid_accepts}
 use Rattle.run.proofs.Decides.{either, regroup, Says, no_more, then, refused_first, accepted_none, refusal_by, is_accepted}
-use Rattle.run.proofs.Conditions.{area_decided, slices_decided, lengths_decided, whole_decided, style_decided, candidate_decided, full_decided, asked_decided, counts_decided, side_decided}
+use Rattle.run.proofs.Conditions.{area_decided, slices_decided, tally_decided, lengths_decided, whole_decided, style_decided, candidate_decided, full_decided, asked_decided, counts_decided, side_decided}
 
 -- ---- in their order
 
@@ -38,7 +38,7 @@ pub opening_says : (o : Opening) (candidates : List ℕ) (lent : Lent) → Says 
 unfolding opening_verdict
 opening_says o candidates lent =
     then BadArea (area_decided o)
-    (λ _. then BadExtent (either (slices_decided lent) (whole_decided candidates))
+    (λ _. then BadExtent (regroup (either (either (slices_decided (slices_of lent)) (tally_decided lent)) (whole_decided candidates)))
     (λ _. then BadStyle (style_decided lent.styles)
     (λ _. then BadCandidate (candidate_decided lent.styles candidates (places candidates) (omega arith))
     (λ _. then ListFull (full_decided (claims_of o) lent none_filled candidates)
@@ -48,7 +48,7 @@ opening_says o candidates lent =
 filled_there : (lent : Lent) (c : Counts) (wrong : Bool) → wrong || wrong_counts lent c ≡ false → c.filled.working ≤ places lent.working
 filled_there lent c wrong f =
     let n = (counts_decided lent c).fails (or_parts wrong _ f).1 in
-    let h : ¬ (places lent.working < c.filled.working) = λ l. n (inl l) in
+    let h : ¬ (places lent.working < c.filled.working) = λ l. n (inl (inl l)) in
     omega arith
 
 pub reply_says : (s : State) (given : Reply) (surfaced : List ℕ) (lent : Lent)
@@ -56,7 +56,8 @@ pub reply_says : (s : State) (given : Reply) (surfaced : List ℕ) (lent : Lent)
 unfolding reply_verdict taken_by
 reply_says s given slice lent =
     let surfaced = lent_by given slice in
-    then BadExtent (regroup (either (either (slices_decided lent) (lengths_decided s.opened.extents lent)) (whole_decided surfaced)))
+    then BadExtent
+    (regroup (regroup (either (either (either (slices_decided (slices_of lent)) (tally_decided lent)) (lengths_decided s.opened.extents lent)) (whole_decided surfaced))))
     (λ _. then WrongReply (either (asked_decided s.progress s.replies given) (counts_decided lent s.counts))
     (λ f. then BadStyle (style_decided lent.styles)
     (λ _. then BadCandidate (either (candidate_decided lent.styles lent.working s.counts.filled.working (filled_there lent s.counts (is_none (taken_by s given)) f)) (candidate_decided lent.styles surfaced (places surfaced) (omega arith)))
@@ -130,7 +131,7 @@ reply_accepted_exactly s given surfaced lent = Iff.trans (reply_goes s given sur
 
 -- slices of other lengths
 pub other_lengths_refused : OtherLengthsRefused
-other_lengths_refused s given surfaced lent d = (reply_refused_exactly s given surfaced lent BadExtent).1 (inl (inr (inl d), refl))
+other_lengths_refused s given surfaced lent d = (reply_refused_exactly s given surfaced lent BadExtent).1 (inl (inr (inr (inl d)), refl))
 
 -- ---- `from_alignment`
 

@@ -2,9 +2,11 @@ pub mod Call
 pub mod Decides
 pub mod Ways
 pub mod Refusals
+pub mod Charged
 pub mod EachQuestion
 pub mod Conditions
 pub mod Exactly
+pub mod Sums
 pub mod Named
 pub mod Told
 pub mod Questions

@@ -95,7 +95,7 @@ finished_refuses s reply surfaced lent f = go (reply_way s reply surfaced lent)
 
 -- a state and words, with an answer
 abbrev pub saying : Result Answer Refusal → Outcome → Outcome
-saying a x = record { step = record { state = x.step.state; answer = a }; layouts = x.layouts; working = x.working; unclaimed = x.unclaimed }
+saying a x = record { step = record { state = x.step.state; answer = a }; layouts = x.layouts; working = x.working; unclaimed = x.unclaimed; tally = x.tally }
 
 -- leaves what it was given, but for the answer
 pub turn_refused : (styles : List ℕ) (x : Outcome) (t : Turn) → refused_in (turned styles x t) ≡ true
@@ -112,5 +112,5 @@ turn_refused styles x t e = go t.loan e (turned styles x t).step.answer refl
     go loan e (Ok (Finish f)) d = no e (ap is_err d)
     go own e (Err r) d = refused_reply_keeps x.step.state h.reply h.surfaced _ r d ∙ ap (λ (a : Result Answer Refusal). saying a x) (sym d)
     go (other lent) e (Err r) d =
-        ap (λ (o : Outcome). record { step = o.step; layouts = x.layouts; working = x.working; unclaimed = x.unclaimed }) (refused_reply_keeps x.step.state h.reply h.surfaced lent r d)
+        ap (λ (o : Outcome). record { step = o.step; layouts = x.layouts; working = x.working; unclaimed = x.unclaimed; tally = x.tally }) (refused_reply_keeps x.step.state h.reply h.surfaced lent r d)
         ∙ ap (λ (a : Result Answer Refusal). saying a x) (sym d)

@@ -31,11 +31,12 @@ use Rattle.run.specs.declared.Answer.{Answer}
 use Rattle.run.specs.declared.Answer.TheVariants.{Ask, Finish}
 use Rattle.run.specs.declared.Step.{Step}
 use Rattle.run.specs.Call.{Lent, Outcome}
-use Rattle.run.specs.Run.{box_at_hand, asking, finishing, proceeding, begun, opened, measured_on, laid_out, replied}
-use Rattle.run.specs.Theorems.{Heard, next, Turn, turned, open_by, open_in, Left, opening, reply, AllRefused, WroteSize, ToldIsWritten}
+use Rattle.run.specs.Run.{box_at_hand, asking, finishing, proceeding, begun, opened, charged, measured_on, laid_out, replied}
+use Rattle.run.specs.Theorems.{item_named, NamedItemCounts, Heard, next, Turn, turned, open_by, open_in, Left, opening, reply, AllRefused, WroteSize, ToldIsWritten}
 use Rattle.run.proofs.Ways.{NextWay, asks, ends, next_way, OpeningWay, begins, opening_way, ReplyWay, measures, lays_out, reply_way, never_kept}
 use Rattle.run.proofs.Refusals.{refused_in, saying, turn_refused}
-use Rattle.run.proofs.EachQuestion.{of_asked}
+use Rattle.run.proofs.EachQuestion.{of_asked, item_is_named}
+use Rattle.run.proofs.Sums.{reply_counts_one}
 
 -- ---- of a box
 
@@ -53,8 +54,9 @@ asked_size container style candidate replies overflow input e =
     let box = resolved_box container style candidate in
     subst (Tells candidate.node (size_by (sizing style box (size_keywords style box) replies))) e
     (of_asked (λ a. Tells candidate.node (size_by (sizing style box (size_keywords style box) replies)) a.question)
-    (record { both = λ m. tt; width = λ m. tt; height = λ m. tt; fill = λ m. tt })
-    container style candidate replies
+    candidate
+    (record { both = λ m e. tt; width = λ m e. tt; height = λ m e. tt; fill = λ m e. tt })
+    container style replies
     (λ space. (refl, refl)))
 
 -- ---- what a call says is what it leaves open
@@ -126,7 +128,7 @@ lays_out_lem styles o input overflow surfaced e n = go (reply_way s (LaidOut ove
     s = o.step.state
 
     lent : Lent
-    lent = record { styles = styles; layouts = o.layouts; working = o.working; unclaimed = o.unclaimed }
+    lent = record { styles = styles; layouts = o.layouts; working = o.working; unclaimed = o.unclaimed; tally = o.tally }
 
     box : OofCandidate
     box = box_at_hand o.working s.counts
@@ -150,3 +152,14 @@ told_is_written styles o input between overflow surfaced left e refused n =
     let same = ap (λ (x : Outcome). next styles x h) (all_refused styles o between refused) in
     subst (λ (x : Outcome). WroteSize input o.layouts x.layouts) (sym same)
     (lays_out_lem styles o input overflow surfaced (left_open left (ap is_err e) ∙ e) (sym (ap refused_in same) ∙ n))
+
+-- ---- the item that counts is the one that was named
+
+pub named_item_counts : NamedItemCounts
+named_item_counts styles asked q given surfaced lent left e stands n =
+    let s = asked.step.state in
+    let box = box_at_hand asked.working s.counts in
+    let told = open_question s.progress styles asked.working s q (left_open left (ap is_err e) ∙ e) in
+    (reply_counts_one s given surfaced lent n).tally
+    ∙ ap (λ (c : OofCandidate). charged lent.tally c.node) stands
+    ∙ ap (charged lent.tally) (sym (item_is_named s.opened.container (style_at styles box.node) box s.replies) ∙ ap item_named told)

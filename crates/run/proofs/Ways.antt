@@ -30,8 +30,8 @@ use Rattle.run.specs.declared.Opening.{Opening}
 use Rattle.run.specs.declared.Counts.{Counts}
 use Rattle.run.specs.declared.Opened.{Opened}
 use Rattle.run.specs.declared.State.{State}
-use Rattle.run.specs.Call.{Lent, unwritten}
-use Rattle.run.specs.Refusals.{Verdict, accepted, ◌when◌else◌, ragged, bad_table, bad_slices, bad_list, list_full, lent_by, wrong_counts}
+use Rattle.run.specs.Call.{Slices, Lent, slices_of, unwritten}
+use Rattle.run.specs.Refusals.{Verdict, accepted, ◌when◌else◌, ragged, bad_table, bad_slices, bad_list, list_full, lent_by, any_above, wrong_counts}
 use Rattle.run.specs.Run.{asking, finishing, proceeding, closed, begun, opened, claims_of, none_filled, opening_verdict, measured_on, laid_out, refusing, reply_verdict, taken_in, taken_by, replied}
 
 -- ---- the next box, or the finish
@@ -119,7 +119,7 @@ unfolding bad_list
 few_records list e = ltb-false 4096 (length list / candidate_width) (or_parts (ragged candidate_width list) _ e).1
 
 -- so is the working list
-at_most : (lent : Lent) → bad_slices lent ≡ false → length lent.working / candidate_width ≤ 4096
+at_most : (lent : Slices) → bad_slices lent ≡ false → length lent.working / candidate_width ≤ 4096
 unfolding bad_slices
 at_most lent e =
     let table = bad_table lent.styles lent.layouts in
@@ -136,7 +136,7 @@ opening_room o candidates lent e =
     let past2 = passed _ _ _ past1 in
     let past5 = passed _ _ _ (passed _ _ _ (passed _ _ _ past2.1).1).1 in
     let h = enough (claims_of o) lent none_filled candidates past5.0 in
-    (omega arith, at_most lent (or_parts (bad_slices lent) _ past2.0).0)
+    (omega arith, at_most (slices_of lent) (or_parts (bad_slices (slices_of lent)) _ (or_parts _ (ragged candidate_width candidates) past2.0).0).0)
 
 -- at a reply
 pub reply_room : (s : State) (reply : Reply) (surfaced : List ℕ) (lent : Lent) → reply_verdict s reply surfaced lent ≡ accepted
@@ -153,11 +153,13 @@ pub record Counted (lent : Lent) (counts : Counts) : Type 0 where
   pub first : 1 ≤ counts.begun
   pub begun : counts.begun ≤ counts.filled.working
   pub answered : counts.answered ≤ 3 * counts.begun
+  pub tally : any_above counts.answered lent.tally ≡ false
 
 pub counted : (lent : Lent) (counts : Counts) → wrong_counts lent counts ≡ false → Counted lent counts
 unfolding wrong_counts
 counted lent counts e =
-    let most = or_parts (lists || eqb counts.begun 0 || ltb counts.filled.working counts.begun) (ltb (3 * counts.begun) counts.answered) e in
+    let last = or_parts (lists || eqb counts.begun 0 || ltb counts.filled.working counts.begun || ltb (3 * counts.begun) counts.answered) (any_above counts.answered lent.tally) e in
+    let most = or_parts (lists || eqb counts.begun 0 || ltb counts.filled.working counts.begun) (ltb (3 * counts.begun) counts.answered) last.0 in
     let begun = or_parts (lists || eqb counts.begun 0) (ltb counts.filled.working counts.begun) most.0 in
     let first = or_parts lists (eqb counts.begun 0) begun.0 in
     let held = or_parts (ltb (length lent.working / candidate_width) counts.filled.working) (ltb (length lent.unclaimed / candidate_width) counts.filled.unclaimed) first.0 in
@@ -168,6 +170,7 @@ counted lent counts e =
       first = omega arith;
       begun = ltb-false _ _ begun.1;
       answered = ltb-false _ _ most.1;
+      tally = last.1;
     }
   where
     lists : Bool

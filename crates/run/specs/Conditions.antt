@@ -17,7 +17,7 @@ use Rattle.oof_box.specs.declared.question.Stage.TheVariants as stage
 use Rattle.run.specs.declared.Opening.{Opening}
 use Rattle.run.specs.declared.Counts.{Counts}
 use Rattle.run.specs.declared.State.{State}
-use Rattle.run.specs.Call.{Lent}
+use Rattle.run.specs.Call.{Slices, Lent, slices_of}
 use Rattle.run.specs.Refusals.{lent_by}
 use Rattle.run.specs.Run.{claims_of, extents_of, none_filled}
 
@@ -48,8 +48,12 @@ Whole list = (n : ℕ) × (length list ≡ record_words * n)
 abbrev pub GoodList : List ℕ → Type 0
 GoodList list = (n : ℕ) × (n ≤ 4096) × (length list ≡ record_words * n)
 
-abbrev pub SlicesAreBad : Lent → Type 0
+abbrev pub SlicesAreBad : Slices → Type 0
 SlicesAreBad lent = (¬ GoodTable lent.styles lent.layouts) ⊎ (¬ GoodList lent.working) ⊎ (¬ GoodList lent.unclaimed)
+
+-- request #107: "A slice that doesn't hold n words is a bad extent"
+abbrev pub TallyIsBad : Lent → Type 0
+TallyIsBad lent = length lent.tally ≢ items lent.styles
 
 -- "in a reply, any but surfaced of another length than at opening"
 abbrev pub LengthsDiffer : State → Lent → Type 0
@@ -157,6 +161,10 @@ CountsAreWrong lent c =
     ⊎ (c.begun < 1) ⊎ (c.filled.working < c.begun)
     ⊎ (3 * c.begun < c.answered)
 
+-- request #107: "On a reply, a word above the run's own count of questions answered is a wrong reply"
+abbrev pub WordIsAbove : Lent → Counts → Type 0
+WordIsAbove lent c = (i : ℕ) × (i < length lent.tally) × (c.answered < get_or lent.tally i 0)
+
 -- ---- 7, unresolved side: "self-start or self-end given to `from_alignment`", of crate `tree`
 
 abbrev pub SideIsUnresolved : AlignItems → Type 0
@@ -177,7 +185,7 @@ NoneHolds (test ∷ tests) = (¬ test.1) × NoneHolds tests
 abbrev pub opening_tests : Opening → List ℕ → Lent → List (ℕ × Type 0)
 opening_tests o candidates lent =
     (1, AreaIsBad o)
-    ∷ (2, SlicesAreBad lent ⊎ (¬ Whole candidates))
+    ∷ (2, SlicesAreBad (slices_of lent) ⊎ TallyIsBad lent ⊎ (¬ Whole candidates))
     ∷ (3, StyleIsBad lent.styles)
     ∷ (4, CandidateIsBad lent.styles candidates (places candidates))
     ∷ (5, Exceeds (claims_of o) (candidates_in candidates) lent.working lent.unclaimed none_filled)
@@ -187,8 +195,8 @@ opening_tests o candidates lent =
 abbrev pub reply_tests : State → Reply → List ℕ → Lent → List (ℕ × Type 0)
 reply_tests s given slice lent =
     let surfaced = lent_by given slice in
-    (2, SlicesAreBad lent ⊎ LengthsDiffer s lent ⊎ (¬ Whole surfaced))
-    ∷ (6, NotAsked s.progress given ⊎ CountsAreWrong lent s.counts)
+    (2, SlicesAreBad (slices_of lent) ⊎ TallyIsBad lent ⊎ LengthsDiffer s lent ⊎ (¬ Whole surfaced))
+    ∷ (6, NotAsked s.progress given ⊎ CountsAreWrong lent s.counts ⊎ WordIsAbove lent s.counts)
     ∷ (3, StyleIsBad lent.styles)
     ∷ (4, CandidateIsBad lent.styles lent.working s.counts.filled.working ⊎ CandidateIsBad lent.styles surfaced (places surfaced))
     ∷ (5, Exceeds s.opened.claims (candidates_in surfaced) lent.working lent.unclaimed s.counts.filled)

@@ -1,5 +1,6 @@
 -- When a call is refused: the rows of document 01's table, and the order in which they are tested. Assumes nothing.
 use Rattle.std.specs.Prelude.{ℕ, ◌*◌, ◌/◌, ◌%◌, Bool, cond, not, ◌||◌, List, [], Result, Ok, Err, eqb, ltb, length}
+use Rattle.std.specs.List.{list_any}
 use Rattle.refusal.specs.declared.Refusal.{Refusal}
 use Rattle.records.specs.Records.{good_records, room}
 use Rattle.style.specs.declared.ContainingBlockClaims.{ContainingBlockClaims}
@@ -15,7 +16,7 @@ use Rattle.oof_box.specs.declared.question.Reply.TheVariants.{Both, Width, Heigh
 use Rattle.run.specs.declared.Opening.{Opening}
 use Rattle.run.specs.declared.Counts.{Counts}
 use Rattle.run.specs.declared.Extents.{Extents}
-use Rattle.run.specs.Call.{Lent}
+use Rattle.run.specs.Call.{Slices, Lent, slices_of}
 
 -- a call is accepted, or refused for one reason
 abbrev pub Verdict : Type 0
@@ -52,19 +53,27 @@ bad_table styles layouts =
 unfoldable pub bad_list : List ℕ → Bool
 bad_list list = ragged candidate_width list || ltb 4096 (length list / candidate_width)
 
-unfoldable pub bad_slices : Lent → Bool
+unfoldable pub bad_slices : Slices → Bool
 bad_slices lent = bad_table lent.styles lent.layouts || bad_list lent.working || bad_list lent.unclaimed
 
 -- a slice of another length than at the opening
-unfoldable pub other_lengths : Extents → Lent → Bool
+unfoldable pub other_lengths : Extents → Slices → Bool
 other_lengths e lent =
     not (eqb (length lent.styles) e.styles) || not (eqb (length lent.layouts) e.layouts)
     || not (eqb (length lent.working) e.working)
     || not (eqb (length lent.unclaimed) e.unclaimed)
 
--- the four slices of a call after the opening
-abbrev pub bad_lent : Extents → Lent → Bool
+-- the four slices of what reads a finished run
+abbrev pub bad_lent : Extents → Slices → Bool
 bad_lent e lent = bad_slices lent || other_lengths e lent
+
+-- request #107: a tally not of one word an item
+abbrev pub bad_tally : Lent → Bool
+bad_tally lent = not (eqb (length lent.tally) (items lent.styles))
+
+-- a slice of a reply of another length than at the opening, the tally among them
+abbrev pub other_extents : Extents → Lent → Bool
+other_extents e lent = other_lengths e (slices_of lent) || not (eqb (length lent.tally) e.tally)
 
 -- the surfaced slice goes by the reply's kind: only that of a lay-out reply is looked at
 abbrev pub lent_by : Reply → List ℕ → List ℕ
@@ -101,10 +110,16 @@ abbrev pub above_lists : List ℕ → List ℕ → Filled → Bool
 above_lists working unclaimed filled =
     ltb (length working / candidate_width) filled.working || ltb (length unclaimed / candidate_width) filled.unclaimed
 
--- state counts exceed the lists, boxes begun not 1 to the filled working records, or question count above 3 × the boxes begun
+-- request #107: a word of the tally is above the run's count of questions answered
+abbrev pub any_above : ℕ → List ℕ → Bool
+any_above answered tally = list_any (ltb answered) tally
+
+-- state counts exceed the lists, boxes begun not 1 to the filled working records, or question count above 3 × the boxes begun; or a
+-- word of the tally above the question count
 unfoldable pub wrong_counts : Lent → Counts → Bool
 wrong_counts lent c =
     above_lists lent.working lent.unclaimed c.filled
     || eqb c.begun 0
     || ltb c.filled.working c.begun
     || ltb (3 * c.begun) c.answered
+    || any_above c.answered lent.tally

@@ -1,6 +1,6 @@
 -- The run: what any call does, with any words, any lengths and any state (document 01, "The dialogue"). Read `opened` and `replied`, the
 -- last of each part, first. Assumes nothing.
-use Rattle.std.specs.Prelude.{ℕ, ◌+◌, ◌-◌, ◌*◌, false, cond, ◌||◌, List, map, ltb, length, None, Some, is_none, Option, Ok, Err, Float}
+use Rattle.std.specs.Prelude.{ℕ, ◌+◌, ◌-◌, ◌*◌, false, cond, ◌||◌, List, map, ltb, length, get_or, set, replicate, None, Some, is_none, Option, Ok, Err, Float}
 use Rattle.geometry.specs.Geometry.{union_of, zero_rect, zero_size, zero_point}
 use Rattle.geometry.specs.declared.Rect.{Rect}
 use Rattle.refusal.specs.declared.Refusal.{Refusal}
@@ -31,8 +31,8 @@ use Rattle.run.specs.declared.Opened.{Opened}
 use Rattle.run.specs.declared.State.{State}
 use Rattle.run.specs.declared.Answer.TheVariants.{Ask, Finish}
 use Rattle.run.specs.declared.Step.{Step}
-use Rattle.run.specs.Call.{Lent, Outcome, unwritten}
-use Rattle.run.specs.Refusals.{Verdict, accepted, ◌when◌else◌, bad_area, ragged, bad_slices, bad_lent, bad_style, bad_candidate, bad_candidates, list_full, wrong_counts, lent_by}
+use Rattle.run.specs.Call.{Slices, Lent, Outcome, slices_of, unwritten}
+use Rattle.run.specs.Refusals.{Verdict, accepted, ◌when◌else◌, bad_area, ragged, bad_slices, bad_tally, other_extents, bad_style, bad_candidate, bad_candidates, list_full, wrong_counts, lent_by}
 
 -- ---- from one question to the next
 
@@ -82,14 +82,19 @@ container_of o =
       overflow = record { x = overflow_of o.overflowx; y = overflow_of o.overflowy };
     }
 
-abbrev pub extents_of : Lent → Extents
-extents_of lent =
+-- the lengths of four slices, beside a tally of so many words
+abbrev pub extents_beside : ℕ → Slices → Extents
+extents_beside tally slices =
     record {
-      styles = length lent.styles;
-      layouts = length lent.layouts;
-      working = length lent.working;
-      unclaimed = length lent.unclaimed;
+      styles = length slices.styles;
+      layouts = length slices.layouts;
+      working = length slices.working;
+      unclaimed = length slices.unclaimed;
+      tally = tally;
     }
+
+abbrev pub extents_of : Lent → Extents
+extents_of lent = extents_beside (length lent.tally) (slices_of lent)
 
 abbrev pub none_filled : Filled
 none_filled = record { working = 0; unclaimed = 0 }
@@ -98,7 +103,7 @@ none_filled = record { working = 0; unclaimed = 0 }
 unfoldable pub opening_verdict : Opening → List ℕ → Lent → Verdict
 opening_verdict o candidates lent =
     BadArea when bad_area o else
-    BadExtent when (bad_slices lent || ragged candidate_width candidates) else
+    BadExtent when (bad_slices (slices_of lent) || bad_tally lent || ragged candidate_width candidates) else
     BadStyle when bad_style lent.styles else
     BadCandidate when bad_candidates lent.styles candidates else
     ListFull when list_full (claims_of o) lent none_filled candidates else
@@ -120,7 +125,7 @@ closed lent =
           };
     }
 
--- the candidates swept into both lists, then the first box; without one, a finish with zeros
+-- the candidates swept into both lists and the tally cleared, then the first box; without one, a finish with zeros
 unfoldable pub begun : Opening → List ℕ → Lent → Outcome
 begun o candidates lent =
     let after = swept_into (claims_of o) (candidates_in candidates) lent.working lent.unclaimed none_filled in
@@ -131,6 +136,7 @@ begun o candidates lent =
       layouts = lent.layouts;
       working = after.working;
       unclaimed = after.unclaimed;
+      tally = replicate (length lent.tally) 0;
     }
 
 abbrev pub opened_by : Verdict → Opening → List ℕ → Lent → Outcome
@@ -153,20 +159,30 @@ taken_by s reply = taken_in s.progress s.replies reply
 -- tests 2, 6, 3, 4, 5
 unfoldable pub reply_verdict : State → Reply → List ℕ → Lent → Verdict
 reply_verdict s reply surfaced lent =
-    BadExtent when (bad_lent s.opened.extents lent || ragged candidate_width (lent_by reply surfaced)) else
+    BadExtent when (bad_slices (slices_of lent) || bad_tally lent || other_extents s.opened.extents lent || ragged candidate_width (lent_by reply surfaced)) else
     WrongReply when (is_none (taken_by s reply) || wrong_counts lent s.counts) else
     BadStyle when bad_style lent.styles else
     BadCandidate when (bad_candidate lent.styles lent.working s.counts.filled.working || bad_candidates lent.styles (lent_by reply surfaced)) else
     ListFull when list_full s.opened.claims lent s.counts.filled (lent_by reply surfaced) else
     accepted
 
--- a size was replied: the box goes on
+-- request #107: one more question is answered for this item
+unfoldable pub charged : List ℕ → ℕ → List ℕ
+charged tally node = set tally node (get_or tally node 0 + 1)
+
+-- a size was replied: its item's count goes up, and the box goes on
 unfoldable pub measured_on : State → Replies → Lent → Outcome
 measured_on s replies lent =
-    unwritten lent (asking lent.styles lent.working s.opened (record { filled = s.counts.filled; begun = s.counts.begun; answered = s.counts.answered + 1 }) s.overflow replies)
+    record {
+      step = asking lent.styles lent.working s.opened (record { filled = s.counts.filled; begun = s.counts.begun; answered = s.counts.answered + 1 }) s.overflow replies;
+      layouts = lent.layouts;
+      working = lent.working;
+      unclaimed = lent.unclaimed;
+      tally = charged lent.tally (box_at_hand lent.working s.counts).node;
+    }
 
--- the box is laid out: its layout is written at its node's place; what it surfaced is shifted by its location and swept to the rear;
--- its contribution is joined; then the next box
+-- the box is laid out: its layout is written at its node's place, and its item's count goes up; what it surfaced is shifted by its location
+-- and swept to the rear; its contribution is joined; then the next box
 unfoldable pub laid_out : State → Rect Float → List ℕ → Lent → Outcome
 laid_out s overflow surfaced lent =
     let run = s.opened in
@@ -185,6 +201,7 @@ laid_out s overflow surfaced lent =
       layouts = written lent.layouts (layout_width * box.node) (layout_words placed.layout);
       working = after.working;
       unclaimed = after.unclaimed;
+      tally = charged lent.tally box.node;
     }
 
 -- a refused reply returns the state as it came

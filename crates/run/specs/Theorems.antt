@@ -1,5 +1,5 @@
 -- What holds of runs; each statement says what the host may do. `proofs/` proves each, under its name in small letters. Assumes nothing.
-use Rattle.std.specs.Prelude.{ℕ, ◌+◌, ◌-◌, ◌*◌, ◌≤◌, ◌↔◌, ◌≡◌, Bool, true, false, cond, eqb, length, Option, None, Some, Result, Ok, Err, is_err, option_map, ⊤, Float}
+use Rattle.std.specs.Prelude.{ℕ, ◌+◌, ◌-◌, ◌*◌, ◌<◌, ◌≤◌, ◌↔◌, ◌≡◌, Bool, true, false, cond, eqb, length, get_or, replicate, sum, count_by, Option, None, Some, Result, Ok, Err, is_err, option_map, ⊤, Float}
 use mathlib.Core.List.{List, [], ◌∷◌, ◌++◌, map, foldl}
 use Rattle.refusal.specs.Refusal.{number_of}
 use Rattle.refusal.specs.declared.Refusal.{Refusal}
@@ -23,17 +23,19 @@ use Rattle.oof_box.specs.Cut.{asked_after}
 use Rattle.oof_box.specs.Theorems.{reply_to}
 use Rattle.oof_box.specs.declared.question.Replies.{Replies}
 use Rattle.oof_box.specs.declared.question.LayoutInput.{LayoutInput}
-use Rattle.oof_box.specs.declared.question.Question.TheVariants.{LayOut}
+use Rattle.oof_box.specs.declared.question.Question.{Question}
+use Rattle.oof_box.specs.declared.question.Question.TheVariants.{MeasureBoth, MeasureWidth, MeasureHeight, LayOut}
 use Rattle.oof_box.specs.declared.question.Reply.{Reply}
 use Rattle.oof_box.specs.declared.question.Reply.TheVariants.{LaidOut}
 use Rattle.run.specs.declared.Opening.{Opening}
 use Rattle.run.specs.declared.State.{State}
 use Rattle.run.specs.declared.Answer.{Answer}
+use Rattle.run.specs.declared.Finish as ending
 use Rattle.run.specs.declared.Answer.TheVariants.{Ask, Finish}
 use Rattle.run.specs.declared.Step.{Step}
 use Rattle.run.specs.Call.{Lent, Outcome, unwritten}
-use Rattle.run.specs.Run.{box_at_hand, opened, replied, closed, claims_of, container_of}
-use Rattle.run.specs.Conditions.{StyleIsBad, FirstNotAllowed, AllAllowed, LengthsDiffer, SideIsUnresolved, FirstIs, NoneHolds, opening_tests, reply_tests, QuestionKind, kind_of_question, kind_at}
+use Rattle.run.specs.Run.{box_at_hand, charged, opened, replied, closed, claims_of, container_of}
+use Rattle.run.specs.Conditions.{StyleIsBad, FirstNotAllowed, AllAllowed, LengthsDiffer, SideIsUnresolved, FirstIs, NoneHolds, WordIsAbove, opening_tests, reply_tests, QuestionKind, kind_of_question, kind_at}
 use Rattle.run.specs.Straight.{World, Box, Course, ended, asks, straight}
 
 -- ---- A call is refused with r exactly when r's condition is the first that holds, by document 01's numbers and in its order
@@ -71,6 +73,19 @@ StageTellsKind =
     (container : ContainingBlock) (style : Style) (candidate : OofCandidate) (replies : Replies)
     → let asked = asked_after container style candidate replies in
     kind_of_question asked.question ≡ kind_at asked.stage
+
+-- the item that a question names
+abbrev pub item_named : Question → ℕ
+item_named (MeasureBoth m) = m.node
+item_named (MeasureWidth m) = m.node
+item_named (MeasureHeight m) = m.node
+item_named (LayOut l) = l.node
+
+-- it is that of the box's record
+abbrev pub ItemIsNamed : Type 0
+ItemIsNamed =
+    (container : ContainingBlock) (style : Style) (candidate : OofCandidate) (replies : Replies)
+    → item_named (asked_after container style candidate replies).question ≡ candidate.node
 
 -- ---- The check of a table names exactly its first word that is not allowed, and nothing exactly where every word is (request #103). It names
 -- one exactly where refusal 3's condition holds.
@@ -169,6 +184,62 @@ ThreeQuestionsForEachBox =
     → let first = (opened o candidates lent).step in
     asked_for_in i (asked_for i first) first.state calls ≤ 3
 
+-- ---- Request #107. An accepted opening has answered no question and clears the tally. An accepted reply has answered one more, and counts for one
+-- item: that of the box at hand, as its record says now. So it is from any state, whatever words the host rewrote.
+
+pub record CountsNone (lent : Lent) (has : Outcome) : Type 0 where
+  pub answered : has.step.state.counts.answered ≡ 0
+  pub tally : has.tally ≡ replicate (length lent.tally) 0
+
+abbrev pub OpeningCountsNone : Type 0
+OpeningCountsNone =
+    (o : Opening) (candidates : List ℕ) (lent : Lent)
+    → is_err (opened o candidates lent).step.answer ≡ false
+    → CountsNone lent (opened o candidates lent)
+
+pub record CountsOne (s : State) (lent : Lent) (has : Outcome) : Type 0 where
+  pub answered : has.step.state.counts.answered ≡ s.counts.answered + 1
+  pub has_word : (box_at_hand lent.working s.counts).node < length lent.tally
+  pub tally : has.tally ≡ charged lent.tally (box_at_hand lent.working s.counts).node
+
+abbrev pub ReplyCountsOne : Type 0
+ReplyCountsOne =
+    (s : State) (reply : Reply) (surfaced : List ℕ) (lent : Lent)
+    → is_err (replied s reply surfaced lent).step.answer ≡ false
+    → CountsOne s lent (replied s reply surfaced lent)
+
+-- so the questions answered are the replies accepted
+abbrev pub one_if_accepted : Result Answer Refusal → ℕ
+one_if_accepted (Ok answer) = 1
+one_if_accepted (Err r) = 0
+
+abbrev pub RepliesAreCounted : Type 0
+RepliesAreCounted =
+    (s : State) (reply : Reply) (surfaced : List ℕ) (lent : Lent)
+    → let step = (replied s reply surfaced lent).step in
+    step.state.counts.answered ≡ s.counts.answered + one_if_accepted step.answer
+
+-- ---- "The words always add up to the run's questions answered so far, at the end the count in the finish." So a reply that is lent them as
+-- they are is never refused for one above that count.
+
+pub record AddsUp (has : Outcome) : Type 0 where
+  pub so_far : sum has.tally ≡ has.step.state.counts.answered
+  pub at_finish : (f : ending.Finish) → has.step.answer ≡ Ok (Finish f) → sum has.tally ≡ f.count
+  pub none_above : (lent : Lent) → lent.tally ≡ has.tally → ¬ WordIsAbove lent has.step.state.counts
+
+abbrev pub OpeningAddsUp : Type 0
+OpeningAddsUp =
+    (o : Opening) (candidates : List ℕ) (lent : Lent)
+    → is_err (opened o candidates lent).step.answer ≡ false
+    → AddsUp (opened o candidates lent)
+
+-- and each reply that is lent the tally, and given the state, as the last call left them keeps it so, refused or not, whatever else it is lent
+abbrev pub ReplyAddsUp : Type 0
+ReplyAddsUp =
+    (before : Outcome) (reply : Reply) (surfaced : List ℕ) (lent : Lent)
+    → AddsUp before → lent.tally ≡ before.tally
+    → AddsUp (replied before.step.state reply surfaced lent)
+
 -- ---- With nobody else writing the lent words, the calls are the straight run: after an opening that isn't refused and any list of
 -- replies, the words and the state are those of the boxes so far, and a call that isn't refused says what the run says next. Replies may
 -- be refused, for any reason, and may lend other slices where they are. A list may end anywhere, so this holds after each call.
@@ -182,7 +253,7 @@ pub record Heard : Type 0 where
 unfoldable pub next : List ℕ → Outcome → Heard → Outcome
 next styles o h =
     replied o.step.state h.reply h.surfaced
-    (record { styles = styles; layouts = o.layouts; working = o.working; unclaimed = o.unclaimed })
+    (record { styles = styles; layouts = o.layouts; working = o.working; unclaimed = o.unclaimed; tally = o.tally })
 
 -- what a call is lent: the run's own slices, with the words that the last call left in them; or others
 pub data Loan : Type 0 where
@@ -203,6 +274,7 @@ next_with styles o h (other lent) =
       layouts = o.layouts;
       working = o.working;
       unclaimed = o.unclaimed;
+      tally = o.tally;
     }
 
 abbrev pub turned : List ℕ → Outcome → Turn → Outcome
@@ -244,6 +316,16 @@ abbrev pub said_after : ℕ → Course → Result Answer Refusal
 said_after answered (ended w) = Ok (Finish (record { overflow = w.overflow; count = answered }))
 said_after answered (asks w q next) = Ok (Ask q)
 
+-- the item that the open question names, if one is open
+abbrev pub item_open : Course → List ℕ
+item_open (ended w) = []
+item_open (asks w q next) = item_named q ∷ []
+
+-- the items that the questions named which these replies answer, in turn; each is of the kind that is asked for
+unfoldable pub items_answered : Course → List Heard → List ℕ
+items_answered course [] = []
+items_answered course (h ∷ hs) = item_open course ++ items_answered (hearing course h) hs
+
 -- the layouts of a run's boxes, written in turn, each at its node's place: a node claimed twice has its last layout
 unfoldable pub laid_into : List ℕ → List Box → List ℕ
 laid_into layouts [] = layouts
@@ -284,20 +366,23 @@ abbrev pub awaited_in : Course → Option QuestionKind
 awaited_in (ended w) = None
 awaited_in (asks w q next) = Some (kind_of_question q)
 
--- what a call left is where the course stands, after so many replies that weren't refused: every word of the lent slices, the counts, the
--- overflow so far, what is still open, and the answer unless it is a refusal
-pub record Stands (lent : Lent) (answered : ℕ) (o : Outcome) (course : Course) : Type 0 where
+-- what a call left is where the course stands, after replies that weren't refused to questions that named these items: every word of the lent
+-- slices, the counts, the overflow so far, what is still open, and the answer unless it is a refusal
+pub record Stands (lent : Lent) (answered : List ℕ) (o : Outcome) (course : Course) : Type 0 where
   pub layouts : o.layouts ≡ laid_into lent.layouts (so_far course).laid
   pub working : o.working ≡ appended lent.working 0 (claimed_in (so_far course))
   pub unclaimed : o.unclaimed ≡ appended lent.unclaimed 0 (so_far course).unclaimed
   pub filled : o.step.state.counts.filled ≡ record { working = length (claimed_in (so_far course)); unclaimed = length (so_far course).unclaimed }
   pub begun : o.step.state.counts.begun ≡ begun_in course
-  pub counted : o.step.state.counts.answered ≡ answered
+  pub counted : o.step.state.counts.answered ≡ length answered
+  -- request #107: a word for each item, "the number of questions answered for that item in this run"
+  pub tally_length : length o.tally ≡ length lent.tally
+  pub tally : (i : ℕ) → i < length lent.tally → get_or o.tally i 0 ≡ count_by (eqb i) answered
   pub laid : laid_so_far o ≡ length (so_far course).laid
   pub overflow : o.step.state.overflow ≡ (so_far course).overflow
-  pub pending : open_in lent.styles o ≡ said_after answered course
+  pub pending : open_in lent.styles o ≡ said_after (length answered) course
   pub kind : awaited o.step.state.progress ≡ awaited_in course
-  pub answer : is_err o.step.answer ≡ false → o.step.answer ≡ said_after answered course
+  pub answer : is_err o.step.answer ≡ false → o.step.answer ≡ said_after (length answered) course
 
 -- what an opening and the calls after it leave
 abbrev pub called : Opening → List ℕ → Lent → List Turn → Outcome
@@ -307,17 +392,24 @@ called o candidates lent turns = foldl (turned lent.styles) (opened o candidates
 abbrev pub heeded_in : Opening → List ℕ → Lent → List Turn → List Heard
 heeded_in o candidates lent turns = heeded lent.styles (opened o candidates lent) turns
 
--- and where the straight run stands after these; 4,096 records are the most that a working list holds
+-- where the straight run stands at the opening; 4,096 records are the most that a working list holds
+abbrev pub course_opened : Opening → List ℕ → Lent → Course
+course_opened o candidates lent = straight 4096 (container_of o) (claims_of o) (style_at lent.styles) (candidates_in candidates)
+
+-- and after these
 abbrev pub course_of : Opening → List ℕ → Lent → List Turn → Course
-course_of o candidates lent turns =
-    foldl hearing (straight 4096 (container_of o) (claims_of o) (style_at lent.styles) (candidates_in candidates)) (heeded_in o candidates lent turns)
+course_of o candidates lent turns = foldl hearing (course_opened o candidates lent) (heeded_in o candidates lent turns)
+
+-- the items that their questions named
+abbrev pub answered_in : Opening → List ℕ → Lent → List Turn → List ℕ
+answered_in o candidates lent turns = items_answered (course_opened o candidates lent) (heeded_in o candidates lent turns)
 
 abbrev pub StraightRun : Type 0
 StraightRun =
     (o : Opening) (candidates : List ℕ) (lent : Lent) (turns : List Turn)
     → is_err (opened o candidates lent).step.answer ≡ false
     → AllLend lent.styles (opened o candidates lent) turns
-    → Stands lent (length (heeded_in o candidates lent turns)) (called o candidates lent turns) (course_of o candidates lent turns)
+    → Stands lent (answered_in o candidates lent turns) (called o candidates lent turns) (course_of o candidates lent turns)
 
 -- slices of other lengths than at the opening are always refused, whatever the state and the reply
 abbrev pub OtherLengthsRefused : Type 0
@@ -351,6 +443,17 @@ HoistedOrder =
 pub data Left (styles : List ℕ) : Outcome → Type 0 where
   opening : (o : Opening) (candidates : List ℕ) (lent : Lent) → lent.styles ≡ styles → Left styles (opened o candidates lent)
   reply : (s : State) (reply : Reply) (surfaced : List ℕ) (lent : Lent) → lent.styles ≡ styles → Left styles (replied s reply surfaced lent)
+
+-- request #107: an accepted reply counts for the item that the question named, while the record of the box that was asked about stands. All other
+-- words may be rewritten, and replies may be refused between: they return the state as it came
+abbrev pub NamedItemCounts : Type 0
+NamedItemCounts =
+    (styles : List ℕ) (asked : Outcome) (q : Question) (reply : Reply) (surfaced : List ℕ) (lent : Lent)
+    → Left styles asked
+    → asked.step.answer ≡ Ok (Ask q)
+    → box_at_hand lent.working asked.step.state.counts ≡ box_at_hand asked.working asked.step.state.counts
+    → is_err (replied asked.step.state reply surfaced lent).step.answer ≡ false
+    → (replied asked.step.state reply surfaced lent).tally ≡ charged lent.tally (item_named q)
 
 abbrev pub AllRefused : List ℕ → Outcome → List Turn → Type 0
 AllRefused styles o [] = Unit {0}

@@ -3,7 +3,7 @@
 #![tactic(auto)]
 
 ghost use Rattle.std.specs.Prelude.{◌≡◌};
-ghost use Rattle.run.specs.Run.{container_of, extents_of};
+ghost use Rattle.run.specs.Run.{container_of, extents_beside, extents_of};
 
 use geometry::{Point, Rect};
 use oof_box::question::{Question, Replies, Stage};
@@ -49,22 +49,38 @@ pub struct Counts {
     pub answered: usize,
 }
 
-// The slices that every call is lent, of a call that writes none of them.
+// Four slices of a run. A part that reads a finished run is lent these.
 #[derive(Drop)]
-pub struct Lent<'a> {
+pub struct Slices<'a> {
     pub styles: &'a [u32],
     pub layouts: &'a [u32],
     pub working: &'a [u32],
     pub unclaimed: &'a [u32],
 }
 
-// Contracts see them by their words.
+// Contracts see them by their words, here and below.
+impl<'a> Model for Slices<'a> {
+    ghost use Rattle.run.specs.Call.{Slices};
+
+    ghost Value = { Slices };
+
+    ghost view = { λ a. record { styles = a.styles.now; layouts = a.layouts.now; working = a.working.now; unclaimed = a.unclaimed.now } };
+}
+
+// The slices that every call is lent, of a call that writes none of them. The tally holds a word for each item: how many of the run's questions
+// about it are answered.
+#[derive(Drop)]
+pub struct Lent<'a> {
+    pub slices: Slices<'a>,
+    pub tally: &'a [u32],
+}
+
 impl<'a> Model for Lent<'a> {
     ghost use Rattle.run.specs.Call.{Lent};
 
     ghost Value = { Lent };
 
-    ghost view = { λ a. record { styles = a.styles.now; layouts = a.layouts.now; working = a.working.now; unclaimed = a.unclaimed.now } };
+    ghost view = { λ a. record { styles = a.slices.styles; layouts = a.slices.layouts; working = a.slices.working; unclaimed = a.slices.unclaimed; tally = a.tally.now } };
 }
 
 // The lengths of the slices lent at the opening, in words.
@@ -74,18 +90,29 @@ pub struct Extents {
     pub layouts: usize,
     pub working: usize,
     pub unclaimed: usize,
+    pub tally: usize,
+}
+
+impl Extents {
+    // Of these slices, beside a tally of so many words.
+    pub fn new(slices: &Slices, tally: usize) -> Extents
+        ensures { result ≡ extents_beside tally slices.now }
+    {
+        Extents {
+            styles: slices.styles.len(),
+            layouts: slices.layouts.len(),
+            working: slices.working.len(),
+            unclaimed: slices.unclaimed.len(),
+            tally,
+        }
+    }
 }
 
 impl From<&Lent<'_>> for Extents {
     ghost from_gives = { λ lent e. e ≡ extents_of lent.now };
 
     fn from(lent: &Lent<'_>) -> Extents {
-        Extents {
-            styles: lent.styles.len(),
-            layouts: lent.layouts.len(),
-            working: lent.working.len(),
-            unclaimed: lent.unclaimed.len(),
-        }
+        Extents::new(&lent.slices, lent.tally.len())
     }
 }
 

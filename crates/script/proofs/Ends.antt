@@ -74,7 +74,7 @@ module _ (replies styles : List ℕ) (a : Asked) where
     where
       go : (b : Result Answer Refusal) → one_if_asked b ≡ 1 → Reached a (played_by b replies styles x) (n + open_in (played_by b replies styles x))
       go (Ok (Ask q)) e =
-          let call : Call = record { reply = scripted_reply replies q; surfaced = []; lent = record { styles = styles; layouts = x.layouts; working = x.working; unclaimed = x.unclaimed } } in
+          let call : Call = record { reply = scripted_reply replies q; surfaced = []; lent = record { styles = styles; layouts = x.layouts; working = x.working; unclaimed = x.unclaimed; tally = x.tally } } in
           record {
             calls = r.calls ++ (call ∷ []);
             questions = ap (λ (z : Asked). z.questions) (foldl-append asked_with a r.calls (call ∷ [])) ∙ rw (r.questions, r.state) refl;

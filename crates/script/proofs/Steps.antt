@@ -27,19 +27,19 @@ no_turn replies styles o i n h = rw (done i n h) refl
     done : (i n : ℕ) → n ≤ i → n - i ≡ 0
     done i n h = omega arith
 
-module _ (replies styles : List ℕ) (s : Step) (l w u : List ℕ) where
+module _ (replies styles : List ℕ) (s : Step) (l w u t : List ℕ) where
   -- one turn, after which r and the words with a mark are left
-  pub turned : {r : Step} {l' w' u' : List ℕ} (i n : ℕ) → i < n → outcome r l' w' u' ≡ played_on replies styles (outcome s l w u)
-      → played (n - i) replies styles (outcome s l w u) ≡ played (n - (i + 1)) replies styles (outcome r l' w' u')
-  turned i n h p = one_turn replies styles (outcome s l w u) i n h ∙ ap (played (n - (i + 1)) replies styles) (sym p)
+  pub turned : {r : Step} {l' w' u' t' : List ℕ} (i n : ℕ) → i < n → outcome r l' w' u' t' ≡ played_on replies styles (outcome s l w u t)
+      → played (n - i) replies styles (outcome s l w u t) ≡ played (n - (i + 1)) replies styles (outcome r l' w' u' t')
+  turned i n h p = one_turn replies styles (outcome s l w u t) i n h ∙ ap (played (n - (i + 1)) replies styles) (sym p)
 
   -- no turn is left: what is left is what was opened, played out
-  pub ended : {r : Step} {l' w' u' : List ℕ} (o : Opening) (candidates l₀ w₀ u₀ : List ℕ) (i n : ℕ)
+  pub ended : {r : Step} {l' w' u' t' : List ℕ} (o : Opening) (candidates l₀ w₀ u₀ t₀ : List ℕ) (i n : ℕ)
       → n ≡ 3 * (length candidates / candidate_width)
       → n ≤ i
-      → outcome s l w u ≡ opened o candidates (lent styles l₀ w₀ u₀)
-      → played n replies styles (outcome s l w u) ≡ played (n - i) replies styles (outcome r l' w' u')
-      → outcome r l' w' u' ≡ played_out o replies candidates (lent styles l₀ w₀ u₀)
+      → outcome s l w u t ≡ opened o candidates (lent styles l₀ w₀ u₀ t₀)
+      → played n replies styles (outcome s l w u t) ≡ played (n - i) replies styles (outcome r l' w' u' t')
+      → outcome r l' w' u' t' ≡ played_out o replies candidates (lent styles l₀ w₀ u₀ t₀)
   unfolding played_out
-  ended {r} {l'} {w'} {u'} o candidates l₀ w₀ u₀ i n k h p e =
-      sym (no_turn replies styles (outcome r l' w' u') i n h) ∙ sym e ∙ rw k (ap (played (3 * (length candidates / candidate_width)) replies styles) p)
+  ended {r} {l'} {w'} {u'} {t'} o candidates l₀ w₀ u₀ t₀ i n k h p e =
+      sym (no_turn replies styles (outcome r l' w' u' t') i n h) ∙ sym e ∙ rw k (ap (played (3 * (length candidates / candidate_width)) replies styles) p)

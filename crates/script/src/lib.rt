@@ -70,12 +70,22 @@ fn play_on(
     layouts: &mut [u32],
     working: &mut [u32],
     unclaimed: &mut [u32],
+    tally: &mut [u32],
 ) -> Step
-    ensures { outcome result layouts.new working.new unclaimed.new ≡ played_on replies.now styles.now (outcome step layouts.old working.old unclaimed.old) }
+    ensures { outcome result layouts.new working.new unclaimed.new tally.new ≡ played_on replies.now styles.now (outcome step layouts.old working.old unclaimed.old tally.old) }
 {
     if let Ok(Answer::Ask(question)) = step.answer {
         let reply = scripted_reply(replies, question);
-        return placer::reply(step.state, reply, &[], styles, layouts, working, unclaimed);
+        return placer::reply(
+            step.state,
+            reply,
+            &[],
+            styles,
+            layouts,
+            working,
+            unclaimed,
+            tally,
+        );
     }
     step
 }
@@ -89,12 +99,13 @@ pub fn play_out(
     layouts: &mut [u32],
     working: &mut [u32],
     unclaimed: &mut [u32],
+    tally: &mut [u32],
 ) -> Step
-    ensures { outcome result layouts.new working.new unclaimed.new ≡ played_out o replies.now candidates.now (lent styles.now layouts.old working.old unclaimed.old) }
+    ensures { outcome result layouts.new working.new unclaimed.new tally.new ≡ played_out o replies.now candidates.now (lent styles.now layouts.old working.old unclaimed.old tally.old) }
 {
-    let mut step = placer::open(o, styles, candidates, layouts, working, unclaimed);
+    let mut step = placer::open(o, styles, candidates, layouts, working, unclaimed, tally);
     for _ in 0..QUESTIONS * (candidates.len() / CANDIDATE_WORDS) {
-        step = play_on(step, replies, styles, layouts, working, unclaimed);
+        step = play_on(step, replies, styles, layouts, working, unclaimed, tally);
     }
     step
 }

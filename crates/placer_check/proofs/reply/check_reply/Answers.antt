@@ -23,11 +23,11 @@ pub returns-in_err-refuse_if-3 : goal.returns-in_err-refuse_if-3
 unfolding reply_verdict
 returns-in_err-refuse_if-3 c =
     let p = err_from_is_err_and c.from_residual-in_err-refuse_if-3.result c.from_residual-in_err-refuse_if-3.ensures.1 in
-    rw (p.1, p.2, ← c.lent_by-surfaced.ensures, ← c.are_extents_bad.ensures, ← c.is_reply_wrong.ensures, ← c.lent.view_is, ← c.is_style_bad.ensures)
+    rw (p.1, p.2, ← c.lent_by-surfaced.ensures, ← c.are_extents_bad.ensures, ← c.is_reply_wrong.ensures, ← c.is_style_bad.ensures)
     (passes _ _ _ c.in_ok-refuse_if.ensures ∙ passes _ _ _ c.in_ok-refuse_if-2.ensures ∙ refuses _ _ _ c.in_err-refuse_if-3.ensures)
 
 pub returns : goal.returns
 unfolding reply_verdict
 returns c =
-    rw (← c.lent_by-surfaced.ensures, ← c.are_extents_bad.ensures, ← c.is_reply_wrong.ensures, ← c.are_candidates_bad.ensures, ← c.lent.view_is, ← c.is_style_bad.ensures)
+    rw (← c.lent_by-surfaced.ensures, ← c.are_extents_bad.ensures, ← c.is_reply_wrong.ensures, ← c.are_candidates_bad.ensures, ← c.is_style_bad.ensures)
     (passes _ _ _ c.in_ok-refuse_if.ensures ∙ passes _ _ _ c.in_ok-refuse_if-2.ensures ∙ passes _ _ _ c.in_ok-refuse_if-3.ensures ∙ comes_last _ _ _ _ c.refuse_if-4.ensures)
