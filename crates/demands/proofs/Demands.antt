@@ -1,7 +1,7 @@
 -- The three demands of the entries, from their contracts and the theorems of `run`, `oof_box` and `mirror_run`. Assumes nothing.
 use Prim.Native.Nat.{ℕ, ◌+◌, ◌<◌}
 use native.Mathlib.Omega.{arith}
-use native.Mathlib.Nat.{zero-add}
+use native.Mathlib.Nat.{zero-add, add-zero}
 use mathlib.Core.Logic.Iff
 use mathlib.Core.Logic.{inl, inr, ◌↔◌}
 use mathlib.Core.Path.{◌≡◌, refl, sym, ap, subst, subst₂, ◌∙◌}
@@ -11,7 +11,7 @@ use lib.Dec.{eqb}
 use lib.ListN.{length}
 use borrow.Author.Tests.{eq-eqb}
 use Rattle.reach.specs.declared.Offsets.{Offsets}
-use Rattle.std.specs.Prelude.{None, Err, is_err, Result, IsOk, Option, ⊤, Float, ℤ}
+use Rattle.std.specs.Prelude.{None, Ok, Err, is_err, Result, IsOk, Option, ⊤, Float, ℤ}
 use Rattle.util.proofs.Floats.{no}
 use Rattle.geometry.specs.declared.Line.{Line}
 use Rattle.geometry.specs.declared.Point.{Point}
@@ -33,11 +33,12 @@ use Rattle.oof_box.specs.Cut.{layout_after}
 use Rattle.oof_box.proofs.Floor.{size_law as box-size-law}
 use Rattle.run.specs.declared.Opening.{Opening}
 use Rattle.run.specs.declared.State.{State}
+use Rattle.run.specs.declared.Answer.{Answer}
 use Rattle.run.specs.declared.Step.{Step}
-use Rattle.run.specs.Call.{Lent, Outcome, outcome}
+use Rattle.run.specs.Call.{Slices, Lent, Outcome, outcome}
 use Rattle.run.specs.Refusals.{accepted}
 use Rattle.run.specs.Conditions.{StyleIsBad, FirstIs, NoneHolds}
-use Rattle.run.specs.Theorems.{Names, WroteSize, open_in, one_if_asked, asked_for, Heard, Loan, own, other, Turn, next, next_with, turned, Lends, AllLend, called, Stands, heeded_in, course_of, laid_so_far}
+use Rattle.run.specs.Theorems.{Names, WroteSize, open_in, one_if_asked, one_if_accepted, asked_for, Heard, Loan, own, other, Turn, next, next_with, turned, Lends, AllLend, called, AddsUp, Stands, heeded_in, course_of, answered_in, laid_so_far}
 use Rattle.run.specs.Run.{claims_of, extents_of, box_at_hand, opened, replied, taken_by, laid_out}
 use Rattle.run.proofs.Refusals.{refused_reply_keeps, refused_opening_keeps, saying, turn_refused}
 use Rattle.run.proofs.Exactly.{opening_refused_exactly, opening_accepted_exactly, reply_refused_exactly, reply_accepted_exactly, unresolved_exactly}
@@ -63,20 +64,21 @@ use Rattle.run.proofs.Told.{lays_out_lem}
 use Rattle.run.proofs.Questions.{Hoisted, opening_hoisted, reply_hoisted, Bounded, three_at_most, opening_bounded, reply_bounded}
 use Rattle.run.proofs.ByBox.{ForBox, opening_for, reply_for}
 use Rattle.run.proofs.Straight.{straight_run}
+use Rattle.run.proofs.Sums.{opening_counts_none, reply_counts_one, replies_are_counted, opening_adds_up, reply_adds_up, refused_adds_up}
 use Rattle.mirror_run.proofs.Mirror.{mirror}
 use Rattle.mirror_run.specs.Image.{image_opening, image_styles, image_candidates}
 use Rattle.mirror_run.specs.Quarter.{QuarterArea, QuarterTable, QuarterCandidates}
-use Rattle.mirror_run.specs.Runs.{Message, run_next, image_next, Fair, AllFair, MirroredRuns, unclaimed_at_opening, layout_of_box}
+use Rattle.mirror_run.specs.Runs.{Message, run_next, image_next, Fair, AllFair, MirroredRuns, layout_of_box}
 use Rattle.pixels_laws.specs.Laws.{HasEdges}
 use Rattle.pixels_laws.proofs.Run.{run_has_edges}
 use Rattle.pixels_laws.proofs.Tests.{refused_first, edges_first}
-use Rattle.demands.specs.Entries.{Opens, RepliesTo, AnyCalls, Takes, Run, RefusedSince, BothRuns, AfterEach}
-use Rattle.demands.specs.Demands.{OpeningDemands, ReplyDemands, AlignmentDemands, PixelsDemands, ReachDemands, DrawingDemands, CheckDemands, ScreenDemands, OpeningsGoByTheCheck, RepliesGoByTheCheck, ThreeQuestionsEach, EqualsStraightRun, SizedLayout, SizeLaw, LaidOutAsAsked, MirrorImage, MirroredReach, MirroredDrawing, LayersAreKept, FinishedIsDrawn, PlacementReadsNoLayer, QuartersHaveEdges, QuartersAreAnswered}
+use Rattle.demands.specs.Entries.{Opens, RepliesTo, AnyCalls, TallyKept, Takes, Run, RefusedSince, BothRuns, AfterEach}
+use Rattle.demands.specs.Demands.{OpeningDemands, ReplyDemands, AlignmentDemands, PixelsDemands, ReachDemands, DrawingDemands, CheckDemands, ScreenDemands, OpeningsGoByTheCheck, RepliesGoByTheCheck, ThreeQuestionsEach, CountsAddUp, EqualsStraightRun, SizedLayout, SizeLaw, LaidOutAsAsked, MirrorImage, MirroredReach, MirroredDrawing, LayersAreKept, FinishedIsDrawn, PlacementReadsNoLayer, QuartersHaveEdges, QuartersAreAnswered}
 
 -- ---- one call
 
-pub opening_demands : (o : Opening) (candidates : List ℕ) (lent : Lent) {r : Step} {l w u : List ℕ} → Opens o candidates lent (outcome r l w u)
-    → OpeningDemands o candidates lent (outcome r l w u)
+pub opening_demands : (o : Opening) (candidates : List ℕ) (lent : Lent) {r : Step} {l w u t : List ℕ} → Opens o candidates lent (outcome r l w u t)
+    → OpeningDemands o candidates lent (outcome r l w u t)
 opening_demands o candidates lent c =
     subst (OpeningDemands o candidates lent) (sym c)
     (record {
@@ -84,6 +86,7 @@ opening_demands o candidates lent c =
       refused = opening_refused_exactly o candidates lent;
       accepted = opening_accepted_exactly o candidates lent;
       kept = refused_opening_keeps o candidates lent;
+      cleared = opening_counts_none o candidates lent;
     })
 
 pub alignment_demands : (a : AlignItems) (area : Line Float) (rtl : Bool) {r : Result AxisStaticPosition Refusal} → r ≡ from_alignment a area rtl → AlignmentDemands a area rtl r
@@ -93,12 +96,12 @@ pub pixels_demands : (layout : Layout) (offset : Point Float) {r : Result (Rect 
 pixels_demands layout offset c =
     subst (PixelsDemands layout offset) (sym c) (record { call = refl; refused = refused_first layout offset; accepted = edges_first layout offset })
 
-pub reach_demands : (place : ℕ) (s : State) (lent : Lent) {r : Result (Option Offsets) Refusal} → r ≡ reached place s lent → ReachDemands place s lent r
+pub reach_demands : (place : ℕ) (s : State) (lent : Slices) {r : Result (Option Offsets) Refusal} → r ≡ reached place s lent → ReachDemands place s lent r
 reach_demands place s lent c =
     subst (ReachDemands place s lent) (sym c)
     (record { call = refl; refused = reach.refused_exactly place s lent; answered = reach.answered_exactly place s lent })
 
-pub drawing_demands : (s : State) (lent : Lent) (before : List ℕ) {has : Drawn} → has ≡ drawn s lent before → DrawingDemands s lent before has
+pub drawing_demands : (s : State) (lent : Slices) (before : List ℕ) {has : Drawn} → has ≡ drawn s lent before → DrawingDemands s lent before has
 drawing_demands s lent before c =
     subst (DrawingDemands s lent before) (sym c)
     (record {
@@ -168,12 +171,44 @@ three_questions_each i n m has calls =
     let most = three_at_most m has.step.state b.2 in
     (b.0.three, λ h. b.0.none (omega arith), omega arith)
 
+-- ---- the tally
+
+adds_up : {m : ℕ} {has : Outcome} → TallyKept m has → AddsUp has
+adds_up (TallyKept.opening o candidates lent c n) =
+    subst AddsUp (sym c) (opening_adds_up o candidates lent (subst (λ (x : Outcome). is_err x.step.answer ≡ false) c n))
+adds_up (TallyKept.reply {before = before} reply surfaced lent calls same c) =
+    subst AddsUp (sym c) (reply_adds_up before reply surfaced lent (adds_up calls) same)
+adds_up (TallyKept.other_tally {before = before} reply surfaced lent calls c n) =
+    subst (λ (x : Outcome). is_err x.step.answer ≡ true → AddsUp (outcome x.step x.layouts x.working x.unclaimed before.tally)) (sym c)
+    (refused_adds_up before reply surfaced lent (adds_up calls)) n
+
+accepted_count : {m : ℕ} {has : Outcome} → TallyKept m has → has.step.state.counts.answered ≡ m
+accepted_count (TallyKept.opening o candidates lent c n) =
+    ap (λ (x : Outcome). x.step.state.counts.answered) c
+    ∙ (opening_counts_none o candidates lent (subst (λ (x : Outcome). is_err x.step.answer ≡ false) c n)).answered
+accepted_count (TallyKept.reply {before = before} {has = has} reply surfaced lent calls same c) =
+    subst (λ (x : Outcome). x.step.state.counts.answered ≡ before.step.state.counts.answered + one_if_accepted x.step.answer) (sym c)
+    (replies_are_counted before.step.state reply surfaced lent)
+    ∙ ap (λ (n : ℕ). n + one_if_accepted has.step.answer) (accepted_count calls)
+accepted_count (TallyKept.other_tally {before = before} {left = left} reply surfaced lent calls c n) =
+    subst (λ (x : Outcome). x.step.state.counts.answered ≡ before.step.state.counts.answered + one_if_accepted x.step.answer) (sym c)
+    (replies_are_counted before.step.state reply surfaced lent)
+    ∙ none left.step.answer n
+    ∙ accepted_count calls
+  where
+    none : (a : Result Answer Refusal) → is_err a ≡ true → before.step.state.counts.answered + one_if_accepted a ≡ before.step.state.counts.answered
+    none (Ok answer) e = no e refl
+    none (Err r) e = add-zero _
+
+pub counts_add_up : CountsAddUp
+counts_add_up m has calls = (adds_up calls, accepted_count calls)
+
 -- ---- a run is the list of its turns
 
 takes : (styles : List ℕ) (before : Outcome) (h : Heard) (loan : Loan) (has : Outcome) → Takes styles before h loan has → has ≡ next_with styles before h loan
 unfolding next
 takes styles before h own has (Takes.lent_own c) = c
-takes styles before h (other slices) has (Takes.lent_other {left = left} c) = ap (λ (x : Outcome). outcome x.step before.layouts before.working before.unclaimed) c
+takes styles before h (other slices) has (Takes.lent_other {left = left} c) = ap (λ (x : Outcome). outcome x.step before.layouts before.working before.unclaimed before.tally) c
 
 -- what holds of each turn, in a list that ends with one more
 all_lend_after : (styles : List ℕ) (o : Outcome) (ts : List Turn) (t : Turn) → AllLend styles o ts
@@ -203,7 +238,7 @@ module _ (o : Opening) (candidates : List ℕ) (lent : Lent) where
 
 pub equals_straight_run : EqualsStraightRun
 equals_straight_run o candidates lent turns has calls =
-    subst (λ (x : Outcome). Stands lent (length (heeded_in o candidates lent turns)) x (course_of o candidates lent turns))
+    subst (λ (x : Outcome). Stands lent (answered_in o candidates lent turns) x (course_of o candidates lent turns))
     (sym (run_is o candidates lent calls))
     (straight_run o candidates lent turns (run_opened o candidates lent calls) (run_lends o candidates lent calls))
 
@@ -260,8 +295,8 @@ size_law s reply surfaced lent overflow k a = go (reply_way s reply surfaced len
     go (measures replies v t f) = never_kept s overflow (ap (taken_by s) (sym k) ∙ t)
     go (lays_out laid v t f) = subst (λ (x : Outcome). SizedLayout s lent x.layouts) (sym f) (sized s laid surfaced lent)
 
-pub reply_demands : (s : State) (reply : Reply) (surfaced : List ℕ) (lent : Lent) {r : Step} {l w u : List ℕ} → RepliesTo s reply surfaced lent (outcome r l w u)
-    → ReplyDemands s reply surfaced lent (outcome r l w u)
+pub reply_demands : (s : State) (reply : Reply) (surfaced : List ℕ) (lent : Lent) {r : Step} {l w u t : List ℕ} → RepliesTo s reply surfaced lent (outcome r l w u t)
+    → ReplyDemands s reply surfaced lent (outcome r l w u t)
 reply_demands s reply surfaced lent c =
     subst (ReplyDemands s reply surfaced lent) (sym c)
     (record {
@@ -270,6 +305,7 @@ reply_demands s reply surfaced lent c =
       accepted = reply_accepted_exactly s reply surfaced lent;
       kept = refused_reply_keeps s reply surfaced lent;
       size = size_law s reply surfaced lent;
+      counted = reply_counts_one s reply surfaced lent;
     })
 
 -- what was asked is still open after replies that were refused
@@ -335,11 +371,11 @@ at_the_end : (o : Opening) (candidates : List ℕ) (lent lent' : Lent) {messages
     → QuarterArea o.area → QuarterTable lent.styles → QuarterCandidates candidates
     → lent'.styles ≡ image_styles lent.styles → extents_of lent ≡ extents_of lent'
     → BothRuns o candidates lent lent' messages has has'
-    → MirroredRuns o.area (unclaimed_at_opening o candidates lent) has has'
+    → MirroredRuns o.area (opened o candidates lent) has has'
 unfolding image
 at_the_end o candidates lent lent' {messages} {has} {has'} area table quarter styles same both =
-    subst (λ (x : Outcome). MirroredRuns o.area (unclaimed_at_opening o candidates lent) x has') (sym (run_of o candidates lent lent' both))
-    (subst (λ (x : Outcome). MirroredRuns o.area (unclaimed_at_opening o candidates lent) (foldl (run_next lent.styles) (opened o candidates lent) messages) x) (sym (image_of o candidates lent lent' both))
+    subst (λ (x : Outcome). MirroredRuns o.area (opened o candidates lent) x has') (sym (run_of o candidates lent lent' both))
+    (subst (λ (x : Outcome). MirroredRuns o.area (opened o candidates lent) (foldl (run_next lent.styles) (opened o candidates lent) messages) x) (sym (image_of o candidates lent lent' both))
     (mirror o candidates lent lent' messages [] area table quarter styles same
     (subst (AllFair lent.styles (opened o candidates lent)) (sym (append-nil messages)) (both_fair o candidates lent lent' both))))
 
@@ -361,7 +397,7 @@ module _ {o : Opening} {candidates : List ℕ} {lent lent' : Lent} (P : Outcome 
 
 pub mirror_image : MirrorImage
 mirror_image o candidates lent lent' messages has has' area table quarter styles same both =
-    after_each (MirroredRuns o.area (unclaimed_at_opening o candidates lent)) (λ _ _ _ b. at_the_end o candidates lent lent' area table quarter styles same b) both
+    after_each (MirroredRuns o.area (opened o candidates lent)) (λ _ _ _ b. at_the_end o candidates lent lent' area table quarter styles same b) both
 
 pub mirrored_reach : MirroredReach
 mirrored_reach o candidates lent lent' messages has has' area table quarter styles same both =

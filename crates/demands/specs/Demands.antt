@@ -33,14 +33,14 @@ use Rattle.oof_box.specs.declared.question.Reply.TheVariants.{LaidOut}
 use Rattle.run.specs.declared.Opening.{Opening}
 use Rattle.run.specs.declared.State.{State}
 use Rattle.run.specs.declared.Answer.TheVariants.{Ask}
-use Rattle.run.specs.Call.{Lent, Outcome, unwritten}
+use Rattle.run.specs.Call.{Slices, Lent, Outcome, unwritten}
 use Rattle.run.specs.Refusals as verdict
-use Rattle.run.specs.Run.{closed, box_at_hand, extents_of, claims_of}
+use Rattle.run.specs.Run.{closed, box_at_hand, extents_of, claims_of, opened}
 use Rattle.run.specs.Conditions.{StyleIsBad, FirstNotAllowed, AllAllowed, FirstIs, NoneHolds, SideIsUnresolved, opening_tests, reply_tests}
-use Rattle.run.specs.Theorems.{Names, own, StageTellsKind, WroteSize, Turn, Stands, heeded_in, course_of, laid_so_far}
+use Rattle.run.specs.Theorems.{Names, own, StageTellsKind, ItemIsNamed, NamedItemCounts, CountsNone, CountsOne, AddsUp, WroteSize, Turn, Stands, heeded_in, course_of, answered_in, laid_so_far}
 use Rattle.mirror_run.specs.Image.{image_styles}
 use Rattle.mirror_run.specs.Quarter.{AreaInQuarters, QuarterArea, QuarterTable, QuarterCandidates}
-use Rattle.mirror_run.specs.Runs.{Message, MirroredRuns, unclaimed_at_opening, layout_of_box}
+use Rattle.mirror_run.specs.Runs.{Message, MirroredRuns, layout_of_box}
 use Rattle.pixels_laws.specs.Laws.{HasEdges, QuarterHeard}
 use Rattle.boxlist_lines.specs.Lines.{refusal_text}
 use Rattle.reach_laws.specs.Laws.{told_of}
@@ -54,7 +54,7 @@ use Rattle.boxlist_print.specs.declared.Listing.{Listing}
 use Rattle.boxlist_print.specs.Rows.{Prints}
 use Rattle.boxlist_print.specs.Printed.{printed}
 use Rattle.boxlist_print.specs.Laws.{program_tests, IsList, RunIsListed, OnlyNineInRows}
-use Rattle.demands.specs.Entries.{Opens, RepliesTo, AnyCalls, Takes, Run, RefusedSince, BothRuns, AfterEach}
+use Rattle.demands.specs.Entries.{Opens, RepliesTo, AnyCalls, TallyKept, Takes, Run, RefusedSince, BothRuns, AfterEach}
 
 -- ---- Demand 1. "Whoever calls an entry, with any bits in any number and slices of any length, gets its answer (in a run, a question or
 -- finish) or one of document 01's refusals 1 to 8, each exactly under its stated condition. A refusal writes no lent word and returns the
@@ -69,6 +69,8 @@ pub record OpeningDemands (o : Opening) (candidates : List ℕ) (lent : Lent) (h
   pub refused : (r : Refusal) → (has.step.answer ≡ Err r) ↔ FirstIs (opening_tests o candidates lent) (number_of r)
   pub accepted : (is_err has.step.answer ≡ false) ↔ NoneHolds (opening_tests o candidates lent)
   pub kept : (r : Refusal) → has.step.answer ≡ Err r → has ≡ unwritten lent (record { state = closed lent; answer = Err r })
+  -- request #107: "opening clears it"
+  pub cleared : is_err has.step.answer ≡ false → CountsNone lent has
 
 -- Of demand 2, the law of the final size: the words that an accepted lay-out reply writes, from any state, forged ones too, are those of a
 -- layout whose size is no NaN and at least padding plus border, on each axis where that sum isn't NaN
@@ -88,6 +90,8 @@ pub record ReplyDemands (s : State) (reply : Reply) (surfaced : List ℕ) (lent 
   pub accepted : (is_err has.step.answer ≡ false) ↔ NoneHolds (reply_tests s reply surfaced lent)
   pub kept : (r : Refusal) → has.step.answer ≡ Err r → has ≡ unwritten lent (record { state = s; answer = Err r })
   pub size : SizeLaw s reply lent has
+  -- request #107: one question more is answered, for one item
+  pub counted : is_err has.step.answer ≡ false → CountsOne s lent has
 
 -- `from_alignment`: 7
 pub record AlignmentDemands (a : AlignItems) (area : Line Float) (rtl : Bool) (r : Result AxisStaticPosition Refusal) : Type 0 where
@@ -101,14 +105,14 @@ pub record PixelsDemands (layout : Layout) (offset : Point Float) (r : Result (R
   pub accepted : IsOk r ↔ NoneHolds (pixel_tests layout offset)
 
 -- `reach`: 2, 6, 4, 9. It is lent slices that it can't write, and returns no state
-pub record ReachDemands (place : ℕ) (s : State) (lent : Lent) (r : Result (Option Offsets) Refusal) : Type 0 where
+pub record ReachDemands (place : ℕ) (s : State) (lent : Slices) (r : Result (Option Offsets) Refusal) : Type 0 where
   pub call : r ≡ reached place s lent
   pub refused : (q : Refusal) → (r ≡ Err q) ↔ FirstIs (reach_tests place s lent) (number_of q)
   pub answered : IsOk r ↔ NoneHolds (reach_tests place s lent)
 
 -- `drawing_order`: 2, 6, 4. It can write one slice, that of the order: refused, its words stay; accepted, each box's place stands there once,
 -- lower layers first, and within one layer in the hoisted order
-pub record DrawingDemands (s : State) (lent : Lent) (before : List ℕ) (has : Drawn) : Type 0 where
+pub record DrawingDemands (s : State) (lent : Slices) (before : List ℕ) (has : Drawn) : Type 0 where
   pub call : has ≡ drawn s lent before
   pub refused : (q : Refusal) → (has.verdict ≡ verdict.refused q) ↔ FirstIs (drawing_tests s lent before) (number_of q)
   pub accepted : (has.verdict ≡ verdict.accepted) ↔ NoneHolds (drawing_tests s lent before)
@@ -154,6 +158,13 @@ ThreeQuestionsEach =
     → let hoisted = has.step.state.counts.filled.working in
     (n ≤ 3) × (hoisted ≤ i → n ≡ 0) × (m ≤ 3 * hoisted)
 
+-- request #107: "The words always add up to the run's questions answered so far, at the end the count in the finish", and none of them makes a
+-- reply a wrong one. "This holds after an opening that isn't refused, while nobody else writes the slice between calls and each call gets the
+-- state that the last one returned": all other words may be rewritten, or other slices lent in their place. The questions answered are the
+-- replies accepted
+abbrev pub CountsAddUp : Type 0
+CountsAddUp = (m : ℕ) (has : Outcome) → TallyKept m has → AddsUp has × (has.step.state.counts.answered ≡ m)
+
 -- ---- Demand 2. "CSS .. gives the definition, each operation rounded once in 01's order; questions, layouts, lists and overflow equal it." The
 -- contracts are equations with the definition, and by it the calls are the straight run (run/specs/Straight.antt) of boxes that each read
 -- straight through (oof_box/specs/Box.antt). This holds after each call, whatever replies were refused before it.
@@ -165,7 +176,7 @@ abbrev pub EqualsStraightRun : Type 0
 EqualsStraightRun =
     (o : Opening) (candidates : List ℕ) (lent : Lent) (turns : List Turn) (has : Outcome)
     → Run o candidates lent turns has
-    → Stands lent (length (heeded_in o candidates lent turns)) has (course_of o candidates lent turns)
+    → Stands lent (answered_in o candidates lent turns) has (course_of o candidates lent turns)
 
 -- the size told in a lay-out question is the size written, at the place of the node that it names, whatever replies were refused in between
 abbrev pub LaidOutAsAsked : Type 0
@@ -193,9 +204,10 @@ OfImages P =
     → (both : BothRuns o candidates lent lent' messages has has')
     → AfterEach (P o candidates lent lent') both
 
--- request #104: "the mirrored screens keep equal layers", in both lists (`layer` of `CandidateImage` and of `SameButX`)
+-- request #104: "the mirrored screens keep equal layers", in both lists (`layer` of `CandidateImage` and of `SameButX`). Request #107: both have
+-- equal tallies (`tally`), unless the opening was refused: then neither is written
 abbrev pub MirrorImage : Type 0
-MirrorImage = OfImages (λ o candidates lent lent' has has'. MirroredRuns o.area (unclaimed_at_opening o candidates lent) has has')
+MirrorImage = OfImages (λ o candidates lent lent' has has'. MirroredRuns o.area (opened o candidates lent) has has')
 
 -- request #102: so is what is told of reaching a box. At every place both are seen at the same offsets, or unseen, or refused with the same
 -- number
@@ -230,7 +242,7 @@ FinishedIsDrawn =
     drawn_of before lent.styles has ≡ record { verdict = verdict.accepted; order = drawing_order (layers_of boxes) }
 
 -- "Placement doesn't read the layer": two runs whose candidates, surfaced records and lists differ in layers only, all of them allowed, have the
--- same answer, state and layouts, and lists that differ in layers only
+-- same answer, state, layouts and tally, and lists that differ in layers only
 abbrev pub PlacementReadsNoLayer : Type 0
 PlacementReadsNoLayer =
     (o : Opening) (candidates candidates' : List ℕ) (lent lent' : Lent) (turns turns' : List Turn) (has has' : Outcome)
@@ -266,6 +278,11 @@ pub record Demanded : Type 0 where
   pub three_questions_each : ThreeQuestionsEach
   -- the kind of reply that a state waits for is that of the question that its call asked, whatever the words
   pub stage_tells_kind : StageTellsKind
+  -- and the item that it named is that of the box's record
+  pub item_is_named : ItemIsNamed
+  -- so an accepted reply counts for the item that the question named, while that record stands
+  pub named_item_counts : NamedItemCounts
+  pub counts_add_up : CountsAddUp
   pub openings_go_by_the_check : OpeningsGoByTheCheck
   pub replies_go_by_the_check : RepliesGoByTheCheck
   pub equals_straight_run : EqualsStraightRun

@@ -7,7 +7,7 @@ use Rattle.run.specs.declared.Opening.{Opening}
 use Rattle.run.specs.declared.State.{State}
 use Rattle.run.specs.Call.{Lent, Outcome, lent, outcome}
 use Rattle.run.specs.Run.{opened, replied}
-use Rattle.run.specs.Theorems.{one_if_asked, asked_for, Heard, Loan, own, other, Turn, Lends}
+use Rattle.run.specs.Theorems.{one_if_asked, one_if_accepted, asked_for, Heard, Loan, own, other, Turn, Lends}
 use Rattle.mirror_run.specs.Image.{image_opening, image_candidates}
 use Rattle.mirror_run.specs.Runs.{Message, Fair}
 
@@ -33,11 +33,34 @@ pub data AnyCalls (i : ℕ) : ℕ → ℕ → Outcome → Type 0 where
       → RepliesTo before.step.state reply surfaced lent has
       → AnyCalls i (n + asked_for i has.step) (m + one_if_asked has.step.answer) has
 
+-- ---- Calls of which nobody else writes the tally (request #107): after an opening that isn't refused, each reply is given the state and the
+-- tally that the last call left, and any other words, in slices of any length. A reply may be lent another tally if it is then refused: the
+-- host's own keeps its words. `m` replies were accepted.
+
+pub data TallyKept : ℕ → Outcome → Type 0 where
+  opening :
+      {has : Outcome} (o : Opening) (candidates : List ℕ) (lent : Lent)
+      → Opens o candidates lent has
+      → is_err has.step.answer ≡ false
+      → TallyKept 0 has
+  reply :
+      {m : ℕ} {before has : Outcome} (reply : Reply) (surfaced : List ℕ) (lent : Lent)
+      → TallyKept m before
+      → lent.tally ≡ before.tally
+      → RepliesTo before.step.state reply surfaced lent has
+      → TallyKept (m + one_if_accepted has.step.answer) has
+  other_tally :
+      {m : ℕ} {before left : Outcome} (reply : Reply) (surfaced : List ℕ) (lent : Lent)
+      → TallyKept m before
+      → RepliesTo before.step.state reply surfaced lent left
+      → is_err left.step.answer ≡ true
+      → TallyKept m (outcome left.step left.layouts left.working left.unclaimed before.tally)
+
 -- ---- A run: nobody else writes the lent words.
 
 -- the run's own slices, with the words that the last call left in them
 abbrev pub own_slices : List ℕ → Outcome → Lent
-own_slices styles before = lent styles before.layouts before.working before.unclaimed
+own_slices styles before = lent styles before.layouts before.working before.unclaimed before.tally
 
 -- what the host has of a run after a reply: if it lent other slices, the run's own keep their words
 pub data Takes (styles : List ℕ) (before : Outcome) (h : Heard) : Loan → Outcome → Type 0 where
@@ -48,7 +71,7 @@ pub data Takes (styles : List ℕ) (before : Outcome) (h : Heard) : Loan → Out
   lent_other :
       {slices : Lent} {left : Outcome}
       → RepliesTo before.step.state h.reply h.surfaced slices left
-      → Takes styles before h (other slices) (outcome left.step before.layouts before.working before.unclaimed)
+      → Takes styles before h (other slices) (outcome left.step before.layouts before.working before.unclaimed before.tally)
 
 -- an opening that isn't refused, then replies, each given the state that the last call returned. One that lends other slices is refused
 pub data Run (o : Opening) (candidates : List ℕ) (lent : Lent) : List Turn → Outcome → Type 0 where

@@ -13,7 +13,7 @@ use geometry::{Line, Point, Rect, Size};
 use oof_box::question::Reply;
 use reach::Offsets;
 use refusal::Refusal;
-use run::{Lent, Opening, State, Step};
+use run::{Opening, Slices, State, Step};
 use style::alignment::AlignItems;
 use style_record::check::BadWord;
 use tree::layout::{AxisStaticPosition, Layout};
@@ -26,10 +26,11 @@ pub fn open(
     layouts: &mut [u32],
     working: &mut [u32],
     unclaimed: &mut [u32],
+    tally: &mut [u32],
 ) -> Step
-    ensures { OpeningDemands o candidates.now (lent styles.now layouts.old working.old unclaimed.old) (outcome result layouts.new working.new unclaimed.new) }
+    ensures { OpeningDemands o candidates.now (lent styles.now layouts.old working.old unclaimed.old tally.old) (outcome result layouts.new working.new unclaimed.new tally.new) }
 {
-    placer::open(o, styles, candidates, layouts, working, unclaimed)
+    placer::open(o, styles, candidates, layouts, working, unclaimed, tally)
 }
 
 pub fn reply(
@@ -40,10 +41,13 @@ pub fn reply(
     layouts: &mut [u32],
     working: &mut [u32],
     unclaimed: &mut [u32],
+    tally: &mut [u32],
 ) -> Step
-    ensures { ReplyDemands s reply surfaced.now (lent styles.now layouts.old working.old unclaimed.old) (outcome result layouts.new working.new unclaimed.new) }
+    ensures { ReplyDemands s reply surfaced.now (lent styles.now layouts.old working.old unclaimed.old tally.old) (outcome result layouts.new working.new unclaimed.new tally.new) }
 {
-    placer::reply(s, reply, surfaced, styles, layouts, working, unclaimed)
+    placer::reply(
+        s, reply, surfaced, styles, layouts, working, unclaimed, tally,
+    )
 }
 
 #[tactic(auto, using(crate::proofs::Demands::alignment_demands))]
@@ -65,14 +69,14 @@ pub fn pixel_edges(layout: Layout, offset: Point<f32>) -> Result<Rect<i32>, Refu
 }
 
 #[tactic(auto, using(crate::proofs::Demands::reach_demands))]
-pub fn reach(place: usize, s: State, lent: &Lent) -> Result<Option<Offsets>, Refusal>
+pub fn reach(place: usize, s: State, lent: &Slices) -> Result<Option<Offsets>, Refusal>
     ensures { ReachDemands place s lent.now result }
 {
     reach::reach(place, s, lent)
 }
 
 #[tactic(auto, using(crate::proofs::Demands::drawing_demands))]
-pub fn drawing_order(s: State, lent: &Lent, order: &mut [u32]) -> Result<(), Refusal>
+pub fn drawing_order(s: State, lent: &Slices, order: &mut [u32]) -> Result<(), Refusal>
     ensures { DrawingDemands s lent.now order.old (record { verdict = result; order = order.new }) }
 {
     drawing::drawing_order(s, lent, order)

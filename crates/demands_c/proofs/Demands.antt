@@ -1,5 +1,5 @@
 -- Demands 1 and 2 of the C entries. Assumes nothing.
-use Prim.Native.Nat.{ℕ, ◌+◌, ◌<◌}
+use Prim.Native.Nat.{ℕ, ◌+◌, ◌<◌, ◌≤◌}
 use native.Mathlib.Omega.{arith}
 use mathlib.Core.Bool.{Bool, true, false, cond, not, ◌&&◌}
 use mathlib.Core.List.{List, [], ◌∷◌, ◌++◌, foldl, foldl-append}
@@ -10,7 +10,7 @@ use lib.IntN.{ℤ}
 use lib.ListN.{length}
 use borrow.Author.Tests.{ne_eqb, eq-eqb}
 use Rattle.reach.specs.declared.Offsets.{Offsets}
-use Rattle.std.specs.Prelude.{Result, is_err, Some, None, Ok, Err, IsOk, Option, ⊤, Float}
+use Rattle.std.specs.Prelude.{Result, is_err, Some, None, Ok, Err, IsOk, Option, sum, ⊤, Float}
 use Rattle.util.proofs.Floats.{no}
 use Rattle.geometry.specs.declared.Point.{Point}
 use Rattle.refusal.specs.Refusal.{number_of}
@@ -24,14 +24,15 @@ use Rattle.geometry.specs.declared.Rect.{Rect}
 use Rattle.oof_box.specs.declared.question.Question.{Question}
 use Rattle.oof_box.specs.declared.question.Question.TheVariants.{MeasureBoth, MeasureWidth, MeasureHeight, LayOut}
 use Rattle.oof_box.specs.declared.question.Reply.{Reply}
-use Rattle.run.specs.Call.{Lent, Outcome, outcome}
+use Rattle.run.specs.Call.{Slices, Lent, Outcome, outcome}
 use Rattle.run.specs.Conditions.{item_words, FirstIs, NoneHolds, opening_tests, reply_tests}
 use Rattle.run.specs.Run.{closed, begun, opened, replied}
 use Rattle.run.specs.Straight.{Course, ended, asks}
-use Rattle.run.specs.Theorems.{one_if_asked, Heard, Loan, own, other, Turn, turned, next, next_with, AllLend, Stands, said_after, open_in, called, heeded_in, course_of, laid_count}
+use Rattle.run.specs.Theorems.{one_if_asked, Heard, Loan, own, other, Turn, turned, next, next_with, AllLend, Stands, said_after, open_in, called, answered_in, course_of, laid_count, AddsUp}
 use Rattle.run.specs.Theorems as run
 use Rattle.run.specs.declared.Answer.{Answer}
 use Rattle.run.specs.declared.Answer.TheVariants.{Ask, Finish}
+use Rattle.run.specs.declared.Finish as ending
 use Rattle.run.specs.declared.Opening.{Opening}
 use Rattle.run.specs.declared.State.{State}
 use Rattle.run.specs.declared.Step.{Step}
@@ -41,10 +42,12 @@ use Rattle.run.proofs.Named.{named_exactly, nothing_exactly}
 use Rattle.run.proofs.Questions.{Hoisted, opening_hoisted, reply_hoisted}
 use Rattle.run.proofs.Refusals.{begun_accepts, saying, turn_refused}
 use Rattle.run.proofs.Straight.{straight_run}
+use Rattle.run.proofs.Sums.{opening_counts_none, reply_counts_one, replies_are_counted, opening_adds_up, reply_adds_up}
+use Rattle.std.proofs.lemmas.List.Sums.{get_or-le-sum_by}
 use Rattle.run.proofs.Ways.{OpeningWay, begins, opening_way}
 use Rattle.oof_c_words.specs.StateWords.{at, count_word, state_of, state_words, counts_in, progress_of, progress_code}
 use Rattle.oof_c_words.specs.AnswerWords.{question_words, measure_words, lay_out_words, finish_words}
-use Rattle.oof_c_words.specs.Entry.{Words, words, Returned, lent_in, result_of, answer_left, in_words, opened_in_words, replied_in_words}
+use Rattle.oof_c_words.specs.Entry.{Words, words, Returned, lent_in, result_of, answer_left, state_left, in_words, opened_in_words, replied_in_words}
 use Rattle.pixels.specs.Told.{PixelsReturned, edges_told}
 use Rattle.oof_c_words.specs.PixelWords.{pixels_in_words}
 use Rattle.oof_c_words.specs.Laws.{FitsReply}
@@ -64,8 +67,8 @@ use Rattle.drawing.specs.Conditions.{drawing_tests}
 use Rattle.drawing.specs.Drawing.{drawn}
 use Rattle.drawing.proofs.Exactly as drawing
 use Rattle.run.specs.Refusals.{Verdict, accepted, refused}
-use Rattle.demands_c.specs.Calls.{Opens, RepliesTo, FitsOpening, asked_for, AnyCalls, Takes, Lends, Run}
-use Rattle.demands_c.specs.Demands.{OpeningDemands, ReplyDemands, PixelsDemands, VerdictIn, ReachDemands, DrawingDemands, BadWordDemands, ThreeQuestionsEach, StandsInWords, EqualsStraightRun, QuartersHaveEdges, QuartersAreAnswered}
+use Rattle.demands_c.specs.Calls.{Opens, RepliesTo, FitsOpening, asked_for, AnyCalls, one_if_accepted, TallyKept, Takes, Lends, Run}
+use Rattle.demands_c.specs.Demands.{OpeningDemands, ReplyDemands, PixelsDemands, VerdictIn, ReachDemands, DrawingDemands, BadWordDemands, ThreeQuestionsEach, CountsAddUp, StandsInWords, EqualsStraightRun, QuartersHaveEdges, QuartersAreAnswered}
 
 -- ---- the result is the number of the first condition that holds
 
@@ -108,6 +111,13 @@ module _ (tests : List (ℕ × Type 0)) where
   edges_by (Ok q) before f g = none_holds (g.0 refl)
   edges_by (Err r) before f g = first_holds r ((f r).0 refl)
 
+-- result 0 is that of an accepted call
+accepted_of : (a : Result Answer Refusal) → result_of a ≡ 0 → is_err a ≡ false
+unfolding result_of
+accepted_of (Ok (Ask q)) h = refl
+accepted_of (Ok (Finish f)) h = refl
+accepted_of (Err r) h = absurd (refused_is_not r h)
+
 pub opening_demands :
     (o : Opening) (candidates styles : List ℕ) (before : Words) {has : Returned} → Opens o candidates styles before has
     → OpeningDemands o candidates styles before has
@@ -119,6 +129,7 @@ opening_demands o candidates styles before c =
       refused = numbered by;
       accepted = zeroed by;
       kept = refused_opening_closes o candidates styles before;
+      cleared = λ z. (opening_counts_none o candidates l (accepted_of (opened o candidates l).step.answer z)).tally;
     })
   where
     l : Lent
@@ -138,6 +149,7 @@ reply_demands reply surfaced styles before c =
       refused = numbered by;
       accepted = zeroed by;
       kept = refused_reply_writes_nothing reply surfaced styles before;
+      counted = λ z. (reply_counts_one s reply surfaced l (accepted_of (replied s reply surfaced l).step.answer z)).tally;
     })
   where
     s : State
@@ -205,7 +217,7 @@ module _ (before : List ℕ) where
   answer_is_zero (Err r) h = absurd cc
 
 pub reach_demands :
-    (place : ℕ) (lent : Lent) (state before : List ℕ) {has : ReachReturned} → has ≡ reach_in_words place lent state before
+    (place : ℕ) (lent : Slices) (state before : List ℕ) {has : ReachReturned} → has ≡ reach_in_words place lent state before
     → ReachDemands place lent state before has
 unfolding reach_in_words
 reach_demands place lent state before c =
@@ -232,7 +244,7 @@ other_refused (Ok tt) h = absurd (h refl)
 other_refused (Err r) h = (r, refl)
 
 pub drawing_demands :
-    (lent : Lent) (state before : List ℕ) {has : DrawingReturned} → has ≡ drawing_in_words lent state before → DrawingDemands lent state before has
+    (lent : Slices) (state before : List ℕ) {has : DrawingReturned} → has ≡ drawing_in_words lent state before → DrawingDemands lent state before has
 unfolding drawing_in_words
 drawing_demands lent state before c =
     let s = state_of state in
@@ -367,6 +379,135 @@ pub three_questions_each : ThreeQuestionsEach
 unfolding state_of counts_in
 three_questions_each i n has calls = let b = for_box i calls in (b.0.three, λ h. b.0.none (let k = b.1 in omega arith))
 
+-- ---- the tally adds up
+
+-- a finish shows its count, if its words mean the state that it returned
+finish_shows : (x : Outcome) → AddsUp x → state_of (state_words x.step.state) ≡ x.step.state → (f : ending.Finish) → x.step.answer ≡ Ok (Finish f)
+    → sum x.tally ≡ count_word f.count
+unfolding state_of state_words counts_in
+finish_shows x a back f e =
+    a.so_far ∙ sym (ap (λ (s : State). s.counts.answered) back) ∙ ap count_word (sym a.so_far ∙ a.at_finish f e)
+
+-- an accepted reply writes its state
+state_back_of : (step : Step) (before : List ℕ) (f : ending.Finish) → step.answer ≡ Ok (Finish f) → state_of (state_left step before) ≡ step.state
+    → state_of (state_words step.state) ≡ step.state
+unfolding state_left
+state_back_of step before f e back =
+    subst (λ (a : Result Answer Refusal). state_of (cond (is_err a) before (state_words step.state)) ≡ step.state) e back
+
+-- where the answer's words tell a finish
+told_finish : (a : Result Answer Refusal) (shown : List ℕ) (n : ℕ) → ((f : ending.Finish) → a ≡ Ok (Finish f) → n ≡ count_word f.count)
+    → result_of a ≡ 0
+    → at (answer_left a shown) 0 ≡ 0
+    → n ≡ at (answer_left a shown) 1
+unfolding result_of answer_left finish_words
+told_finish (Ok (Ask q)) shown n h z k = no (eq-eqb _ _ k) (no_finish q)
+told_finish (Ok (Finish f)) shown n h z k = h f refl
+told_finish (Err r) shown n h z k = absurd (refused_is_not r z)
+
+-- the outcome that the words of the state and the tally mean
+record Adds (m : ℕ) (has : Returned) : Type 0 where
+  left : Outcome
+  adds : AddsUp left
+  accepted : left.step.state.counts.answered ≡ m
+  tally : has.words.tally ≡ left.tally
+  state : state_of has.words.state ≡ left.step.state
+  finish : has.result ≡ 0 → at has.words.answer 0 ≡ 0 → sum has.words.tally ≡ at has.words.answer 1
+
+opening_adds : (o : Opening) (candidates styles : List ℕ) (before : Words) → FitsOpening o → (opened_in_words o candidates styles before).result ≡ 0
+    → Adds 0 (opened_in_words o candidates styles before)
+unfolding opened_in_words
+opening_adds o candidates styles before f z =
+    record {
+      left = x;
+      adds = adds;
+      accepted = (opening_counts_none o candidates (lent_in styles before) (accepted_of x.step.answer z)).answered;
+      tally = refl;
+      state = kept;
+      finish = told_finish x.step.answer before.answer (sum x.tally) (finish_shows x adds kept);
+    }
+  where
+    x : Outcome
+    x = opened o candidates (lent_in styles before)
+
+    adds : AddsUp x
+    adds = opening_adds_up o candidates (lent_in styles before) (accepted_of x.step.answer z)
+
+    kept : state_of (state_words x.step.state) ≡ x.step.state
+    kept = opening_is_kept o candidates styles before (record { size = f.0; offset = f.1; lengths = λ h. absurd (h z) })
+
+-- one more is accepted, as the result tells
+same_one : (a : Result Answer Refusal) → run.one_if_accepted a ≡ one_if_accepted (result_of a)
+unfolding result_of
+same_one (Ok (Ask q)) = refl
+same_one (Ok (Finish f)) = refl
+same_one (Err r) = sym (ap (λ (b : Bool). cond b 1 0) (ne_eqb (number_of r) 0 (refused_is_not r)))
+
+reply_adds : {m : ℕ} (reply : Reply) (surfaced styles : List ℕ) (before : Words) {last : Returned} → FitsReply reply → Adds m last
+    → before.state ≡ last.words.state
+    → before.tally ≡ last.words.tally
+    → Adds (m + one_if_accepted (replied_in_words reply surfaced styles before).result) (replied_in_words reply surfaced styles before)
+unfolding replied_in_words
+reply_adds {m} reply surfaced styles before f a w t =
+    record {
+      left = x;
+      adds = adds;
+      accepted = counted_on;
+      tally = refl;
+      state = kept;
+      finish = told_finish x.step.answer before.answer (sum x.tally) (λ g e. finish_shows x adds (state_back_of x.step before.state g e kept) g e);
+    }
+  where
+    l : Lent
+    l = lent_in styles before
+
+    x : Outcome
+    x = replied (state_of before.state) reply surfaced l
+
+    kept : state_of (state_left x.step before.state) ≡ x.step.state
+    kept = reply_is_kept reply surfaced styles before f
+
+    adds : AddsUp x
+    adds =
+        subst (λ (s : State). AddsUp (replied s reply surfaced l)) (sym (ap state_of w ∙ a.state))
+        (reply_adds_up a.left reply surfaced l a.adds (t ∙ a.tally))
+
+    counted_on : x.step.state.counts.answered ≡ m + one_if_accepted (result_of x.step.answer)
+    counted_on =
+        replies_are_counted (state_of before.state) reply surfaced l
+        ∙ ap (λ (n : ℕ). n + run.one_if_accepted x.step.answer) (ap (λ (s : State). s.counts.answered) (ap state_of w ∙ a.state) ∙ a.accepted)
+        ∙ ap (λ (n : ℕ). m + n) (same_one x.step.answer)
+
+counted_in : {m : ℕ} {has : Returned} → TallyKept m has → Adds m has
+counted_in (TallyKept.opening o candidates styles before f c z) =
+    subst (Adds 0) (sym c) (opening_adds o candidates styles before f (sym (ap (λ (y : Returned). y.result) c) ∙ z))
+counted_in (TallyKept.reply {m = m} reply surfaced styles before f calls w t c) =
+    subst (λ (y : Returned). Adds (m + one_if_accepted y.result) y) (sym c) (reply_adds reply surfaced styles before f (counted_in calls) w t)
+counted_in (TallyKept.other_tally reply surfaced styles before calls w c h) =
+    let a = counted_in calls in
+    let stays = refused_reply_writes_nothing reply surfaced styles before (λ z. h (ap (λ (y : Returned). y.result) c ∙ z)) in
+    record {
+      left = a.left;
+      adds = a.adds;
+      accepted = a.accepted;
+      tally = a.tally;
+      state = ap (λ (y : Returned). state_of y.words.state) c ∙ ap (λ (y : Words). state_of y.state) stays ∙ ap state_of w ∙ a.state;
+      finish = λ z. absurd (h z);
+    }
+
+pub counts_add_up : CountsAddUp
+unfolding state_of counts_in
+counts_add_up m has calls =
+    let a = counted_in calls in
+    let count : at has.words.state 10 ≡ a.left.step.state.counts.answered = ap (λ (s : State). s.counts.answered) a.state in
+    let s : sum has.words.tally ≡ at has.words.state 10 = ap sum a.tally ∙ a.adds.so_far ∙ sym count in
+    record {
+      so_far = s;
+      at_finish = a.finish;
+      none_above = λ i h. subst (λ (n : ℕ). at has.words.tally i ≤ n) s (get_or-le-sum_by (λ (n : ℕ). n) has.words.tally i 0 h);
+      accepted = count ∙ a.accepted;
+    }
+
 -- ---- a run is the straight run
 
 -- what the host has, of an outcome
@@ -374,6 +515,7 @@ record Has (styles : List ℕ) (has : Returned) (x : Outcome) : Type 0 where
   layouts : has.words.layouts ≡ x.layouts
   working : has.words.working ≡ x.working
   unclaimed : has.words.unclaimed ≡ x.unclaimed
+  tally : has.words.tally ≡ x.tally
   state : state_of has.words.state ≡ x.step.state
   result : has.result ≡ result_of x.step.answer
 
@@ -382,12 +524,6 @@ unfolding result_of
 refused_of (Ok (Ask q)) h = absurd (h refl)
 refused_of (Ok (Finish f)) h = absurd (h refl)
 refused_of (Err r) h = refl
-
-accepted_of : (a : Result Answer Refusal) → result_of a ≡ 0 → is_err a ≡ false
-unfolding result_of
-accepted_of (Ok (Ask q)) h = refl
-accepted_of (Ok (Finish f)) h = refl
-accepted_of (Err r) h = absurd (refused_is_not r h)
 
 -- a reply, whatever was lent with it: the run goes one turn on, and the answer's words tell its step's
 record Went (styles : List ℕ) (last has : Returned) (x : Outcome) : Type 0 where
@@ -399,13 +535,14 @@ went : (styles : List ℕ) {last has : Returned} {x : Outcome} (h : Heard) (loan
     → Went styles last has (next_with styles x h loan)
 unfolding replied_in_words next
 went styles {last = last} {x = x} h own f k (Takes.lent_own c) =
-    let e : replied (state_of last.words.state) h.reply h.surfaced (lent_in styles last.words) ≡ next styles x h = λ j. replied (k.state j) h.reply h.surfaced (record { styles = styles; layouts = k.layouts j; working = k.working j; unclaimed = k.unclaimed j }) in
+    let e : replied (state_of last.words.state) h.reply h.surfaced (lent_in styles last.words) ≡ next styles x h = λ j. replied (k.state j) h.reply h.surfaced (record { styles = styles; layouts = k.layouts j; working = k.working j; unclaimed = k.unclaimed j; tally = k.tally j }) in
     record {
       now =
           record {
             layouts = ap (λ (y : Returned). y.words.layouts) c ∙ ap (λ (y : Outcome). y.layouts) e;
             working = ap (λ (y : Returned). y.words.working) c ∙ ap (λ (y : Outcome). y.working) e;
             unclaimed = ap (λ (y : Returned). y.words.unclaimed) c ∙ ap (λ (y : Outcome). y.unclaimed) e;
+            tally = ap (λ (y : Returned). y.words.tally) c ∙ ap (λ (y : Outcome). y.tally) e;
             state = ap (λ (y : Returned). state_of y.words.state) c ∙ reply_is_kept h.reply h.surfaced styles last.words f ∙ ap (λ (y : Outcome). y.step.state) e;
             result = ap (λ (y : Returned). y.result) c ∙ ap (λ (y : Outcome). result_of y.step.answer) e;
           };
@@ -419,7 +556,8 @@ went styles {last = last} {x = x} h (other slices) f k (Takes.lent_other c) =
             layouts = k.layouts;
             working = k.working;
             unclaimed = k.unclaimed;
-            state = ap (λ (y : Returned). state_of y.words.state) c ∙ reply_is_kept h.reply h.surfaced slices.styles (words slices.layouts slices.working slices.unclaimed last.words.state last.words.answer) f ∙ ap (λ (y : Outcome). y.step.state) e;
+            tally = k.tally;
+            state = ap (λ (y : Returned). state_of y.words.state) c ∙ reply_is_kept h.reply h.surfaced slices.styles (words slices.layouts slices.working slices.unclaimed slices.tally last.words.state last.words.answer) f ∙ ap (λ (y : Outcome). y.step.state) e;
             result = ap (λ (y : Returned). y.result) c ∙ ap (λ (y : Outcome). result_of y.step.answer) e;
           };
       answer = ap (λ (y : Returned). y.words.answer) c ∙ ap (λ (y : Outcome). answer_left y.step.answer last.words.answer) e;
@@ -455,10 +593,10 @@ module _ (o : Opening) (candidates styles : List ℕ) (before : Words) where
   after turns = called o candidates l turns
 
   abbrev said : List Turn → Result Answer Refusal
-  said turns = said_after (length (heeded_in o candidates l turns)) (course_of o candidates l turns)
+  said turns = said_after (length (answered_in o candidates l turns)) (course_of o candidates l turns)
 
   abbrev StandsAt : List Turn → Outcome → Type 0
-  StandsAt turns x = Stands l (length (heeded_in o candidates l turns)) x (course_of o candidates l turns)
+  StandsAt turns x = Stands l (answered_in o candidates l turns) x (course_of o candidates l turns)
 
   record Ran (turns : List Turn) (has : Returned) : Type 0 where
     accepted : is_err (opened o candidates l).step.answer ≡ false
@@ -484,6 +622,7 @@ module _ (o : Opening) (candidates styles : List ℕ) (before : Words) where
               layouts = ap (λ (y : Returned). y.words.layouts) c;
               working = ap (λ (y : Returned). y.words.working) c;
               unclaimed = ap (λ (y : Returned). y.words.unclaimed) c;
+              tally = ap (λ (y : Returned). y.words.tally) c;
               state = ap (λ (y : Returned). state_of y.words.state) c ∙ kept;
               result = ap (λ (y : Returned). y.result) c;
             };
@@ -535,17 +674,18 @@ module _ (o : Opening) (candidates styles : List ℕ) (before : Words) where
 
   same_run : (turns : List Turn) {has : Returned} → Ran turns has
       → saying (said turns) (after turns)
-      ≡ outcome (record { state = state_of has.words.state; answer = said turns }) has.words.layouts has.words.working has.words.unclaimed
+      ≡ outcome (record { state = state_of has.words.state; answer = said turns }) has.words.layouts has.words.working has.words.unclaimed has.words.tally
   same_run turns r =
       λ j. record {
         step = record { state = sym r.now.state j; answer = said turns };
         layouts = sym r.now.layouts j;
         working = sym r.now.working j;
         unclaimed = sym r.now.unclaimed j;
+        tally = sym r.now.tally j;
       }
 
   in_words_lem : (turns : List Turn) {has : Returned} → Ran turns has
-      → StandsInWords l (length (heeded_in o candidates l turns)) has (course_of o candidates l turns)
+      → StandsInWords l (answered_in o candidates l turns) has (course_of o candidates l turns)
   in_words_lem turns r =
       let s = stands turns r in
       record {
@@ -558,6 +698,8 @@ module _ (o : Opening) (candidates styles : List ℕ) (before : Words) where
               filled = s.filled;
               begun = s.begun;
               counted = s.counted;
+              tally_length = s.tally_length;
+              tally = s.tally;
               laid = s.laid;
               overflow = s.overflow;
               pending = s.pending;

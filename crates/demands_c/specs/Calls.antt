@@ -45,6 +45,41 @@ pub data AnyCalls (i : ℕ) : ℕ → Returned → Type 0 where
       → RepliesTo reply surfaced styles before has
       → AnyCalls i (n + asked_for i has) has
 
+-- ---- Calls of which nobody else writes the tally: after an opening that isn't refused, each reply is lent the tally's and the state's words as the
+-- last call left them, and any other words, in slices of any length. A reply may be lent another tally if it is then refused: the host's own
+-- keeps its words. `m` replies were accepted.
+
+-- a result is 0 where the call is accepted
+abbrev pub one_if_accepted : ℕ → ℕ
+one_if_accepted result = cond (eqb result 0) 1 0
+
+pub data TallyKept : ℕ → Returned → Type 0 where
+  opening :
+      {has : Returned} (o : Opening) (candidates styles : List ℕ) (before : Words)
+      → FitsOpening o
+      → Opens o candidates styles before has
+      → has.result ≡ 0
+      → TallyKept 0 has
+  reply :
+      {m : ℕ} {last has : Returned} (reply : Reply) (surfaced styles : List ℕ) (before : Words)
+      → FitsReply reply
+      → TallyKept m last
+      → before.state ≡ last.words.state
+      → before.tally ≡ last.words.tally
+      → RepliesTo reply surfaced styles before has
+      → TallyKept (m + one_if_accepted has.result) has
+  other_tally :
+      {m : ℕ} {last left : Returned} (reply : Reply) (surfaced styles : List ℕ) (before : Words)
+      → TallyKept m last
+      → before.state ≡ last.words.state
+      → RepliesTo reply surfaced styles before left
+      → left.result ≢ 0
+      → TallyKept m
+      (record {
+        result = left.result;
+        words = words left.words.layouts left.words.working left.words.unclaimed last.words.tally left.words.state left.words.answer;
+      })
+
 -- ---- A run: nobody else writes the lent words, the state's and the answer's.
 
 -- what the host has of a run after a reply: if it lent other slices, the run's own keep their words
@@ -52,11 +87,11 @@ pub data Takes (styles : List ℕ) (last : Words) (h : Heard) : Loan → Returne
   lent_own : {has : Returned} → RepliesTo h.reply h.surfaced styles last has → Takes styles last h own has
   lent_other :
       {slices : Lent} {left : Returned}
-      → RepliesTo h.reply h.surfaced slices.styles (words slices.layouts slices.working slices.unclaimed last.state last.answer) left
+      → RepliesTo h.reply h.surfaced slices.styles (words slices.layouts slices.working slices.unclaimed slices.tally last.state last.answer) left
       → Takes styles last h (other slices)
       (record {
         result = left.result;
-        words = words last.layouts last.working last.unclaimed left.words.state left.words.answer;
+        words = words last.layouts last.working last.unclaimed last.tally left.words.state left.words.answer;
       })
 
 -- other slices are lent with a call only where it is refused

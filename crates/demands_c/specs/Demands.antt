@@ -1,6 +1,6 @@
 -- Demands 1 and 2, of the C entries. No entry asks anything of its caller, so each contract, and with it each of these, holds for any bits
 -- in any number and slices of any length. `proofs/Demands.antt` proves each, under its name in small letters. Assumes nothing.
-use Rattle.std.specs.Prelude.{ℕ, ◌%◌, ◌≤◌, ◌<◌, List, [], ◌∷◌, ◌⊎◌, ◌≢◌, ◌↔◌, ◌≡◌, ℤ, length, Some, None, Ok, Err, All, Option, Result, Float}
+use Rattle.std.specs.Prelude.{ℕ, ◌%◌, ◌≤◌, ◌<◌, List, [], ◌∷◌, ◌⊎◌, ◌≢◌, ◌↔◌, ◌≡◌, ℤ, length, replicate, sum, Some, None, Ok, Err, All, Option, Result, Float}
 use Rattle.refusal.specs.declared.Refusal.{Refusal}
 use Rattle.reach.specs.declared.Offsets.{Offsets}
 use Rattle.geometry.specs.declared.Point.{Point}
@@ -11,11 +11,11 @@ use Rattle.pixels.specs.Conditions.{pixel_tests}
 use Rattle.pixels.specs.Pixels.{pixel_edges}
 use Rattle.geometry.specs.declared.Rect.{Rect}
 use Rattle.oof_box.specs.declared.question.Reply.{Reply}
-use Rattle.run.specs.Call.{Lent, outcome}
+use Rattle.run.specs.Call.{Slices, Lent, slices_of, outcome}
 use Rattle.run.specs.Conditions.{StyleIsBad, FirstNotAllowed, AllAllowed, FirstIs, NoneHolds, opening_tests, reply_tests}
-use Rattle.run.specs.Run.{closed, claims_of}
+use Rattle.run.specs.Run.{closed, claims_of, box_at_hand, charged}
 use Rattle.run.specs.Straight.{Course}
-use Rattle.run.specs.Theorems.{Turn, Stands, said_after, heeded_in, course_of, laid_count}
+use Rattle.run.specs.Theorems.{Turn, Stands, said_after, heeded_in, answered_in, course_of, laid_count}
 use Rattle.run.specs.declared.Opening.{Opening}
 use Rattle.mirror_run.specs.Quarter.{AreaInQuarters, QuarterTable, QuarterCandidates}
 use Rattle.pixels_laws.specs.Laws.{QuarterHeard}
@@ -32,7 +32,7 @@ use Rattle.drawing.specs.Laws.{EachOnce, InOrder}
 use Rattle.oof_c.specs.ReachWords.{reach_in_words}
 use Rattle.oof_c.specs.DrawingWords.{DrawingReturned, drawing_in_words}
 use Rattle.oof_c_words.specs.PixelWords.{pixels_in_words}
-use Rattle.demands_c.specs.Calls.{Opens, RepliesTo, AnyCalls, Run}
+use Rattle.demands_c.specs.Calls.{Opens, RepliesTo, AnyCalls, TallyKept, Run}
 
 -- ---- Demand 1. "Whoever calls an entry, with any bits in any number and slices of any length, gets its answer .. or one of document 01's
 -- refusals .., each exactly under its stated condition. A refusal writes no lent word and returns the state as it came." The conditions, in
@@ -53,7 +53,9 @@ pub record OpeningDemands (o : Opening) (candidates styles : List ℕ) (before :
   pub accepted : (has.result ≡ 0) ↔ NoneHolds (opening_tests o candidates (lent_in styles before))
   pub kept :
       has.result ≢ 0
-      → has.words ≡ words before.layouts before.working before.unclaimed (state_words (closed (lent_in styles before))) before.answer
+      → has.words ≡ words before.layouts before.working before.unclaimed before.tally (state_words (closed (lent_in styles before))) before.answer
+  -- request #107: "opening clears it"
+  pub cleared : has.result ≡ 0 → has.words.tally ≡ replicate (length before.tally) 0
 
 -- a reply, whatever words stand for its state
 pub record ReplyDemands (reply : Reply) (surfaced styles : List ℕ) (before : Words) (has : Returned) : Type 0 where
@@ -61,6 +63,8 @@ pub record ReplyDemands (reply : Reply) (surfaced styles : List ℕ) (before : W
   pub refused : (n : ℕ) → n ≢ 0 → (has.result ≡ n) ↔ FirstIs (reply_tests (state_of before.state) reply surfaced (lent_in styles before)) n
   pub accepted : (has.result ≡ 0) ↔ NoneHolds (reply_tests (state_of before.state) reply surfaced (lent_in styles before))
   pub kept : has.result ≢ 0 → has.words ≡ before
+  -- request #107: one item's count goes up, that of the box at hand, as its record says now
+  pub counted : has.result ≡ 0 → has.words.tally ≡ charged before.tally (box_at_hand before.working (state_of before.state).counts).node
 
 -- `oof_pixels`, whatever words stand for its layout
 pub record PixelsDemands (layout : List ℕ) (offset : Point Float) (before : List ℤ) (has : PixelsReturned) : Type 0 where
@@ -70,9 +74,9 @@ pub record PixelsDemands (layout : List ℕ) (offset : Point Float) (before : Li
   pub kept : has.result ≢ 0 → has.edges ≡ before
   pub written : has.result ≡ 0 → (p : Rect ℤ) × (pixel_edges (layout_of layout) offset ≡ Ok p) × (has.edges ≡ p.left ∷ p.right ∷ p.top ∷ p.bottom ∷ [])
 
--- `oof_reach`, whatever words stand for its state: 2, 6, 4, 9. The slices and the state are lent to be read only; the state's words are 27 and
+-- `oof_reach`, whatever words stand for its state: 2, 6, 4, 9. The slices and the state are lent to be read only; the state's words are 28 and
 -- the verdict's 3, by the entry's types
-pub record ReachDemands (place : ℕ) (lent : Lent) (state before : List ℕ) (has : ReachReturned) : Type 0 where
+pub record ReachDemands (place : ℕ) (lent : Slices) (state before : List ℕ) (has : ReachReturned) : Type 0 where
   pub call : has ≡ reach_in_words place lent state before
   pub refused : (n : ℕ) → n ≢ 0 → (has.result ≡ n) ↔ FirstIs (reach_tests place (state_of state) lent) n
   pub accepted : (has.result ≡ 0) ↔ NoneHolds (reach_tests place (state_of state) lent)
@@ -80,7 +84,7 @@ pub record ReachDemands (place : ℕ) (lent : Lent) (state before : List ℕ) (h
   pub written : has.result ≡ 0 → VerdictIn (reached place (state_of state) lent) has.verdict
 
 -- `oof_drawing_order`, whatever words stand for its state: 2, 6, 4. Slices and state are lent to be read only, but for that of the order
-pub record DrawingDemands (lent : Lent) (state before : List ℕ) (has : DrawingReturned) : Type 0 where
+pub record DrawingDemands (lent : Slices) (state before : List ℕ) (has : DrawingReturned) : Type 0 where
   pub call : has ≡ drawing_in_words lent state before
   pub refused : (n : ℕ) → n ≢ 0 → (has.result ≡ n) ↔ FirstIs (drawing_tests (state_of state) lent before) n
   pub accepted : (has.result ≡ 0) ↔ NoneHolds (drawing_tests (state_of state) lent before)
@@ -103,23 +107,35 @@ pub record BadWordDemands (styles before : List ℕ) (has : CheckReturned) : Typ
 abbrev pub ThreeQuestionsEach : Type 0
 ThreeQuestionsEach = (i n : ℕ) (has : Returned) → AnyCalls i n has → (n ≤ 3) × (at has.words.state 7 ≤ i → n ≡ 0)
 
+-- request #107: "The words always add up to the run's questions answered so far, at the end the count in the finish", whatever other words the
+-- host rewrites between calls; none is above that count, so that none makes a reply a wrong one. The state's word 10 is the count so far, that of
+-- the replies accepted; a finish's first two words are 0 and the count
+pub record AddsUp (m : ℕ) (has : Returned) : Type 0 where
+  pub so_far : sum has.words.tally ≡ at has.words.state 10
+  pub at_finish : has.result ≡ 0 → at has.words.answer 0 ≡ 0 → sum has.words.tally ≡ at has.words.answer 1
+  pub none_above : (i : ℕ) → i < length has.words.tally → at has.words.tally i ≤ at has.words.state 10
+  pub accepted : at has.words.state 10 ≡ m
+
+abbrev pub CountsAddUp : Type 0
+CountsAddUp = (m : ℕ) (has : Returned) → TallyKept m has → AddsUp m has
+
 -- ---- Demand 2. "Questions, layouts, lists and overflow equal the definition": a run by C calls is the straight run. This holds after each
 -- call, whatever replies were refused before it.
 
--- what the host has is where the course stands: the words of the slices, the state that its words mean, and the answer's words, which say
--- what comes next, also after a refused reply
-pub record StandsInWords (lent : Lent) (answered : ℕ) (has : Returned) (course : Course) : Type 0 where
+-- what the host has is where the course stands: the words of the slices, those of the tally each the number of answered questions that named
+-- its item, the state that its words mean, and the answer's words, which say what comes next, also after a refused reply
+pub record StandsInWords (lent : Lent) (answered : List ℕ) (has : Returned) (course : Course) : Type 0 where
   pub run :
       Stands lent answered
-      (outcome (record { state = state_of has.words.state; answer = said_after answered course }) has.words.layouts has.words.working has.words.unclaimed)
+      (outcome (record { state = state_of has.words.state; answer = said_after (length answered) course }) has.words.layouts has.words.working has.words.unclaimed has.words.tally)
       course
-  pub answer : has.words.answer ≡ answer_left (said_after answered course) []
+  pub answer : has.words.answer ≡ answer_left (said_after (length answered) course) []
 
 abbrev pub EqualsStraightRun : Type 0
 EqualsStraightRun =
     (o : Opening) (candidates styles : List ℕ) (before : Words) (turns : List Turn) (has : Returned)
     → Run o candidates styles before turns has
-    → StandsInWords (lent_in styles before) (length (heeded_in o candidates (lent_in styles before) turns)) has (course_of o candidates (lent_in styles before) turns)
+    → StandsInWords (lent_in styles before) (answered_in o candidates (lent_in styles before) turns) has (course_of o candidates (lent_in styles before) turns)
 
 -- ---- Beyond the demands: under what demand 3 asks of area, styles, candidates and replies, but that the area's width may be 0, no box
 -- meets refusal 9 (pixels_laws/specs, reach_laws/specs)
@@ -148,12 +164,13 @@ QuartersAreAnswered =
     → let state = state_of has.words.state in
     state.progress ≡ None
     → (place : ℕ) → place < state.counts.filled.working
-    → (verdict : List ℕ) → (reach_in_words place (lent_in styles has.words) has.words.state verdict).result ≡ 0
+    → (verdict : List ℕ) → (reach_in_words place (slices_of (lent_in styles has.words)) has.words.state verdict).result ≡ 0
 
 -- ---- What is demanded of runs, and the theorems beyond: the function `demanded` of src/lib.rt ensures these, so that a crate without a proof of each is not proved.
 
 pub record Demanded : Type 0 where
   pub three_questions_each : ThreeQuestionsEach
+  pub counts_add_up : CountsAddUp
   pub equals_straight_run : EqualsStraightRun
   pub quarters_have_edges : QuartersHaveEdges
   pub quarters_are_answered : QuartersAreAnswered

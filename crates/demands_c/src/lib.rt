@@ -5,7 +5,7 @@
 ghost use Rattle.std.specs.Prelude.{[]};
 ghost use Rattle.oof_c_words.specs.Entry.{returned, opening_of, words};
 ghost use Rattle.oof_c_words.specs.PixelWords.{pixels_returned};
-ghost use Rattle.run.specs.Call.{lent};
+ghost use Rattle.run.specs.Call.{slices};
 ghost use Rattle.oof_c_words.specs.CheckWords.{check_returned};
 ghost use Rattle.oof_c.specs.ReachWords.{reach_returned};
 ghost use Rattle.oof_c.specs.DrawingWords.{drawing_returned};
@@ -28,14 +28,15 @@ pub fn open(
     layouts: &mut [u32],
     working: &mut [u32],
     unclaimed: &mut [u32],
-    state: &mut [u32; 27],
+    tally: &mut [u32],
+    state: &mut [u32; 28],
     answer: &mut [u32; 10],
 ) -> u32
-    ensures { OpeningDemands (opening_of width height x y direction claims overflow_x overflow_y) candidates.now styles.now (words layouts.old working.old unclaimed.old state.old answer.old) (returned result layouts.new working.new unclaimed.new state.new answer.new) }
+    ensures { OpeningDemands (opening_of width height x y direction claims overflow_x overflow_y) candidates.now styles.now (words layouts.old working.old unclaimed.old tally.old state.old answer.old) (returned result layouts.new working.new unclaimed.new tally.new state.new answer.new) }
 {
     oof_c::oof_open(
         width, height, x, y, direction, claims, overflow_x, overflow_y, styles, candidates,
-        layouts, working, unclaimed, state, answer,
+        layouts, working, unclaimed, tally, state, answer,
     )
 }
 
@@ -46,13 +47,14 @@ pub fn reply_both(
     layouts: &mut [u32],
     working: &mut [u32],
     unclaimed: &mut [u32],
-    state: &mut [u32; 27],
+    tally: &mut [u32],
+    state: &mut [u32; 28],
     answer: &mut [u32; 10],
 ) -> u32
-    ensures { ReplyDemands (Reply.Both (record { width = width; height = height })) [] styles.now (words layouts.old working.old unclaimed.old state.old answer.old) (returned result layouts.new working.new unclaimed.new state.new answer.new) }
+    ensures { ReplyDemands (Reply.Both (record { width = width; height = height })) [] styles.now (words layouts.old working.old unclaimed.old tally.old state.old answer.old) (returned result layouts.new working.new unclaimed.new tally.new state.new answer.new) }
 {
     oof_c::oof_reply_both(
-        width, height, styles, layouts, working, unclaimed, state, answer,
+        width, height, styles, layouts, working, unclaimed, tally, state, answer,
     )
 }
 
@@ -62,12 +64,15 @@ pub fn reply_width(
     layouts: &mut [u32],
     working: &mut [u32],
     unclaimed: &mut [u32],
-    state: &mut [u32; 27],
+    tally: &mut [u32],
+    state: &mut [u32; 28],
     answer: &mut [u32; 10],
 ) -> u32
-    ensures { ReplyDemands (Reply.Width width) [] styles.now (words layouts.old working.old unclaimed.old state.old answer.old) (returned result layouts.new working.new unclaimed.new state.new answer.new) }
+    ensures { ReplyDemands (Reply.Width width) [] styles.now (words layouts.old working.old unclaimed.old tally.old state.old answer.old) (returned result layouts.new working.new unclaimed.new tally.new state.new answer.new) }
 {
-    oof_c::oof_reply_width(width, styles, layouts, working, unclaimed, state, answer)
+    oof_c::oof_reply_width(
+        width, styles, layouts, working, unclaimed, tally, state, answer,
+    )
 }
 
 pub fn reply_height(
@@ -76,12 +81,15 @@ pub fn reply_height(
     layouts: &mut [u32],
     working: &mut [u32],
     unclaimed: &mut [u32],
-    state: &mut [u32; 27],
+    tally: &mut [u32],
+    state: &mut [u32; 28],
     answer: &mut [u32; 10],
 ) -> u32
-    ensures { ReplyDemands (Reply.Height height) [] styles.now (words layouts.old working.old unclaimed.old state.old answer.old) (returned result layouts.new working.new unclaimed.new state.new answer.new) }
+    ensures { ReplyDemands (Reply.Height height) [] styles.now (words layouts.old working.old unclaimed.old tally.old state.old answer.old) (returned result layouts.new working.new unclaimed.new tally.new state.new answer.new) }
 {
-    oof_c::oof_reply_height(height, styles, layouts, working, unclaimed, state, answer)
+    oof_c::oof_reply_height(
+        height, styles, layouts, working, unclaimed, tally, state, answer,
+    )
 }
 
 pub fn reply_laid_out(
@@ -94,13 +102,15 @@ pub fn reply_laid_out(
     layouts: &mut [u32],
     working: &mut [u32],
     unclaimed: &mut [u32],
-    state: &mut [u32; 27],
+    tally: &mut [u32],
+    state: &mut [u32; 28],
     answer: &mut [u32; 10],
 ) -> u32
-    ensures { ReplyDemands (Reply.LaidOut (record { left = left; right = right; top = top; bottom = bottom })) surfaced.now styles.now (words layouts.old working.old unclaimed.old state.old answer.old) (returned result layouts.new working.new unclaimed.new state.new answer.new) }
+    ensures { ReplyDemands (Reply.LaidOut (record { left = left; right = right; top = top; bottom = bottom })) surfaced.now styles.now (words layouts.old working.old unclaimed.old tally.old state.old answer.old) (returned result layouts.new working.new unclaimed.new tally.new state.new answer.new) }
 {
     oof_c::oof_reply_laid_out(
-        left, right, top, bottom, surfaced, styles, layouts, working, unclaimed, state, answer,
+        left, right, top, bottom, surfaced, styles, layouts, working, unclaimed, tally, state,
+        answer,
     )
 }
 
@@ -118,10 +128,10 @@ pub fn reach(
     layouts: &[u32],
     working: &[u32],
     unclaimed: &[u32],
-    state: &[u32; 27],
+    state: &[u32; 28],
     verdict: &mut [u32; 3],
 ) -> u32
-    ensures { ReachDemands place (lent styles.now layouts.now working.now unclaimed.now) state.now verdict.old (reach_returned result verdict.new) }
+    ensures { ReachDemands place (slices styles.now layouts.now working.now unclaimed.now) state.now verdict.old (reach_returned result verdict.new) }
 {
     oof_c::oof_reach(place, styles, layouts, working, unclaimed, state, verdict)
 }
@@ -132,10 +142,10 @@ pub fn drawing_order(
     layouts: &[u32],
     working: &[u32],
     unclaimed: &[u32],
-    state: &[u32; 27],
+    state: &[u32; 28],
     order: &mut [u32],
 ) -> u32
-    ensures { DrawingDemands (lent styles.now layouts.now working.now unclaimed.now) state.now order.old (drawing_returned result order.new) }
+    ensures { DrawingDemands (slices styles.now layouts.now working.now unclaimed.now) state.now order.old (drawing_returned result order.new) }
 {
     oof_c::oof_drawing_order(styles, layouts, working, unclaimed, state, order)
 }

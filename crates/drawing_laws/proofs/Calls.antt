@@ -33,11 +33,11 @@ use Rattle.run.specs.declared.State.{State}
 use Rattle.run.specs.declared.Step.{Step}
 use Rattle.run.specs.Call.{Lent, Outcome, lent}
 use Rattle.run.specs.Refusals.{Verdict, lent_by, bad_candidate, bad_candidates}
-use Rattle.run.specs.Run.{box_at_hand, asking, finishing, proceeding, claims_of, extents_of, none_filled, opening_verdict, closed, begun, opened_by, opened, taken_by, reply_verdict, measured_on, laid_out, refusing, replied_by, replied}
+use Rattle.run.specs.Run.{box_at_hand, asking, finishing, proceeding, claims_of, extents_of, none_filled, opening_verdict, closed, begun, opened_by, opened, taken_by, reply_verdict, charged, measured_on, laid_out, refusing, replied_by, replied}
 use Rattle.mirror_run.specs.Runs.{Each}
 use Rattle.mirror_run.proofs.Lists.{each_length, each_kept}
 use Rattle.mirror_run.proofs.Unread.{taken_all}
-use Rattle.mirror_run.proofs.Verdicts.{same_slices, same_others, same_wrong, same_full, same_order}
+use Rattle.mirror_run.proofs.Verdicts.{same_slices, same_tally, same_extent, same_wrong, same_full, same_order}
 use Rattle.drawing_laws.specs.Laws.{SameButLayers, LayersAllowed, SameCandidates, SameSlices, SameOutcomes, OpeningReadsNoLayer, ReplyReadsNoLayer}
 use Rattle.drawing_laws.proofs.Box.{cut_reads_no_layer}
 use Rattle.drawing_laws.proofs.Words.{Alike, same_position, each_moved, record_alike, slice_alike, same_rules, appended_same}
@@ -91,14 +91,14 @@ module _ (by : ContainingBlockClaims) where
         unclaimed = appended_same (kept_alike false e) u u' f.unclaimed su;
       }
 
--- ---- two calls with the same styles and layouts
+-- ---- two calls with the same styles, layouts and tally
 
-module _ (styles layouts w w' u u' : List ℕ) (sw : SameButLayers w w') (su : SameButLayers u u') where
+module _ (styles layouts tally w w' u u' : List ℕ) (sw : SameButLayers w w') (su : SameButLayers u u') where
   abbrev l : Lent
-  l = lent styles layouts w u
+  l = lent styles layouts w u tally
 
   abbrev l' : Lent
-  l' = lent styles layouts w' u'
+  l' = lent styles layouts w' u' tally
 
   long : extents_of l ≡ extents_of l'
   long = rw (sw.long, su.long) refl
@@ -123,7 +123,7 @@ module _ (styles layouts w w' u u' : List ℕ) (sw : SameButLayers w w') (su : S
       same_opening : opening_verdict o cs l ≡ opening_verdict o cs' l'
       unfolding opening_verdict
       same_opening =
-          same_order BadArea BadExtent BadStyle BadCandidate ListFull refl (rw (same_slices l l' long, came.same.long) refl) refl same_candidates
+          same_order BadArea BadExtent BadStyle BadCandidate ListFull refl (rw (same_slices l l' long, same_tally l l' long, came.same.long) refl) refl same_candidates
           (same_full l l' long (claims_of o) none_filled cs cs' (kept_long (claims_of o)))
 
       begun_same : SameOutcomes (begun o cs l) (begun o cs' l')
@@ -135,6 +135,7 @@ module _ (styles layouts w w' u u' : List ℕ) (sw : SameButLayers w w') (su : S
             layouts = refl;
             working = lists.working;
             unclaimed = lists.unclaimed;
+            tally = refl;
           }
 
       pub opened_same : SameOutcomes (opened o cs l) (opened o cs' l')
@@ -143,7 +144,7 @@ module _ (styles layouts w w' u u' : List ℕ) (sw : SameButLayers w w') (su : S
         where
           go : (v : Verdict) → SameOutcomes (opened_by v o cs l) (opened_by v o cs' l')
           go (Ok tt) = begun_same
-          go (Err r) = record { step = rw long refl; layouts = refl; working = sw; unclaimed = su }
+          go (Err r) = record { step = rw long refl; layouts = refl; working = sw; unclaimed = su; tally = refl }
 
     -- ---- the box at hand, laid out
 
@@ -168,6 +169,7 @@ module _ (styles layouts w w' u u' : List ℕ) (sw : SameButLayers w w') (su : S
             layouts = written layouts (layout_width * node) (layout_words placed.layout);
             working = after.working;
             unclaimed = after.unclaimed;
+            tally = charged tally node;
           }
 
       laying_same : (node : ℕ) (placed : OofBoxLayout) → SameOutcomes (laying node placed cs l) (laying node placed cs' l')
@@ -178,6 +180,7 @@ module _ (styles layouts w w' u u' : List ℕ) (sw : SameButLayers w w') (su : S
             layouts = refl;
             working = lists.working;
             unclaimed = lists.unclaimed;
+            tally = refl;
           }
 
       laid_same : SameOutcomes (laid_out s overflow cs l) (laid_out s overflow cs' l')
@@ -196,15 +199,22 @@ module _ (styles layouts w w' u u' : List ℕ) (sw : SameButLayers w w') (su : S
     unfolding reply_verdict
     same_reply =
         same_order BadExtent WrongReply BadStyle BadCandidate ListFull
-        (rw (same_slices l l' long, same_others l l' long s.opened.extents, came.same.long) refl)
-        (rw (same_wrong l l' long s.counts) refl)
+        (rw (same_extent l l' long s.opened.extents, came.same.long) refl)
+        (rw (same_wrong l l' long s.counts refl) refl)
         refl
         (rw (same_rules styles w w' s.counts.filled.working sw allowed allowed', same_candidates (lent_by reply surfaced) (lent_by reply surfaced') came) refl)
         (same_full l l' long s.opened.claims s.counts.filled (lent_by reply surfaced) (lent_by reply surfaced') (kept_long (lent_by reply surfaced) (lent_by reply surfaced') came s.opened.claims))
 
     measured_same : (replies : Replies) → SameOutcomes (measured_on s replies l) (measured_on s replies l')
-    unfolding measured_on
-    measured_same replies = record { step = asking_same styles s.opened s.overflow w w' _ replies sw; layouts = refl; working = sw; unclaimed = su }
+    unfolding measured_on box_at_hand
+    measured_same replies =
+        record {
+          step = asking_same styles s.opened s.overflow w w' _ replies sw;
+          layouts = refl;
+          working = sw;
+          unclaimed = su;
+          tally = ap (λ (c : OofCandidate). charged tally c.node) (record_alike w w' sw (s.counts.begun - 1));
+        }
 
     pub replied_same : SameOutcomes (replied s reply surfaced l) (replied s reply surfaced' l')
     unfolding replied
@@ -213,7 +223,7 @@ module _ (styles layouts w w' u u' : List ℕ) (sw : SameButLayers w w') (su : S
         (go (reply_verdict s reply surfaced l) (taken_by s reply) refl)
       where
         refusing_same : (r : Refusal) → SameOutcomes (refusing s l r) (refusing s l' r)
-        refusing_same r = record { step = refl; layouts = refl; working = sw; unclaimed = su }
+        refusing_same r = record { step = refl; layouts = refl; working = sw; unclaimed = su; tally = refl }
 
         go : (v : Verdict) (t : Option Taken) → taken_by s reply ≡ t → SameOutcomes (replied_by v t s surfaced l) (replied_by v t s surfaced' l')
         go (Err r) t e = refusing_same r
@@ -224,17 +234,17 @@ module _ (styles layouts w w' u u' : List ℕ) (sw : SameButLayers w w') (su : S
 
 -- ---- any
 
--- slices with the other's styles and layouts
-with_same : {a b : Lent} → SameSlices a b → b ≡ lent a.styles a.layouts b.working b.unclaimed
-with_same same = rw (same.styles, same.layouts) refl
+-- slices with the other's styles, layouts and tally
+with_same : {a b : Lent} → SameSlices a b → b ≡ lent a.styles a.layouts b.working b.unclaimed a.tally
+with_same same = rw (same.styles, same.layouts, same.tally) refl
 
 pub opening_reads_no_layer : OpeningReadsNoLayer
 opening_reads_no_layer o candidates candidates' lent lent' came same =
     subst (λ (x : Lent). SameOutcomes (opened o candidates lent) (opened o candidates' x)) (sym (with_same same))
-    (opened_same lent.styles lent.layouts lent.working lent'.working lent.unclaimed lent'.unclaimed same.working same.unclaimed candidates candidates' came o)
+    (opened_same lent.styles lent.layouts lent.tally lent.working lent'.working lent.unclaimed lent'.unclaimed same.working same.unclaimed candidates candidates' came o)
 
 pub reply_reads_no_layer : ReplyReadsNoLayer
 reply_reads_no_layer s reply surfaced surfaced' lent lent' came same allowed allowed' =
     subst (λ (x : Lent). SameOutcomes (replied s reply surfaced lent) (replied s reply surfaced' x)) (sym (with_same same))
-    (replied_same lent.styles lent.layouts lent.working lent'.working lent.unclaimed lent'.unclaimed same.working same.unclaimed s reply surfaced surfaced' came
+    (replied_same lent.styles lent.layouts lent.tally lent.working lent'.working lent.unclaimed lent'.unclaimed same.working same.unclaimed s reply surfaced surfaced' came
     allowed allowed')

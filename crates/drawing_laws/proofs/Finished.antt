@@ -68,7 +68,7 @@ module _ (styles w : List ℕ) where
 
   module _ (x : Outcome) (g : Good x) where
     abbrev lent : Lent
-    lent = record { styles = styles; layouts = x.layouts; working = x.working; unclaimed = x.unclaimed }
+    lent = record { styles = styles; layouts = x.layouts; working = x.working; unclaimed = x.unclaimed; tally = x.tally }
 
     abbrev s : State
     s = x.step.state

@@ -135,7 +135,7 @@ none_came s (reply.LaidOut overflow) surfaced t = never_kept s overflow t
 
 module _ (by : ContainingBlockClaims) (styles : List ℕ) (x : Outcome) (came : List OofCandidate) (has : Has by x came) where
   abbrev lent : Lent
-  lent = record { styles = styles; layouts = x.layouts; working = x.working; unclaimed = x.unclaimed }
+  lent = record { styles = styles; layouts = x.layouts; working = x.working; unclaimed = x.unclaimed; tally = x.tally }
 
   abbrev s : State
   s = x.step.state
@@ -145,12 +145,12 @@ module _ (by : ContainingBlockClaims) (styles : List ℕ) (x : Outcome) (came : 
   measured_has replies = search rules
 
   -- after a sweep, whatever the step
-  swept_has : (shift : Option (Point Float)) (surfaced layouts : List ℕ) (counts : Counts) (step : Step) → list_full s.opened.claims lent s.counts.filled surfaced ≡ false
+  swept_has : (shift : Option (Point Float)) (surfaced layouts tally : List ℕ) (counts : Counts) (step : Step) → list_full s.opened.claims lent s.counts.filled surfaced ≡ false
       → let after = swept_by s.opened.claims shift surfaced lent s.counts.filled in
       counts.filled ≡ after.filled
       → Keeps s.opened counts step
-      → Has by (record { step = step; layouts = layouts; working = after.working; unclaimed = after.unclaimed }) (came ++ candidates_in surfaced)
-  swept_has shift surfaced layouts counts step full e k =
+      → Has by (record { step = step; layouts = layouts; working = after.working; unclaimed = after.unclaimed; tally = tally }) (came ++ candidates_in surfaced)
+  swept_has shift surfaced layouts tally counts step full e k =
       let after = swept_by s.opened.claims shift surfaced lent s.counts.filled in
       let l = swept_layers s.opened.claims shift surfaced lent s.counts.filled full in
       record {
@@ -173,7 +173,7 @@ module _ (by : ContainingBlockClaims) (styles : List ℕ) (x : Outcome) (came : 
   laid_has : (overflow : Rect Float) (surfaced : List ℕ) → list_full s.opened.claims lent s.counts.filled surfaced ≡ false
       → Has by (laid_out s overflow surfaced lent) (came ++ candidates_in surfaced)
   unfolding laid_out
-  laid_has overflow surfaced full = swept_has _ surfaced _ _ _ full refl (proceeding_keeps styles _ s.opened _ _)
+  laid_has overflow surfaced full = swept_has _ surfaced _ _ _ _ full refl (proceeding_keeps styles _ s.opened _ _)
 
   -- an accepted call on the run's own words
   accepted_has : (h : Heard) → refused_in (next styles x h) ≡ false → Has by (next styles x h) (came ++ candidates_in (lent_by h.reply h.surfaced))

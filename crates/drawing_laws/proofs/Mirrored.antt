@@ -39,4 +39,4 @@ mirrored_drawing o candidates lent lent' ms before area table quarter image same
     drawn_of before lent.styles (foldl (run_next lent.styles) (opened o candidates lent) ms)
     ≡ drawn_of before lent'.styles (foldl (image_next lent'.styles) (opened (image_opening o) (image_candidates o.area candidates) lent') ms))
     (sym e)
-    (drawn_alike before (both o candidates lent lent'.layouts lent'.working lent'.unclaimed ms area table quarter (same ∙ ap extents_of e) fair))
+    (drawn_alike before (both o candidates lent lent'.layouts lent'.working lent'.unclaimed lent'.tally ms area table quarter (same ∙ ap extents_of e) fair))

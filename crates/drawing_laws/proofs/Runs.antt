@@ -129,7 +129,7 @@ record Same (x x' : Outcome) : Type 0 where
   allowed' : FilledAllowed x'
 
 abbrev lent_of : List ℕ → Outcome → Lent
-lent_of styles x = record { styles = styles; layouts = x.layouts; working = x.working; unclaimed = x.unclaimed }
+lent_of styles x = record { styles = styles; layouts = x.layouts; working = x.working; unclaimed = x.unclaimed; tally = x.tally }
 
 module _ (styles : List ℕ) (x x' : Outcome) (same : Same x x') (h h' : Heard) (reply : h.reply ≡ h'.reply) (surfaced : SameCandidates (lent_by h.reply h.surfaced) (lent_by h'.reply h'.surfaced)) where
   state : x.step.state ≡ x'.step.state
@@ -150,18 +150,18 @@ module _ (styles : List ℕ) (x x' : Outcome) (same : Same x x') (h h' : Heard) 
       record {
         outcomes =
             given (lent_of styles x) (lent_of styles x')
-            (record { styles = refl; layouts = same.outcomes.layouts; working = same.outcomes.working; unclaimed = same.outcomes.unclaimed })
+            (record { styles = refl; layouts = same.outcomes.layouts; working = same.outcomes.working; unclaimed = same.outcomes.unclaimed; tally = same.outcomes.tally })
             same.allowed
             (subst (λ (s : State). LayersAllowed s.counts.filled.working x'.working) (sym state) same.allowed');
         allowed = replied_allowed x.step.state h.surfaced (lent_of styles x) same.allowed h.reply surfaced.allowed;
         allowed' = replied_allowed x'.step.state h'.surfaced (lent_of styles x') same.allowed' h'.reply surfaced.allowed';
       }
-  one_turn l l' (both_other {slices = slices} {slices' = slices'} lists candidates) lends =
+  one_turn l l' (both_other {lent = slices} {lent' = slices'} lists candidates) lends =
       let n = x.step.state.counts.filled.working in
       let steps = (given slices slices' lists (whole_list slices.working candidates.allowed n) (whole_list slices'.working candidates.allowed' n)).step in
       let kept : (next_with styles x h (other slices)).step.state ≡ x.step.state = ap (λ (o : Outcome). o.step.state) (turn_refused styles x (record { heard = h; loan = other slices }) lends) in
       record {
-        outcomes = record { step = steps; layouts = same.outcomes.layouts; working = same.outcomes.working; unclaimed = same.outcomes.unclaimed };
+        outcomes = record { step = steps; layouts = same.outcomes.layouts; working = same.outcomes.working; unclaimed = same.outcomes.unclaimed; tally = same.outcomes.tally };
         allowed = subst (λ (s : State). LayersAllowed s.counts.filled.working x.working) (sym kept) same.allowed;
         allowed' =
             subst (λ (s : State). LayersAllowed s.counts.filled.working x'.working) (sym state ∙ sym kept ∙ ap (λ (s : Step). s.state) steps) same.allowed';

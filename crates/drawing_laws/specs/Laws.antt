@@ -16,7 +16,7 @@ use Rattle.oof_box.specs.declared.question.Replies.{Replies}
 use Rattle.oof_box.specs.declared.question.Reply.{Reply}
 use Rattle.run.specs.declared.Opening.{Opening}
 use Rattle.run.specs.declared.State.{State}
-use Rattle.run.specs.Call.{Lent, Outcome, lent}
+use Rattle.run.specs.Call.{Lent, Outcome, slices}
 use Rattle.run.specs.Refusals.{accepted, lent_by}
 use Rattle.run.specs.Run.{claims_of, extents_of, opened, replied}
 use Rattle.run.specs.Theorems.{Heard, Loan, own, other, Turn, AllLend, called, heeded_in, claimed_so_far}
@@ -55,7 +55,7 @@ LayersOfARun =
 
 -- what a drawing call leaves, by the state and the words that the last call of a run left; `before` are the words of its slice as it came
 abbrev pub drawn_of : List ℕ → List ℕ → Outcome → Drawn
-drawn_of before styles has = drawn has.step.state (lent styles has.layouts has.working has.unclaimed) before
+drawn_of before styles has = drawn has.step.state (slices styles has.layouts has.working has.unclaimed) before
 
 -- lent a slice of one word a box, a drawing call is accepted, and its order is that of the layers of the claimed candidates, surfaced ones
 -- included, whatever the numbers of the run
@@ -105,19 +105,22 @@ pub record SameCandidates (ws ws' : List ℕ) : Type 0 where
   pub allowed : LayersAllowed (length ws / candidate_width) ws
   pub allowed' : LayersAllowed (length ws' / candidate_width) ws'
 
--- what two calls are lent: the same styles and layouts, and lists that differ in layers only
+-- what two calls are lent: the same styles, layouts and tally, and lists that differ in layers only
 pub record SameSlices (lent lent' : Lent) : Type 0 where
   pub styles : lent.styles ≡ lent'.styles
   pub layouts : lent.layouts ≡ lent'.layouts
   pub working : SameButLayers lent.working lent'.working
   pub unclaimed : SameButLayers lent.unclaimed lent'.unclaimed
+  pub tally : lent.tally ≡ lent'.tally
 
--- what two calls leave: the same answer and state, its counts among it, the same layouts, and lists that differ in layers only
+-- what two calls leave: the same answer and state, its counts among it, the same layouts and tally, and lists that differ in layers only
 pub record SameOutcomes (has has' : Outcome) : Type 0 where
   pub step : has.step ≡ has'.step
   pub layouts : has.layouts ≡ has'.layouts
   pub working : SameButLayers has.working has'.working
   pub unclaimed : SameButLayers has.unclaimed has'.unclaimed
+  -- request #107
+  pub tally : has.tally ≡ has'.tally
 
 -- refused or not. Of the lists an opening reads no word
 abbrev pub OpeningReadsNoLayer : Type 0
@@ -139,7 +142,7 @@ ReplyReadsNoLayer =
 -- alone, and how many they are stands in the state
 pub data SameLoan : Loan → Loan → Type 0 where
   both_own : SameLoan own own
-  both_other : {slices slices' : Lent} → SameSlices slices slices' → SameCandidates slices.working slices'.working → SameLoan (other slices) (other slices')
+  both_other : {lent lent' : Lent} → SameSlices lent lent' → SameCandidates lent.working lent'.working → SameLoan (other lent) (other lent')
 
 pub record SameTurn (t t' : Turn) : Type 0 where
   pub reply : t.heard.reply ≡ t'.heard.reply

@@ -33,19 +33,20 @@ pixels (suc n) = 1 ∷ 0 ∷ 0 ∷ pixels n
 abbrev table : List ℕ
 table = pixels lengths ++ replicate code_words 0
 
-abbrev slices : List ℕ → List ℕ → Lent
-slices working unclaimed = lent table (replicate 23 0) working unclaimed
+-- what is lent with these lists; its tally has one word
+abbrev lends : List ℕ → List ℕ → Lent
+lends working unclaimed = lent table (replicate 23 0) working unclaimed (0 ∷ [])
 
 -- three places in the working list and two in the unclaimed one
 abbrev empty : Lent
-empty = slices (replicate 42 0) (replicate 28 0)
+empty = lends (replicate 42 0) (replicate 28 0)
 
 abbrev opens : List ℕ → Outcome
 opens candidates = opened panel candidates empty
 
 -- a working list with two records filled and an unclaimed one with one; the first box is to be laid out
 abbrev held : Lent
-held = slices (candidate 2 9 ++ candidate 2 3 ++ replicate 14 0) (candidate 3 255 ++ replicate 14 0)
+held = lends (candidate 2 9 ++ candidate 2 3 ++ replicate 14 0) (candidate 3 255 ++ replicate 14 0)
 
 abbrev at_lay_out : State
 at_lay_out =

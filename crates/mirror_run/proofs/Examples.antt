@@ -1,11 +1,12 @@
 -- The theorem on a screen that is computed, and screens on which it fails, each for want of one thing that it asks. Assumes nothing.
 use Prim.Native.Nat.{ℕ, ◌+◌}
 use native.Mathlib.Omega.{arith}
-use mathlib.Core.Path.{◌≡◌, refl, sym, ap, subst, ◌∙◌}
+use mathlib.Core.Logic.{inr}
+use mathlib.Core.Path.{◌≡◌, refl, sym, ap, ◌∙◌}
 use mathlib.Core.Bool.{true, false}
 use mathlib.Core.List.{List, [], ◌∷◌}
 use lib.Ieee.{eq, of_bits}
-use Rattle.std.specs.Prelude.{Result}
+use Rattle.std.specs.Prelude.{sum, Result}
 use Rattle.util.specs.Number.{0f}
 use Rattle.util.proofs.Floats.{no}
 use Rattle.style.specs.declared.available_space.AvailableSpace.{AvailableSpace}
@@ -16,10 +17,12 @@ use Rattle.style_record.specs.Decode.{length_at}
 use Rattle.tree_record.specs.Candidate.{candidate_of, axis_of}
 use Rattle.sweep.specs.Sweep.{first_candidates, candidates_in, claimed, keep}
 use Rattle.oof_box.specs.declared.question.Reply.{Reply}
+use Rattle.oof_box.specs.declared.question.Stage.TheVariants as stage
 use Rattle.refusal.specs.declared.Refusal.{Refusal}
 use Rattle.run.specs.declared.Opening.{Opening}
 use Rattle.run.specs.declared.Answer.{Answer}
 use Rattle.run.specs.declared.State.{State}
+use Rattle.run.specs.Call.{Outcome}
 use Rattle.run.specs.Refusals.{lent_by}
 use Rattle.run.specs.Run.{opened}
 use Rattle.run.specs.Theorems.{own}
@@ -27,11 +30,11 @@ use Rattle.util_exact.specs.Value.{◌≐◌, Quarter, Quarters}
 use Rattle.mirror_box.specs.Mirrored.{SameSpace, definite, min_content, max_content, measure_both, measure_width, measure_height, lay_out}
 use Rattle.mirror_run.specs.Image.{listed, each_record}
 use Rattle.mirror_run.specs.Quarter.{AreaInQuarters, QuarterArea, QuarterTable, QuarterCandidates, QuarterReply}
-use Rattle.mirror_run.specs.Runs.{Message, is_unread, Alike, Fair, AllFair, SameAnswer, ask, finish, refused, MirroredRuns}
+use Rattle.mirror_run.specs.Runs.{Message, is_unread, LendsAbove, ForTally, Alike, Fair, AllFair, SameAnswer, ask, finish, refused, MirroredRuns}
 use Rattle.mirror_run.proofs.Decided.{quarter_decided, table_decided, candidates_decided}
 use Rattle.mirror_run.proofs.Unread.{accepted_read}
 use Rattle.mirror_run.proofs.Mirror.{mirror}
-use Rattle.mirror_run.proofs.Screens.{word, turn, nothing, panel, table, four, lent, lent', wrong_kind, surfaces_fixed, measured, laid_out, wrong_lengths, replies, after, image_after, ran, image_ran, unflipped, still, content, tenths, ahead, at_start, centered, up_to, narrow, small, wide, aside, far, surfacing, tenth, shorter, bad_table, number, definite_in, told, Differ, computed}
+use Rattle.mirror_run.proofs.Screens.{word, turn, nothing, panel, table, four, lent, lent', wrong_kind, miscounted, surfaces_fixed, measured, measured_again, laid_out, wrong_lengths, replies, after, image_after, ran, image_ran, unflipped, still, content, tenths, ahead, at_start, centered, up_to, narrow, small, wide, aside, far, surfacing, tenth, shorter, bad_table, above, unknown_claims, sevens, nines, kept, image_kept, number, definite_in, told, Differ, computed}
 
 nought : Quarter (word 0)
 unfolding of_bits
@@ -39,12 +42,15 @@ nought = quarter_decided (word 0) refl
 
 -- ---- one screen meets all that the theorem asks
 
--- of a reply that is refused with 2 or 6, no more is asked than kind, values and lengths
-unread_fair : {before : State} {a : Result Answer Refusal} (m : Message) → is_unread a ≡ true → Alike before.opened.extents m.turn m.image → Fair before a m
-unread_fair {before} {a} m u alike =
+-- of a reply that is refused with 2 or 6, no more is asked than kind, values and lengths, and a word above the count where it is refused for one
+unread_fair : {before : State} {a : Result Answer Refusal} (m : Message) → is_unread a ≡ true → Alike before.opened.extents m.turn m.image
+    → (ForTally before a m.turn → LendsAbove before.counts m.image.loan)
+    → Fair before a m
+unread_fair {before} {a} m u alike tally =
     record {
       alike = alike;
       words = λ e. no u e;
+      tally = tally;
       quarters = λ e. no u (accepted_read a e);
       surfaces_none = λ e. no u (accepted_read a e);
     }
@@ -57,6 +63,7 @@ own_fair reply surfaced surfaced' same quarters unclaimed =
     record {
       alike = record { reply = refl; surfaced = rw same refl; slices = refl };
       words = λ e. record { slices = refl; image_slices = refl; surfaced = same };
+      tally = λ w. w.above;
       quarters = λ e. quarters;
       surfaces_none = λ e. unclaimed;
     }
@@ -67,9 +74,18 @@ all_fair =
     let zeros : QuarterReply nothing = (nought, nought, nought, nought) in
     let brought = surfaces_fixed.turn.heard.surfaced in
     let width = quarter_decided (word 1101135872) refl in
-    let one = unread_fair wrong_kind computed.kind (record { reply = refl; surfaced = refl; slices = refl }) in
-    let five = unread_fair wrong_lengths computed.lengths (record { reply = refl; surfaced = refl; slices = refl }) in
-    (one, (own_fair nothing brought brought refl zeros computed.free, (own_fair measured.turn.heard.reply (1 ∷ []) (2 ∷ []) refl width refl, (own_fair nothing [] [] refl zeros refl, (five, (own_fair nothing [] [] refl zeros refl, tt))))))
+    let one = unread_fair wrong_kind computed.kind (record { reply = refl; surfaced = refl; slices = refl }) (λ w. absurd (w.asked (inr (stage.LayOut, computed.waiting, λ k. absurd cc)))) in
+    let two = unread_fair miscounted computed.count (record { reply = refl; surfaced = refl; slices = refl }) (λ w. (0, omega arith, rw computed.none_answered (omega arith))) in
+    let three = own_fair nothing brought brought refl zeros computed.free in
+    let fourth = own_fair measured.turn.heard.reply (1 ∷ []) (2 ∷ []) refl width refl in
+    let five = own_fair measured_again.turn.heard.reply [] [] refl (width, quarter_decided (word 1092616192) refl) refl in
+    let six = own_fair nothing [] [] refl zeros refl in
+    let seven = unread_fair wrong_lengths computed.lengths (record { reply = refl; surfaced = refl; slices = refl }) (λ w. absurd (two_not_six (sym computed.longer ∙ ap number w.wrong))) in
+    let eight = own_fair nothing [] [] refl zeros refl in
+    (one, (two, (three, (fourth, (five, (six, (seven, (eight, tt))))))))
+  where
+    two_not_six : ◌≡◌ {A = ℕ} 22 26 → ⊥
+    two_not_six e = omega (arith, e)
 
 quarter_panel : QuarterArea panel.area
 unfolding of_bits eq
@@ -80,7 +96,8 @@ quarter_panel =
     }
 
 -- so it is mirrored, at the end and on the way; one unclaimed record is the opening's
-met : (MirroredRuns panel.area 1 (after replies) (image_after replies)) × MirroredRuns panel.area 1 (after (wrong_kind ∷ surfaces_fixed ∷ [])) (image_after (wrong_kind ∷ surfaces_fixed ∷ []))
+met : (MirroredRuns panel.area (after []) (after replies) (image_after replies))
+    × MirroredRuns panel.area (after []) (after (wrong_kind ∷ miscounted ∷ surfaces_fixed ∷ [])) (image_after (wrong_kind ∷ miscounted ∷ surfaces_fixed ∷ []))
 unfolding of_bits every items length_at record_at candidate_of axis_of listed each_record
 met = (at_end, on_the_way)
   where
@@ -90,15 +107,13 @@ met = (at_end, on_the_way)
     quarter_four : QuarterCandidates four
     quarter_four = candidates_decided four refl
 
-    at_end : MirroredRuns panel.area 1 (after replies) (image_after replies)
-    at_end =
-        subst (λ (n : ℕ). MirroredRuns panel.area n (after replies) (image_after replies)) computed.at_opening
-        (mirror panel four lent lent' replies [] quarter_panel quarter_table quarter_four refl refl all_fair)
+    at_end : MirroredRuns panel.area (after []) (after replies) (image_after replies)
+    at_end = mirror panel four lent lent' replies [] quarter_panel quarter_table quarter_four refl refl all_fair
 
-    on_the_way : MirroredRuns panel.area 1 (after (wrong_kind ∷ surfaces_fixed ∷ [])) (image_after (wrong_kind ∷ surfaces_fixed ∷ []))
+    on_the_way : MirroredRuns panel.area (after []) (after (wrong_kind ∷ miscounted ∷ surfaces_fixed ∷ [])) (image_after (wrong_kind ∷ miscounted ∷ surfaces_fixed ∷ []))
     on_the_way =
-        subst (λ (n : ℕ). MirroredRuns panel.area n (after (wrong_kind ∷ surfaces_fixed ∷ [])) (image_after (wrong_kind ∷ surfaces_fixed ∷ []))) computed.at_opening
-        (mirror panel four lent lent' (wrong_kind ∷ surfaces_fixed ∷ []) (measured ∷ laid_out ∷ wrong_lengths ∷ laid_out ∷ []) quarter_panel quarter_table quarter_four refl refl all_fair)
+        mirror panel four lent lent' (wrong_kind ∷ miscounted ∷ surfaces_fixed ∷ []) (measured ∷ measured_again ∷ laid_out ∷ wrong_lengths ∷ laid_out ∷ []) quarter_panel quarter_table
+        quarter_four refl refl all_fair
 
 -- ---- what it asks is needed: each screen has all but one thing
 
@@ -119,10 +134,10 @@ same_told (finish r c) = r.left
 same_told refused = refl
 
 abbrev Fails : Opening → List ℕ → List ℕ → List Message → Type 0
-Fails o styles candidates messages = (n : ℕ) → MirroredRuns o.area n (ran o styles candidates messages) (image_ran o styles candidates messages) → ⊥
+Fails o styles candidates messages = (opening : Outcome) → MirroredRuns o.area opening (ran o styles candidates messages) (image_ran o styles candidates messages) → ⊥
 
 fails : {o : Opening} {styles candidates : List ℕ} {messages : List Message} {x x' : ℕ} → Differ o styles candidates messages x x' → Fails o styles candidates messages
-fails d n h = no (same_told h.answer) d.differ
+fails d opening h = no (same_told h.answer) d.differ
 
 quarter_still : QuarterTable still
 unfolding of_bits every items length_at
@@ -194,9 +209,9 @@ no_surfaced_needed = ((quarter_small, quarter_still, quarter_at_start), fails co
 -- edge in one only
 image_styles_needed :
     (QuarterArea wide.area × QuarterTable ahead × QuarterCandidates at_start)
-    × ((n : ℕ) → MirroredRuns wide.area n (ran wide ahead at_start (laid_out ∷ [])) (unflipped wide ahead at_start (laid_out ∷ [])) → ⊥)
+    × ((opening : Outcome) → MirroredRuns wide.area opening (ran wide ahead at_start (laid_out ∷ [])) (unflipped wide ahead at_start (laid_out ∷ [])) → ⊥)
 unfolding of_bits every items length_at
-image_styles_needed = ((quarter_wide, table_decided ahead refl, quarter_at_start), λ n h. no (same_told h.answer) computed.left_differs)
+image_styles_needed = ((quarter_wide, table_decided ahead refl, quarter_at_start), λ opening h. no (same_told h.answer) computed.left_differs)
 
 -- the same answers have the same number
 same_number : {a a' : Result Answer Refusal} → SameAnswer a a' → number a ≡ number a'
@@ -206,7 +221,7 @@ same_number refused = refl
 
 -- slices that are as long in both: the run finishes, and its image, which alone is lent others, is refused with 2
 same_lengths_needed : (QuarterArea small.area × QuarterTable still × QuarterCandidates at_start) × Fails small still at_start shorter
-same_lengths_needed = ((quarter_small, quarter_still, quarter_at_start), λ n h. eleven (sym computed.slices ∙ same_number h.answer ∙ computed.image_slices))
+same_lengths_needed = ((quarter_small, quarter_still, quarter_at_start), λ opening h. eleven (sym computed.slices ∙ same_number h.answer ∙ computed.image_slices))
   where
     eleven : ◌≡◌ {A = ℕ} 11 22 → ⊥
     eleven e = omega (arith, e)
@@ -214,7 +229,39 @@ same_lengths_needed = ((quarter_small, quarter_still, quarter_at_start), λ n h.
 -- the run's own words, but for a call that is refused with 2 or 6: the run, which alone is lent others, is refused with 3, and its image
 -- finishes
 own_words_needed : (QuarterArea small.area × QuarterTable still × QuarterCandidates at_start) × Fails small still at_start bad_table
-own_words_needed = ((quarter_small, quarter_still, quarter_at_start), λ n h. eleven (sym computed.table ∙ same_number h.answer ∙ computed.image_table))
+own_words_needed = ((quarter_small, quarter_still, quarter_at_start), λ opening h. eleven (sym computed.table ∙ same_number h.answer ∙ computed.image_table))
   where
     eleven : ◌≡◌ {A = ℕ} 23 11 → ⊥
     eleven e = omega (arith, e)
+
+-- a word above the count for both: the run, which alone is lent one, is refused with 6, and its image finishes. All else that is asked of the
+-- reply holds
+tally_needed :
+    (QuarterArea small.area × QuarterTable still × QuarterCandidates at_start)
+    × (let before = (ran small still at_start []).step.state in
+    let answer = (ran small still at_start (above ∷ [])).step.answer in
+    (ForTally before answer above.turn → LendsAbove before.counts above.image.loan) → Fair before answer above)
+    × Fails small still at_start (above ∷ [])
+tally_needed = (
+  (quarter_small, quarter_still, quarter_at_start),
+  unread_fair above computed.over_unread (record { reply = refl; surfaced = refl; slices = computed.as_long }),
+  λ opening h. eleven (sym computed.over ∙ same_number h.answer ∙ computed.image_over),
+)
+  where
+    eleven : ◌≡◌ {A = ℕ} 26 11 → ⊥
+    eleven e = omega (arith, e)
+
+-- an opening that isn't refused, for equal tallies: after one that is refused all else holds, but the run's word is still 7, and its image's 9
+accepted_needed :
+    (QuarterArea unknown_claims.area × QuarterTable still × QuarterCandidates at_start)
+    × MirroredRuns unknown_claims.area kept kept image_kept
+    × (kept.tally ≡ image_kept.tally → ⊥)
+unfolding listed each_record
+accepted_needed = (
+  (quarter_small, quarter_still, quarter_at_start),
+  mirror unknown_claims at_start sevens nines [] [] quarter_small quarter_still quarter_at_start refl refl tt,
+  λ e. seven (sym computed.refused_tally ∙ e ∙ computed.image_refused_tally),
+)
+  where
+    seven : ◌≡◌ {A = List ℕ} (7 ∷ []) (9 ∷ []) → ⊥
+    seven e = omega (arith, ap sum e)

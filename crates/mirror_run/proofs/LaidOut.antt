@@ -26,12 +26,12 @@ use Rattle.oof_box.specs.Cut.{layout_after}
 use Rattle.oof_box.specs.declared.question.Replies.{Replies}
 use Rattle.oof_place.specs.declared.OofBoxLayout.{OofBoxLayout}
 use Rattle.run.specs.declared.Counts.{Counts}
-use Rattle.run.specs.Run.{box_at_hand, proceeding, laid_out}
+use Rattle.run.specs.Run.{box_at_hand, proceeding, charged, laid_out}
 use Rattle.mirror_box.specs.Mirrored.{MirroredLayout}
 use Rattle.mirror_run.specs.Image.{image_styles}
 use Rattle.mirror_run.proofs.Lists.{first_each}
 use Rattle.mirror_run.proofs.ReadBack.{Read}
-use Rattle.mirror_run.proofs.Linked.{Frame, Shared, Own, state_of, slices_of, Ready, box_of, Lists, Laid}
+use Rattle.mirror_run.proofs.Linked.{Frame, Shared, Own, state_of, lent_of, Ready, box_of, Lists, Laid}
 use Rattle.mirror_run.proofs.Next.{opened_of, leaving}
 use Rattle.mirror_run.proofs.Surfaced.{none_kept, count}
 
@@ -43,7 +43,19 @@ placed_of styles p c replies overflow =
     let box = box_of p (c.begun - 1) in
     layout_after p.container (style_at styles box.node) box replies overflow
 
--- what a run has for itself after it, no box that it surfaces being claimed
+-- what a run has for itself after a size was replied
+abbrev pub counted : Counts → Own → Own
+counted c p =
+    record {
+      container = p.container;
+      overflow = p.overflow;
+      layouts = p.layouts;
+      working = p.working;
+      unclaimed = p.unclaimed;
+      tally = charged p.tally (box_of p (c.begun - 1)).node;
+    }
+
+-- and after its box was laid out, no box that it surfaces being claimed
 abbrev pub after : List ℕ → ContainingBlockClaims → Counts → List ℕ → OofBoxLayout → Own → Own
 after styles by c surfaced placed p =
     record {
@@ -52,6 +64,7 @@ after styles by c surfaced placed p =
       layouts = written p.layouts (layout_width * (box_of p (c.begun - 1)).node) (layout_words placed.layout);
       working = p.working;
       unclaimed = appended p.unclaimed c.filled.unclaimed (keep by false (map (moved (Some placed.layout.location)) (candidates_in surfaced)));
+      tally = charged p.tally (box_of p (c.begun - 1)).node;
     }
 
 abbrev pub counts_after : ContainingBlockClaims → Counts → List ℕ → Counts
@@ -60,7 +73,7 @@ counts_after by c surfaced =
 
 pub laid_as : (f : Frame) (styles : List ℕ) (s : Shared) (p : Own) (overflow : Rect Float) (surfaced : List ℕ) → keep s.claims true (candidates_in surfaced) ≡ []
     → let after = after styles s.claims s.counts surfaced (placed_of styles p s.counts s.replies overflow) p in
-    laid_out (state_of f s p) overflow surfaced (slices_of styles p)
+    laid_out (state_of f s p) overflow surfaced (lent_of styles p)
     ≡ leaving (proceeding styles p.working (opened_of f s.claims p) (counts_after s.claims s.counts surfaced) after.overflow) after
 unfolding laid_out box_at_hand list_words written
 laid_as f styles s p overflow surfaced e = search (rules, add-zero, kept_moved, none_kept)

@@ -1,10 +1,11 @@
 -- What a run and its image have in common between calls: all of the state but the block and the overflow, and their words as far as the
 -- boxes go. Assumes nothing.
-use Prim.Native.Nat.{ℕ, ◌<◌}
+use Prim.Native.Nat.{ℕ, ◌<◌, ◌≤◌}
 use mathlib.Core.Path.{◌≡◌, refl}
 use mathlib.Core.Bool.{false}
 use mathlib.Core.List.{List, map}
-use Rattle.std.specs.Prelude.{Option, Some, Result, Float}
+use lib.ListN.{length, get_or}
+use Rattle.std.specs.Prelude.{Option, Some, Result, is_err, Float}
 use Rattle.geometry.specs.declared.Rect.{Rect}
 use Rattle.style.specs.declared.ContainingBlockClaims.{ContainingBlockClaims}
 use Rattle.tree.specs.declared.layout.Layout.{Layout}
@@ -43,7 +44,7 @@ pub record Frame : Type 0 where
   pub container : ContainingBlock
   pub styles : List ℕ
   pub extents : Extents
-  pub at_opening : ℕ
+  pub opening : Outcome
 
 -- as demand 3 asks, of a table that passes refusal 3
 pub record QuarterFrame (f : Frame) : Type 0 where
@@ -64,6 +65,7 @@ pub record Own : Type 0 where
   pub layouts : List ℕ
   pub working : List ℕ
   pub unclaimed : List ℕ
+  pub tally : List ℕ
 
 abbrev pub state_of : Frame → Shared → Own → State
 state_of f s p =
@@ -77,10 +79,10 @@ state_of f s p =
 
 abbrev pub outcome_of : Frame → Shared → Own → Result Answer Refusal → Outcome
 outcome_of f s p a =
-    record { step = record { state = state_of f s p; answer = a }; layouts = p.layouts; working = p.working; unclaimed = p.unclaimed }
+    record { step = record { state = state_of f s p; answer = a }; layouts = p.layouts; working = p.working; unclaimed = p.unclaimed; tally = p.tally }
 
-abbrev pub slices_of : List ℕ → Own → Lent
-slices_of styles p = record { styles = styles; layouts = p.layouts; working = p.working; unclaimed = p.unclaimed }
+abbrev pub lent_of : List ℕ → Own → Lent
+lent_of styles p = record { styles = styles; layouts = p.layouts; working = p.working; unclaimed = p.unclaimed; tally = p.tally }
 
 -- a claimed candidate, its image, its item and its layer
 pub record Ready (area : OofPositioningArea) (n : ℕ) (c c' : OofCandidate) : Type 0 where
@@ -95,22 +97,31 @@ box_of p i = candidate_of (record_at candidate_width p.working i)
 abbrev pub layout_at : Own → ℕ → Layout
 layout_at p node = layout_of (record_at layout_width p.layouts node)
 
--- the lists
+-- whether the opening was accepted
+abbrev pub Accepted : Frame → Type 0
+Accepted f = is_err f.opening.step.answer ≡ false
+
+-- the lists, and the tallies
 pub record Lists (f : Frame) (filled : Filled) (p p' : Own) : Type 0 where
-  pub lengths : extents_of (slices_of f.styles p) ≡ f.extents
-  pub lengths' : extents_of (slices_of (image_styles f.styles) p') ≡ f.extents
+  pub lengths : extents_of (lent_of f.styles p) ≡ f.extents
+  pub lengths' : extents_of (lent_of (image_styles f.styles) p') ≡ f.extents
   pub claimed : Each (Ready f.container.area (items f.styles)) (first_candidates filled.working p.working) (first_candidates filled.working p'.working)
   pub good : bad_candidate f.styles p.working filled.working ≡ false
   pub good' : bad_candidate (image_styles f.styles) p'.working filled.working ≡ false
-  pub unclaimed : Unclaimed f.container.area f.at_opening (first_candidates filled.unclaimed p.unclaimed) (first_candidates filled.unclaimed p'.unclaimed)
+  pub unclaimed : Unclaimed f.container.area f.opening.step.state.counts.filled.unclaimed (first_candidates filled.unclaimed p.unclaimed) (first_candidates filled.unclaimed p'.unclaimed)
+  pub tally : Accepted f → p.tally ≡ p'.tally
+
+-- no word of a tally is above n
+abbrev pub Within : ℕ → List ℕ → Type 0
+Within n tally = (i : ℕ) → i < length tally → get_or tally i 0 ≤ n
 
 -- the boxes laid out
 abbrev pub Laid : Frame → ℕ → Own → Own → Type 0
 Laid f n p p' = (i : ℕ) → i < n → MirroredLayout f.container.area (layout_at p (box_of p i).node) (layout_at p' (box_of p' i).node)
 
--- while a question is open, each has its block: so it isn't after a refused opening
+-- while a question is open, each has its block, and the opening was accepted
 abbrev pub Blocks : Frame → Own → Own → Type 0
-Blocks f p p' = (p.container ≡ f.container) × (p'.container ≡ image_container f.container)
+Blocks f p p' = (p.container ≡ f.container) × (p'.container ≡ image_container f.container) × Accepted f
 
 pub record Links (f : Frame) (s : Shared) (p p' : Own) : Type 0 where
   pub lists : Lists f s.counts.filled p p'
@@ -118,6 +129,7 @@ pub record Links (f : Frame) (s : Shared) (p p' : Own) : Type 0 where
   pub overflow : SameRect p.overflow p'.overflow
   pub replies : QuarterReplies s.replies
   pub blocks : (stage : Stage) → s.progress ≡ Some stage → Blocks f p p'
+  pub within : Accepted f → Within s.counts.answered p.tally
 
 pub data Linked (f : Frame) : Outcome → Outcome → Type 0 where
   linked :
@@ -133,7 +145,7 @@ same_nodes : {area : OofPositioningArea} {n : ℕ} {cs cs' : List OofCandidate} 
 same_nodes none = refl
 same_nodes (one {cs = cs} {cs' = cs'} r e) = rw (r.image.node, same_nodes e) refl
 
-pub mirrored : {f : Frame} {o o' : Outcome} → Linked f o o' → MirroredRuns f.container.area f.at_opening o o'
+pub mirrored : {f : Frame} {o o' : Outcome} → Linked f o o' → MirroredRuns f.container.area f.opening o o'
 mirrored (linked s p p' h a) =
     record {
       answer = a;
@@ -145,4 +157,5 @@ mirrored (linked s p p' h a) =
       unclaimed = h.lists.unclaimed;
       laid = refl;
       boxes = h.laid;
+      tally = h.lists.tally;
     }

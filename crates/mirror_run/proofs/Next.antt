@@ -25,7 +25,7 @@ use Rattle.mirror_box.specs.Mirrored.{SameAsked, SameRect}
 use Rattle.mirror_run.specs.Image.{image_styles}
 use Rattle.mirror_run.specs.Runs.{ask, finish}
 use Rattle.mirror_run.proofs.Lists.{first_each}
-use Rattle.mirror_run.proofs.Linked.{Frame, QuarterFrame, Shared, Own, outcome_of, Ready, box_of, Lists, Laid, Blocks, Linked, linked}
+use Rattle.mirror_run.proofs.Linked.{Frame, QuarterFrame, Shared, Own, outcome_of, Ready, box_of, Accepted, Lists, Within, Laid, Blocks, Linked, linked}
 use Rattle.mirror_run.proofs.Box.{asked_same}
 
 abbrev pub opened_of : Frame → ContainingBlockClaims → Own → Opened
@@ -33,7 +33,7 @@ opened_of f by p = record { container = p.container; claims = by; extents = f.ex
 
 -- a step, and the words that it leaves
 abbrev pub leaving : Step → Own → Outcome
-leaving step p = record { step = step; layouts = p.layouts; working = p.working; unclaimed = p.unclaimed }
+leaving step p = record { step = step; layouts = p.layouts; working = p.working; unclaimed = p.unclaimed; tally = p.tally }
 
 module _ (f : Frame) (q : QuarterFrame f) (style : bad_style f.styles ≡ false) (by : ContainingBlockClaims) (p p' : Own) (blocks : Blocks f p p') (overflow : SameRect p.overflow p'.overflow) where
   -- a box of the working list, and its image
@@ -42,12 +42,12 @@ module _ (f : Frame) (q : QuarterFrame f) (style : bad_style f.styles ≡ false)
   ready_at c lists h l = first_each c.filled.working p.working p'.working lists.claimed (c.begun - 1) (omega arith)
 
   -- both ask
-  pub asks_linked : (c : Counts) (replies : Replies) → Lists f c.filled p p' → Laid f (c.begun - 1) p p' → QuarterReplies replies → 0 < c.begun
-      → c.begun ≤ c.filled.working
+  pub asks_linked : (c : Counts) (replies : Replies) → Lists f c.filled p p' → Laid f (c.begun - 1) p p' → (Accepted f → Within c.answered p.tally) → QuarterReplies replies
+      → 0 < c.begun → c.begun ≤ c.filled.working
       → Linked f (leaving (asking f.styles p.working (opened_of f by p) c p.overflow replies) p)
       (leaving (asking (image_styles f.styles) p'.working (opened_of f by p') c p'.overflow replies) p')
   unfolding asking box_at_hand
-  asks_linked c replies lists laid given h l =
+  asks_linked c replies lists laid within given h l =
       let b = box_of p (c.begun - 1) in
       let b' = box_of p' (c.begun - 1) in
       at (asked_after p.container (style_at f.styles b.node) b replies) (asked_after p'.container (style_at (image_styles f.styles) b'.node) b' replies)
@@ -59,14 +59,14 @@ module _ (f : Frame) (q : QuarterFrame f) (style : bad_style f.styles ≡ false)
       at : (a a' : Asked) → SameAsked a a' → Linked f (outcome_of f (shared a.stage) p (Ok (Ask a.question))) (outcome_of f (shared a'.stage) p' (Ok (Ask a'.question)))
       at a a' e =
           subst (λ (stage : Stage). Linked f (outcome_of f (shared a.stage) p (Ok (Ask a.question))) (outcome_of f (shared stage) p' (Ok (Ask a'.question)))) e.stage
-          (linked (shared a.stage) p p' (record { lists = lists; laid = laid; overflow = overflow; replies = given; blocks = λ stage s. blocks }) (ask e.question))
+          (linked (shared a.stage) p p' (record { lists = lists; laid = laid; overflow = overflow; replies = given; blocks = λ stage s. blocks; within = within }) (ask e.question))
 
   -- both go on to the next box, or both finish
-  pub proceeds_linked : (c : Counts) → Lists f c.filled p p' → Laid f c.begun p p'
+  pub proceeds_linked : (c : Counts) → Lists f c.filled p p' → Laid f c.begun p p' → (Accepted f → Within c.answered p.tally)
       → Linked f (leaving (proceeding f.styles p.working (opened_of f by p) c p.overflow) p)
       (leaving (proceeding (image_styles f.styles) p'.working (opened_of f by p') c p'.overflow) p')
   unfolding proceeding finishing
-  proceeds_linked c lists laid = go (ltb c.begun c.filled.working) refl
+  proceeds_linked c lists laid within = go (ltb c.begun c.filled.working) refl
     where
       more : Counts
       more = record { filled = c.filled; begun = c.begun + 1; answered = c.answered }
@@ -77,8 +77,8 @@ module _ (f : Frame) (q : QuarterFrame f) (style : bad_style f.styles ≡ false)
           (leaving (cond b (asking (image_styles f.styles) p'.working (opened_of f by p') more p'.overflow no_replies) (finishing (opened_of f by p') c p'.overflow)) p')
       go true e =
           let l = ltb-true c.begun c.filled.working e in
-          asks_linked more no_replies lists (λ i h. laid i (omega arith)) (record { keyword = tt; fill = tt }) (omega arith) (omega arith)
+          asks_linked more no_replies lists (λ i h. laid i (omega arith)) within (record { keyword = tt; fill = tt }) (omega arith) (omega arith)
       go false e =
           linked (record { progress = None; replies = no_replies; counts = c; claims = by }) p p'
-          (record { lists = lists; laid = laid; overflow = overflow; replies = record { keyword = tt; fill = tt }; blocks = λ stage s. blocks })
+          (record { lists = lists; laid = laid; overflow = overflow; replies = record { keyword = tt; fill = tt }; blocks = λ stage s. blocks; within = within })
           (finish overflow refl)

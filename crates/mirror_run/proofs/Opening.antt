@@ -6,9 +6,11 @@ use mathlib.Core.Path.{◌≡◌, refl, sym, ap, ◌∙◌, subst}
 use mathlib.Core.Bool.{Bool, true, false, not}
 use mathlib.Core.List.{List, []}
 use lib.Dec.{lit<}
-use lib.ListN.{length, get_or}
+use lib.ListN.{length, get_or, replicate}
 use borrow.Author.Tests.{ltb-false, le-leb}
-use Rattle.std.specs.Prelude.{Ok, Err, None, Float}
+use Rattle.std.proofs.lemmas.List.{length-replicate, get_or-replicate}
+use Rattle.util.proofs.Floats.{no}
+use Rattle.std.specs.Prelude.{Ok, Err, None, is_err, Float}
 use Rattle.geometry.specs.Geometry.{zero_rect, zero_size, zero_point}
 use Rattle.geometry.specs.declared.Rect.{Rect}
 use Rattle.refusal.specs.declared.Refusal.{Refusal}
@@ -35,18 +37,19 @@ use Rattle.run.specs.Refusals.{Verdict, accepted, refused, bad_area, bad_style, 
 use Rattle.run.specs.Run.{claims_of, container_of, extents_of, asking, finishing, proceeding, opening_verdict, closed, begun, opened_by, opened}
 use Rattle.std.proofs.lemmas.Bool.{or_parts}
 use Rattle.run.proofs.Ways.{NextWay, asks, ends, next_way}
+use Rattle.run.proofs.Refusals.{begun_accepts}
 use Rattle.mirror_box.proofs.Contribution.{zero_rect_lem}
 use Rattle.mirror_box.specs.Image as box
 use Rattle.mirror_box.specs.Quarter.{QuarterContainer, QuarterStyle}
 use Rattle.mirror_run.specs.Image.{image_opening, image_styles, image_candidates}
 use Rattle.mirror_run.specs.Quarter.{QuarterArea, QuarterItem, QuarterTable, QuarterCandidates}
 use Rattle.mirror_run.specs.Runs as runs
-use Rattle.mirror_run.specs.Runs.{Each, none, Unclaimed, surfaced, unclaimed_at_opening}
+use Rattle.mirror_run.specs.Runs.{Each, none, Unclaimed, surfaced}
 use Rattle.mirror_run.proofs.Styles.{direction_decoded, items_kept, no_ratio}
 use Rattle.mirror_run.proofs.Lists.{nobody, each_length, each_at, each_kept}
 use Rattle.mirror_run.proofs.Verdicts.{OpeningPassed, opening_passed, same_opening}
 use Rattle.mirror_run.proofs.Claimed.{same_positions, all_ready, slice_back, front_good, opened_images}
-use Rattle.mirror_run.proofs.Linked.{Frame, QuarterFrame, Shared, Own, outcome_of, Ready, Lists, Linked, linked, both_are}
+use Rattle.mirror_run.proofs.Linked.{Frame, QuarterFrame, Shared, Own, outcome_of, Ready, Accepted, Lists, Linked, linked, both_are}
 use Rattle.mirror_run.proofs.Next.{opened_of, leaving, proceeds_linked}
 
 -- ---- what demand 3 asks, as the law of one box asks it
@@ -91,15 +94,21 @@ held_at_opening : (o : Opening) (candidates : List ℕ) (lent : Lent) → held (
 unfolding begun
 held_at_opening o candidates lent = same_filled lent.styles _ _ _ zero_rect ∙ zero-add _
 
+cleared : (n i : ℕ) → i < length {A = ℕ} (replicate n 0) → get_or {A = ℕ} (replicate n 0) i 0 ≤ 0
+cleared n i h =
+    let there : i < n = rw (sym (length-replicate {A = ℕ} n 0)) h in
+    let e = get_or-replicate {A = ℕ} n i 0 0 there in
+    omega (arith, e)
+
 -- ---- both are opened
 
-module _ (o : Opening) (candidates : List ℕ) (lent : Lent) (layouts working unclaimed : List ℕ) where
+module _ (o : Opening) (candidates : List ℕ) (lent : Lent) (layouts working unclaimed tally : List ℕ) where
   abbrev pub frame : Frame
-  frame = record { container = container_of o; styles = lent.styles; extents = extents_of lent; at_opening = unclaimed_at_opening o candidates lent }
+  frame = record { container = container_of o; styles = lent.styles; extents = extents_of lent; opening = opened o candidates lent }
 
   -- the image's slices
   abbrev pub image_lent : Lent
-  image_lent = record { styles = image_styles lent.styles; layouts = layouts; working = working; unclaimed = unclaimed }
+  image_lent = record { styles = image_styles lent.styles; layouts = layouts; working = working; unclaimed = unclaimed; tally = tally }
 
   abbrev image : List ℕ
   image = image_candidates o.area candidates
@@ -120,7 +129,7 @@ module _ (o : Opening) (candidates : List ℕ) (lent : Lent) (layouts working un
     over = record { progress = None; replies = no_replies; counts = record { filled = record { working = 0; unclaimed = 0 }; begun = 0; answered = 0 }; claims = record { absolute = false; fixed = false } }
 
     abbrev untouched : Lent → Own
-    untouched lent = record { container = nobodys; overflow = zero_rect; layouts = lent.layouts; working = lent.working; unclaimed = lent.unclaimed }
+    untouched lent = record { container = nobodys; overflow = zero_rect; layouts = lent.layouts; working = lent.working; unclaimed = lent.unclaimed; tally = lent.tally }
 
     no_records : (styles w : List ℕ) → bad_candidate styles w 0 ≡ false
     unfolding bad_candidate good_records every
@@ -128,7 +137,7 @@ module _ (o : Opening) (candidates : List ℕ) (lent : Lent) (layouts working un
 
     closed_as : (r : Refusal) → unwritten image_lent (record { state = closed image_lent; answer = Err r }) ≡ outcome_of frame over (untouched image_lent) (Err r)
     unfolding closed nobodys
-    closed_as r = ap (λ (e : Extents). outcome_of (record { container = container_of o; styles = lent.styles; extents = e; at_opening = unclaimed_at_opening o candidates lent }) over (untouched image_lent) (Err r)) (sym same)
+    closed_as r = ap (λ (e : Extents). outcome_of (record { container = container_of o; styles = lent.styles; extents = e; opening = opened o candidates lent }) over (untouched image_lent) (Err r)) (sym same)
 
     turned_down : (r : Refusal) → opening_verdict o candidates lent ≡ refused r
         → Linked frame (unwritten lent (record { state = closed lent; answer = Err r })) (unwritten image_lent (record { state = closed image_lent; answer = Err r }))
@@ -145,11 +154,13 @@ module _ (o : Opening) (candidates : List ℕ) (lent : Lent) (layouts working un
                 good = no_records lent.styles lent.working;
                 good' = no_records (image_styles lent.styles) working;
                 unclaimed = subst (λ (n : ℕ). Unclaimed o.area n [] []) (sym (ap held (opened_as o candidates lent d))) (surfaced none);
+                tally = λ e. no (ap (λ (x : Outcome). is_err x.step.answer) (opened_as o candidates lent d)) e;
               };
           laid = λ i h. absurd (omega arith);
           overflow = zero_rect_lem;
           replies = record { keyword = tt; fill = tt };
           blocks = λ stage e. absurd (let z : ◌≡◌ {A = ℕ} 0 1 = cc in omega arith);
+          within = λ e. no (ap (λ (x : Outcome). is_err x.step.answer) (opened_as o candidates lent d)) e;
         })
         runs.refused)
 
@@ -167,11 +178,11 @@ module _ (o : Opening) (candidates : List ℕ) (lent : Lent) (layouts working un
 
     -- what each run has for itself
     abbrev first : Own
-    first = record { container = container_of o; overflow = zero_rect; layouts = lent.layouts; working = appended lent.working 0 (in_list true); unclaimed = appended lent.unclaimed 0 (in_list false) }
+    first = record { container = container_of o; overflow = zero_rect; layouts = lent.layouts; working = appended lent.working 0 (in_list true); unclaimed = appended lent.unclaimed 0 (in_list false); tally = replicate (length lent.tally) 0 }
 
     abbrev second : Own
     second =
-        record { container = container_of (image_opening o); overflow = zero_rect; layouts = layouts; working = appended working 0 (in_image true); unclaimed = appended unclaimed 0 (in_image false) }
+        record { container = container_of (image_opening o); overflow = zero_rect; layouts = layouts; working = appended working 0 (in_image true); unclaimed = appended unclaimed 0 (in_image false); tally = replicate (length tally) 0 }
 
     abbrev counts : Counts
     counts = record { filled = record { working = length (in_list true); unclaimed = length (in_list false) }; begun = 0; answered = 0 }
@@ -227,8 +238,8 @@ module _ (o : Opening) (candidates : List ℕ) (lent : Lent) (layouts working un
         unfolding bad_candidate
         lists =
             record {
-              lengths = rw (appended_length lent.working 0 (in_list true), appended_length lent.unclaimed 0 (in_list false)) refl;
-              lengths' = rw (appended_length working 0 (in_image true), appended_length unclaimed 0 (in_image false)) (sym same);
+              lengths = rw (appended_length lent.working 0 (in_list true), appended_length lent.unclaimed 0 (in_list false), length-replicate {A = ℕ} (length lent.tally) 0) refl;
+              lengths' = rw (appended_length working 0 (in_image true), appended_length unclaimed 0 (in_image false), length-replicate {A = ℕ} (length tally) 0) (sym same);
               claimed = rw (slice_back by candidates lent.working true passed.room.0, image_back true working passed'.room.0) (ready true);
               good = ap not (front_good lent.working (in_list true) passed.room.0 (items lent.styles) claimed_there);
               good' =
@@ -236,13 +247,17 @@ module _ (o : Opening) (candidates : List ℕ) (lent : Lent) (layouts working un
                   (ap not (front_good working (in_image true) passed'.room.0 (items lent.styles) image_there));
               unclaimed = rw (slice_back by candidates lent.unclaimed false passed.room.1, image_back false unclaimed passed'.room.1)
                   (subst (λ (n : ℕ). Unclaimed o.area n (in_list false) (in_image false)) (sym (ap held (opened_as o candidates lent d) ∙ held_at_opening o candidates lent)) (opened_images (ready false)));
+              tally = λ e. ap (λ (x : Extents). replicate x.tally 0) same;
             }
+
+        took : Accepted frame
+        took = ap (λ (x : Outcome). is_err x.step.answer) (opened_as o candidates lent d) ∙ begun_accepts o candidates lent
 
         begins : Linked frame (begun o candidates lent) (begun (image_opening o) image image_lent)
         begins =
             subst (λ (x : Outcome). Linked frame x (begun (image_opening o) image image_lent)) (sym begun_first)
             (subst (Linked frame _) (sym begun_as)
-            (proceeds_linked frame quarter_frame passed.style by first second (refl, image_block) zero_rect_lem counts lists (λ i h. absurd (omega arith))))
+            (proceeds_linked frame quarter_frame passed.style by first second (refl, image_block, took) zero_rect_lem counts lists (λ i h. absurd (omega arith)) (λ e i h. cleared (length lent.tally) i h)))
 
       pub opened_linked : Linked frame (opened o candidates lent) (opened (image_opening o) image image_lent)
       opened_linked = go (opening_verdict o candidates lent) refl

@@ -5,7 +5,7 @@ use mathlib.Core.Bool.{true, false}
 use mathlib.Core.List.{List, [], ◌∷◌, ◌++◌, foldl, map}
 use lib.ListN.{replicate}
 use lib.Ieee.{Float, add, sub, mul, div, neg, lt, le, eq, is_nan, sum, round, units, odd, size, span, climb, of_bits, to_bits, of_fields, nan_bits, binary32}
-use Rattle.std.specs.Prelude.{Result, Ok, Err}
+use Rattle.std.specs.Prelude.{Some, Result, Ok, Err}
 use Rattle.util.specs.Order as util-order
 use Rattle.util.specs.Maybe as util-maybe
 use Rattle.geometry.specs.Geometry as geometry-geometry
@@ -44,15 +44,16 @@ use Rattle.tree.specs.declared.layout.OofCandidate.{OofCandidate}
 use Rattle.oof_box.specs.declared.question.Question.{Question}
 use Rattle.oof_box.specs.declared.question.Question.TheVariants.{MeasureBoth, MeasureWidth, MeasureHeight, LayOut}
 use Rattle.oof_box.specs.declared.question.Reply.{Reply}
-use Rattle.oof_box.specs.declared.question.Reply.TheVariants.{Width, LaidOut}
+use Rattle.oof_box.specs.declared.question.Reply.TheVariants.{Both, Width, LaidOut}
+use Rattle.oof_box.specs.declared.question.Stage.TheVariants as stage
 use Rattle.run.specs.declared.Opening.{Opening}
 use Rattle.run.specs.declared.Answer.{Answer}
 use Rattle.run.specs.declared.Answer.TheVariants.{Ask, Finish}
 use Rattle.run.specs.Call.{Lent, Outcome}
-use Rattle.run.specs.Run.{opened}
+use Rattle.run.specs.Run.{opened, extents_of}
 use Rattle.run.specs.Theorems.{Loan, own, other, Turn, laid_so_far, claimed_so_far}
 use Rattle.mirror_run.specs.Image.{image_opening, image_styles, image_candidates, other_direction, other_edge, counterpart, image_style, reflected_word, image_candidate, listed, each_record}
-use Rattle.mirror_run.specs.Runs.{Message, run_next, image_next, is_unread, surfaced_in, unclaimed_so_far, layout_of_box, unclaimed_at_opening}
+use Rattle.mirror_run.specs.Runs.{Message, run_next, image_next, is_unread, surfaced_in, unclaimed_so_far, layout_of_box}
 
 -- ---- words
 
@@ -108,7 +109,7 @@ screen width height x =
       overflowy = 0;
     }
 
--- layouts and lists of so many records, whose words are all one word
+-- layouts and lists of so many records, and a tally of as many words as layouts: all of them one word
 abbrev lent_with : List ℕ → ℕ → ℕ → ℕ → ℕ → Lent
 lent_with styles filler layouts working unclaimed =
     record {
@@ -116,6 +117,7 @@ lent_with styles filler layouts working unclaimed =
       layouts = replicate (layout_width * layouts) filler;
       working = replicate (candidate_width * working) filler;
       unclaimed = replicate (candidate_width * unclaimed) filler;
+      tally = replicate layouts filler;
     }
 
 abbrev pub turn : Reply → List ℕ → Loan → Turn
@@ -128,8 +130,8 @@ to_both reply surfaced = record { turn = turn reply surfaced own; image = turn r
 abbrev pub nothing : Reply
 nothing = LaidOut (record { left = word 0; right = word 0; top = word 0; bottom = word 0 })
 
--- ---- a screen of 100 by 50 at 8: a box with auto margins, a safe one centered at 30 that is as wide as its content, and the first again;
--- at 30 a fixed one, which nobody claims. They are on layers 9, 0, 3 and 255
+-- ---- a screen of 100 by 50 at 8: a box with auto margins, a safe one centered at 30, as wide as its content and of auto height, and the first
+-- again; at 30 a fixed one, which nobody claims. They are on layers 9, 0, 3 and 255
 
 abbrev pub panel : Opening
 panel = screen 1120403456 1112014848 1090519040
@@ -137,7 +139,7 @@ panel = screen 1120403456 1112014848 1090519040
 abbrev pub table : List ℕ
 table =
     style (sides (px 1092616192) (px 1101004800)) (auto ++ auto ++ px 0 ++ px 0) (sides (px 1067450368) (px 0)) (sides (px 0) (px 1073741824)) (px 1106247680 ++ px 1092616192)
-    ++ plain no_insets (as_content ++ px 1092616192)
+    ++ plain no_insets (as_content ++ auto)
 
 abbrev pub four : List ℕ
 four = on_layer 9 2 0 0 0 0 ++ on_layer 255 3 1 1106247680 0 0 ++ candidate 2 1 1106247680 1 2 ++ on_layer 3 2 0 0 0 0
@@ -149,13 +151,17 @@ lent = lent_with table 0 2 3 2
 abbrev pub lent' : Lent
 lent' = lent_with (image_styles table) 7 2 3 2
 
+-- slices as long, whose words are all one word
+abbrev pub all_of : ℕ → Lent
+all_of filler = lent_with (replicate (style_words * 2) filler) filler 2 3 2
+
 -- a width of NaN for a box that is to be laid out: refused, so that any words may be lent
 abbrev pub wrong_kind : Message
-wrong_kind =
-    record {
-      turn = turn (Width (word 2143289344)) (1 ∷ []) (other (lent_with (replicate (style_words * 2) 1) 1 2 3 2));
-      image = turn (Width (word 2143289344)) (2 ∷ []) (other (lent_with (replicate (style_words * 2) 2) 2 2 3 2));
-    }
+wrong_kind = record { turn = turn (Width (word 2143289344)) (1 ∷ []) (other (all_of 1)); image = turn (Width (word 2143289344)) (2 ∷ []) (other (all_of 0)) }
+
+-- it is laid out, but both are lent a tally with words above the count, which is 0: refused, so that all other words may be any
+abbrev pub miscounted : Message
+miscounted = record { turn = turn nothing [] (other (all_of 1)); image = turn nothing [] (other (all_of 2)) }
 
 -- the first box is laid out, and surfaces a fixed one at 0, on layer 4
 abbrev pub surfaces_fixed : Message
@@ -165,6 +171,10 @@ surfaces_fixed = to_both nothing (on_layer 4 3 1 0 0 0)
 abbrev pub measured : Message
 measured = record { turn = turn (Width (word 1101135872)) (1 ∷ []) own; image = turn (Width (word 1101135872)) (2 ∷ []) own }
 
+-- and then, of its known width, as 10 high
+abbrev pub measured_again : Message
+measured_again = to_both (Both (record { width = word 1101135872; height = word 1092616192 })) []
+
 abbrev pub laid_out : Message
 laid_out = to_both nothing []
 
@@ -173,7 +183,7 @@ abbrev pub wrong_lengths : Message
 wrong_lengths = record { turn = turn nothing [] (other (lent_with [] 1 0 1 0)); image = turn nothing [] (other (lent_with [] 2 0 1 0)) }
 
 abbrev pub replies : List Message
-replies = wrong_kind ∷ surfaces_fixed ∷ measured ∷ laid_out ∷ wrong_lengths ∷ laid_out ∷ []
+replies = wrong_kind ∷ miscounted ∷ surfaces_fixed ∷ measured ∷ measured_again ∷ laid_out ∷ wrong_lengths ∷ laid_out ∷ []
 
 abbrev pub after : List Message → Outcome
 after messages = foldl (run_next table) (opened panel four lent) messages
@@ -274,6 +284,29 @@ shorter = record { turn = turn nothing [] own; image = turn nothing [] (other (l
 abbrev pub bad_table : List Message
 bad_table = record { turn = turn nothing [] (other (lent_with (replicate style_words 2) 0 1 2 2)); image = turn nothing [] own } ∷ []
 
+-- it is laid out, and the run alone is lent a tally of ones, which are above the count
+abbrev pub ones : Lent
+ones = lent_with still 1 1 2 2
+
+abbrev pub above : Message
+above = record { turn = turn nothing [] (other ones); image = turn nothing [] own }
+
+-- an opening that claims 4 is refused. It leaves the tallies as they were lent: a 7 for the run, a 9 for its image
+abbrev pub unknown_claims : Opening
+unknown_claims = record { area = small.area; direction = 0; claims = 4; overflowx = 0; overflowy = 0 }
+
+abbrev pub sevens : Lent
+sevens = lent_with still 7 1 2 2
+
+abbrev pub nines : Lent
+nines = lent_with (image_styles still) 9 1 2 2
+
+abbrev pub kept : Outcome
+kept = opened unknown_claims at_start sevens
+
+abbrev pub image_kept : Outcome
+image_kept = opened (image_opening unknown_claims) (image_candidates unknown_claims.area at_start) nines
+
 -- one number that an answer tells: the space across that a question offers, or how far a finish reaches to the left
 abbrev space_in : Question → AvailableSpace
 space_in (MeasureBoth m) = m.space.width
@@ -300,24 +333,31 @@ pub record Differ (o : Opening) (styles candidates : List ℕ) (messages : List 
 -- ---- computed
 
 pub record Computed : Type 0 where
-  -- a refusal 6 and a refusal 2 among the answers
+  -- at first the run waits for a box to be laid out, and no question is answered
+  pub waiting : (after []).step.state.progress ≡ Some stage.LayOut
+  pub none_answered : (after (wrong_kind ∷ [])).step.state.counts.answered ≡ 0
+  -- two refusals 6 and a refusal 2 among the answers
   pub kind : is_unread (after (wrong_kind ∷ [])).step.answer ≡ true
-  pub lengths : is_unread (after (wrong_kind ∷ surfaces_fixed ∷ measured ∷ laid_out ∷ wrong_lengths ∷ [])).step.answer ≡ true
-  pub answers :
-      number_after (after []) ∷ number_after (after (wrong_kind ∷ [])) ∷ number_after (after (wrong_kind ∷ surfaces_fixed ∷ measured ∷ laid_out ∷ wrong_lengths ∷ [])) ∷ [] ≡ 0 ∷ 26 ∷ 22 ∷ []
-  -- a finish after four answers, three boxes laid out; x and width of each: 42.5 and 30, 19.875 and 20.25, the first again
-  pub run : figures (after replies) ≡ 14 ∷ 3 ∷ 1108869120 ∷ 1106247680 ∷ 1100939264 ∷ 1101135872 ∷ 1108869120 ∷ 1106247680 ∷ []
+  pub count : is_unread (after (wrong_kind ∷ miscounted ∷ [])).step.answer ≡ true
+  pub lengths : is_unread (after (wrong_kind ∷ miscounted ∷ surfaces_fixed ∷ measured ∷ measured_again ∷ laid_out ∷ wrong_lengths ∷ [])).step.answer ≡ true
+  pub answers : number_after (after []) ∷ number_after (after (wrong_kind ∷ [])) ∷ number_after (after (wrong_kind ∷ miscounted ∷ [])) ∷ [] ≡ 0 ∷ 26 ∷ 26 ∷ []
+  pub longer : number_after (after (wrong_kind ∷ miscounted ∷ surfaces_fixed ∷ measured ∷ measured_again ∷ laid_out ∷ wrong_lengths ∷ [])) ≡ 22
+  -- a finish after five answers, three boxes laid out; x and width of each: 42.5 and 30, 19.875 and 20.25, the first again
+  pub run : figures (after replies) ≡ 15 ∷ 3 ∷ 1108869120 ∷ 1106247680 ∷ 1100939264 ∷ 1101135872 ∷ 1108869120 ∷ 1106247680 ∷ []
   -- 50.5, 75.875 and 50.5
-  pub image : figures (image_after replies) ≡ 14 ∷ 3 ∷ 1111490560 ∷ 1106247680 ∷ 1117241344 ∷ 1101135872 ∷ 1111490560 ∷ 1106247680 ∷ []
+  pub image : figures (image_after replies) ≡ 15 ∷ 3 ∷ 1111490560 ∷ 1106247680 ∷ 1117241344 ∷ 1101135872 ∷ 1111490560 ∷ 1106247680 ∷ []
+  -- two answers for the first item, three for the second; before them the tallies were zeros and sevens
+  pub tally : (after replies).tally ≡ 2 ∷ 3 ∷ []
+  pub image_tally : (image_after replies).tally ≡ 2 ∷ 3 ∷ []
   -- one unclaimed record of the opening, from 30 on and up to 86; and one surfaced, moved to where its box stands
-  pub at_opening : unclaimed_at_opening panel four lent ≡ 1
+  pub at_opening : (after []).step.state.counts.filled.unclaimed ≡ 1
   pub unclaimed : unclaimed_words (after replies) ≡ 1106247680 ∷ 1108869120 ∷ []
   pub image_unclaimed : unclaimed_words (image_after replies) ≡ 1118568448 ∷ 1111490560 ∷ []
   -- each record on its layer, in both
   pub layers : layers_after (after replies) ≡ 9 ∷ 0 ∷ 3 ∷ 255 ∷ 4 ∷ []
   pub image_layers : layers_after (image_after replies) ≡ 9 ∷ 0 ∷ 3 ∷ 255 ∷ 4 ∷ []
   -- nobody claims what is surfaced
-  pub free : sweep-sweep.claimed (after (wrong_kind ∷ [])).step.state.opened.claims (sweep-sweep.candidates_in (surfaced_in surfaces_fixed.turn)) ≡ []
+  pub free : sweep-sweep.claimed (after (wrong_kind ∷ miscounted ∷ [])).step.state.opened.claims (sweep-sweep.candidates_in (surfaced_in surfaces_fixed.turn)) ≡ []
   -- 0.5 and 0
   pub width_zero : Differ narrow still centered [] 1056964608 0
   -- 0.10000001 and 0.1
@@ -342,19 +382,34 @@ pub record Computed : Type 0 where
   -- a refusal 3, and a finish after one answer
   pub table : number_after (ran small still at_start bad_table) ≡ 23
   pub image_table : number_after (image_ran small still at_start bad_table) ≡ 11
+  -- a refusal 6, and a finish after one answer
+  pub over : number_after (ran small still at_start (above ∷ [])) ≡ 26
+  pub image_over : number_after (image_ran small still at_start (above ∷ [])) ≡ 11
+  pub over_unread : is_unread (ran small still at_start (above ∷ [])).step.answer ≡ true
+  pub as_long : extents_of ones ≡ (ran small still at_start []).step.state.opened.extents
+  -- two refusals 1, which leave the tallies as they were
+  pub refusals : number_after kept ∷ number_after image_kept ∷ [] ≡ 21 ∷ 21 ∷ []
+  pub refused_tally : kept.tally ≡ 7 ∷ []
+  pub image_refused_tally : image_kept.tally ≡ 9 ∷ []
   -- before a box is laid out, x and width are what stood in the words
   pub at_hand : place_words (after []) 0 ≡ 0 ∷ 0 ∷ []
   pub image_at_hand : place_words (image_after []) 0 ≡ 7 ∷ 7 ∷ []
 
 pub computed : Computed
-unfolding add sub mul div neg lt le eq is_nan sum round units odd size span climb of_bits to_bits of_fields nan_bits util-order.zero_of util-order.before util-order.larger util-order.smaller util-order.magnitude util-maybe.map_add util-maybe.map_larger util-maybe.at_most util-maybe.at_least util-maybe.clamped util-maybe.map_clamped geometry-geometry.rect_or_zero geometry-geometry.sum_x geometry-geometry.sum_y geometry-geometry.sums geometry-geometry.rect_sum geometry-geometry.union_of geometry-geometry.smaller_size geometry-geometry.definite geometry-geometry.both_present geometry-geometry.first_size geometry-geometry.filled_size geometry-geometry.added_size geometry-geometry.raised_size geometry-geometry.clamped_size geometry-geometry.clamped_floats geometry-geometry.completed geometry-geometry.with_ratio style-resolve.by_tag style-resolve.resolved style-resolve.takes style-resolve.maybe_resolved style-resolve.resolved_rect style-resolve.resolved_size style-values.self_relative style-values.clamped_space style-values.clamped_spaces style-values.definite_spaces style-codes.sizing_code style-codes.overflow_code style-codes.direction_code style-codes.safety_code style-codes.keyword_code style-codes.bits_code style-codes.sizing_of style-codes.overflow_of style-codes.direction_of style-codes.safety_of style-codes.keyword_of style-codes.alignment_of style-codes.contain_of style-record-record.length_field style-record-record.length_kinds style-record-record.code_kinds style-record-record.kind_of style-record-record.items style-record-check.safety_breaks style-record-check.breaks_as style-record-check.breaks_rule style-record-check.breaks style-record-check.first_from style-record-check.first_broken style-record-check.or_rest style-record-check.checked_from style-record-check.checked style-record-decode.length_at style-record-decode.rect_at style-record-decode.size_at style-record-decode.align_at style-record-decode.ratio_at style-record-decode.overflow_at style-record-decode.style_of style-record-decode.style_at records-records.record_at records-records.records records-records.room records-records.written records-records.wrong records-records.every records-records.breaks records-records.good records-records.good_records tree-static.shifted_axis tree-static.translated style-codes.position_code style-codes.position_of tree-codes.edge_code tree-codes.edge_of tree-record-candidate.axis_of tree-record-candidate.candidate_of tree-record-candidate.candidate_words tree-record-layout.rect_of tree-record-layout.layout_of tree-record-layout.layout_words sweep-sweep.first_candidates sweep-sweep.candidates_in sweep-sweep.moved sweep-sweep.side sweep-sweep.keep sweep-sweep.list_words oof-axis-axis.from_resolved oof-axis-axis.align_in oof-axis-axis.centered_block oof-axis-axis.static_block oof-axis-axis.inset_block oof-axis-axis.start_is_weaker oof-axis-axis.repaired oof-axis-axis.block oof-axis-axis.both_insets oof-axis-axis.stretch_fit oof-axis-axis.stretching oof-axis-axis.stretches oof-axis-axis.is_stretch oof-axis-axis.halves oof-axis-axis.filled_margins oof-axis-axis.margins oof-axis-axis.is_normal oof-axis-axis.align_edge oof-axis-axis.limit oof-axis-axis.kept_within oof-axis-axis.self_aligned oof-axis-axis.static_aligned oof-axis-axis.position_in oof-axis-axis.position oof-axis-axis.placement common-sizingkeyword.by_keyword common-sizingkeyword.of_resolved common-sizingkeyword.keyword_of common-sizingkeyword.absolute_stretch common-sizingkeyword.if_absent common-sizingkeyword.keywords_of common-scrollableoverflow.propagates common-scrollableoverflow.reach common-scrollableoverflow.placed_at common-scrollableoverflow.contribution oof-resolve-resolved.of_width oof-resolve-resolved.of_each_axis oof-resolve-resolved.less_offset oof-resolve-resolved.horizontal oof-resolve-resolved.vertical oof-resolve-resolved.padding_or_border oof-resolve-resolved.style_size oof-resolve-resolved.min_size oof-resolve-resolved.less_margins oof-resolve-resolved.space_for oof-resolve-resolved.resolved_box oof-place-placing.scrollbar_of oof-place-placing.layout_of oof-place-placing.from_origin oof-place-placing.box_layout oof-box-box.keyword_stretch oof-box-box.size_keywords oof-box-box.settled oof-box-box.ignores_ratio oof-box-box.stretch_ratio oof-box-box.widened oof-box-box.heightened oof-box-box.raised_min oof-box-box.stretched oof-box-box.final_size oof-box-cut.taken oof-box-cut.known_by oof-box-cut.stretched_by oof-box-cut.size_by oof-box-cut.keyword_asked oof-box-cut.size_asked oof-box-cut.asked_of oof-box-cut.asked_after oof-box-cut.layout_after run-refusals.◌when◌else◌ run-refusals.bad_area run-refusals.bad_table run-refusals.bad_list run-refusals.bad_slices run-refusals.other_lengths run-refusals.bad_style run-refusals.bad_candidate run-refusals.list_full run-refusals.wrong_counts run-run.box_at_hand run-run.asking run-run.finishing run-run.proceeding run-run.opening_verdict run-run.closed run-run.begun run-run.opened run-run.taken_by run-run.reply_verdict run-run.measured_on run-run.laid_out run-run.replied mirror-box-image.edge_sum other_direction other_edge counterpart image_style reflected_word image_candidate listed each_record theorems.next
+unfolding add sub mul div neg lt le eq is_nan sum round units odd size span climb of_bits to_bits of_fields nan_bits util-order.zero_of util-order.before util-order.larger util-order.smaller util-order.magnitude util-maybe.map_add util-maybe.map_larger util-maybe.at_most util-maybe.at_least util-maybe.clamped util-maybe.map_clamped geometry-geometry.rect_or_zero geometry-geometry.sum_x geometry-geometry.sum_y geometry-geometry.sums geometry-geometry.rect_sum geometry-geometry.union_of geometry-geometry.smaller_size geometry-geometry.definite geometry-geometry.both_present geometry-geometry.first_size geometry-geometry.filled_size geometry-geometry.added_size geometry-geometry.raised_size geometry-geometry.clamped_size geometry-geometry.clamped_floats geometry-geometry.completed geometry-geometry.with_ratio style-resolve.by_tag style-resolve.resolved style-resolve.takes style-resolve.maybe_resolved style-resolve.resolved_rect style-resolve.resolved_size style-values.self_relative style-values.clamped_space style-values.clamped_spaces style-values.definite_spaces style-codes.sizing_code style-codes.overflow_code style-codes.direction_code style-codes.safety_code style-codes.keyword_code style-codes.bits_code style-codes.sizing_of style-codes.overflow_of style-codes.direction_of style-codes.safety_of style-codes.keyword_of style-codes.alignment_of style-codes.contain_of style-record-record.length_field style-record-record.length_kinds style-record-record.code_kinds style-record-record.kind_of style-record-record.items style-record-check.safety_breaks style-record-check.breaks_as style-record-check.breaks_rule style-record-check.breaks style-record-check.first_from style-record-check.first_broken style-record-check.or_rest style-record-check.checked_from style-record-check.checked style-record-decode.length_at style-record-decode.rect_at style-record-decode.size_at style-record-decode.align_at style-record-decode.ratio_at style-record-decode.overflow_at style-record-decode.style_of style-record-decode.style_at records-records.record_at records-records.records records-records.room records-records.written records-records.wrong records-records.every records-records.breaks records-records.good records-records.good_records tree-static.shifted_axis tree-static.translated style-codes.position_code style-codes.position_of tree-codes.edge_code tree-codes.edge_of tree-record-candidate.axis_of tree-record-candidate.candidate_of tree-record-candidate.candidate_words tree-record-layout.rect_of tree-record-layout.layout_of tree-record-layout.layout_words sweep-sweep.first_candidates sweep-sweep.candidates_in sweep-sweep.moved sweep-sweep.side sweep-sweep.keep sweep-sweep.list_words oof-axis-axis.from_resolved oof-axis-axis.align_in oof-axis-axis.centered_block oof-axis-axis.static_block oof-axis-axis.inset_block oof-axis-axis.start_is_weaker oof-axis-axis.repaired oof-axis-axis.block oof-axis-axis.both_insets oof-axis-axis.stretch_fit oof-axis-axis.stretching oof-axis-axis.stretches oof-axis-axis.is_stretch oof-axis-axis.halves oof-axis-axis.filled_margins oof-axis-axis.margins oof-axis-axis.is_normal oof-axis-axis.align_edge oof-axis-axis.limit oof-axis-axis.kept_within oof-axis-axis.self_aligned oof-axis-axis.static_aligned oof-axis-axis.position_in oof-axis-axis.position oof-axis-axis.placement common-sizingkeyword.by_keyword common-sizingkeyword.of_resolved common-sizingkeyword.keyword_of common-sizingkeyword.absolute_stretch common-sizingkeyword.if_absent common-sizingkeyword.keywords_of common-scrollableoverflow.propagates common-scrollableoverflow.reach common-scrollableoverflow.placed_at common-scrollableoverflow.contribution oof-resolve-resolved.of_width oof-resolve-resolved.of_each_axis oof-resolve-resolved.less_offset oof-resolve-resolved.horizontal oof-resolve-resolved.vertical oof-resolve-resolved.padding_or_border oof-resolve-resolved.style_size oof-resolve-resolved.min_size oof-resolve-resolved.less_margins oof-resolve-resolved.space_for oof-resolve-resolved.resolved_box oof-place-placing.scrollbar_of oof-place-placing.layout_of oof-place-placing.from_origin oof-place-placing.box_layout oof-box-box.keyword_stretch oof-box-box.size_keywords oof-box-box.settled oof-box-box.ignores_ratio oof-box-box.stretch_ratio oof-box-box.widened oof-box-box.heightened oof-box-box.raised_min oof-box-box.stretched oof-box-box.final_size oof-box-cut.taken oof-box-cut.known_by oof-box-cut.stretched_by oof-box-cut.size_by oof-box-cut.keyword_asked oof-box-cut.size_asked oof-box-cut.asked_of oof-box-cut.asked_after oof-box-cut.layout_after run-refusals.◌when◌else◌ run-refusals.bad_area run-refusals.bad_table run-refusals.bad_list run-refusals.bad_slices run-refusals.other_lengths run-refusals.bad_style run-refusals.bad_candidate run-refusals.list_full run-refusals.wrong_counts run-run.box_at_hand run-run.asking run-run.finishing run-run.proceeding run-run.opening_verdict run-run.closed run-run.begun run-run.opened run-run.taken_by run-run.reply_verdict run-run.charged run-run.measured_on run-run.laid_out run-run.replied mirror-box-image.edge_sum other_direction other_edge counterpart image_style reflected_word image_candidate listed each_record theorems.next
 computed =
     record {
+      waiting = refl;
+      none_answered = refl;
       kind = refl;
+      count = refl;
       lengths = refl;
       answers = refl;
+      longer = refl;
       run = refl;
       image = refl;
+      tally = refl;
+      image_tally = refl;
       at_opening = refl;
       unclaimed = refl;
       image_unclaimed = refl;
@@ -375,6 +430,13 @@ computed =
       image_slices = refl;
       table = refl;
       image_table = refl;
+      over = refl;
+      image_over = refl;
+      over_unread = refl;
+      as_long = refl;
+      refusals = refl;
+      refused_tally = refl;
+      image_refused_tally = refl;
       at_hand = refl;
       image_at_hand = refl;
     }

@@ -24,8 +24,8 @@ use Rattle.run.specs.declared.Opening.{Opening}
 use Rattle.run.specs.declared.Counts.{Counts}
 use Rattle.run.specs.declared.Extents.{Extents}
 use Rattle.run.specs.declared.State.{State}
-use Rattle.run.specs.Call.{Lent}
-use Rattle.run.specs.Refusals.{accepted, ◌when◌else◌, bad_area, ragged, bad_table, bad_list, bad_slices, other_lengths, lent_by, bad_style, bad_candidate, bad_candidates, list_full, wrong_counts}
+use Rattle.run.specs.Call.{Lent, slices_of}
+use Rattle.run.specs.Refusals.{accepted, ◌when◌else◌, bad_area, ragged, bad_table, bad_list, bad_slices, other_lengths, bad_tally, other_extents, lent_by, bad_style, bad_candidate, bad_candidates, list_full, any_above, wrong_counts}
 use Rattle.run.specs.Run.{extents_of, claims_of, none_filled, opening_verdict, taken_by, reply_verdict}
 use Rattle.std.proofs.lemmas.Bool.{or_parts}
 use Rattle.run.proofs.Ways.{passed}
@@ -50,23 +50,41 @@ module _ (lent lent' : Lent) (same : extents_of lent ≡ extents_of lent') where
   unclaimed_long : length lent.unclaimed ≡ length lent'.unclaimed
   unclaimed_long = ap (λ (e : Extents). e.unclaimed) same
 
-  pub same_slices : bad_slices lent ≡ bad_slices lent'
+  tally_long : length lent.tally ≡ length lent'.tally
+  tally_long = ap (λ (e : Extents). e.tally) same
+
+  pub same_slices : bad_slices (slices_of lent) ≡ bad_slices (slices_of lent')
   unfolding bad_slices bad_table bad_list items
   same_slices = rw (styles_long, layouts_long, working_long, unclaimed_long) refl
 
-  pub same_others : (e : Extents) → other_lengths e lent ≡ other_lengths e lent'
+  pub same_others : (e : Extents) → other_lengths e (slices_of lent) ≡ other_lengths e (slices_of lent')
   unfolding other_lengths
   same_others e = rw (styles_long, layouts_long, working_long, unclaimed_long) refl
 
-  pub same_wrong : (c : Counts) → wrong_counts lent c ≡ wrong_counts lent' c
+  pub same_tally : bad_tally lent ≡ bad_tally lent'
+  unfolding items
+  same_tally = rw (styles_long, tally_long) refl
+
+  -- test 2 of a reply, but for what it surfaces
+  pub same_extent : (e : Extents)
+      → (bad_slices (slices_of lent) || bad_tally lent || other_extents e lent) ≡ (bad_slices (slices_of lent') || bad_tally lent' || other_extents e lent')
+  same_extent e = rw (same_slices, same_tally, same_others e, tally_long) refl
+
+  -- where both tallies have a word above the count, or neither has
+  pub same_wrong : (c : Counts) → any_above c.answered lent.tally ≡ any_above c.answered lent'.tally → wrong_counts lent c ≡ wrong_counts lent' c
   unfolding wrong_counts
-  same_wrong c = rw (working_long, unclaimed_long) refl
+  same_wrong c above = rw (working_long, unclaimed_long, above) refl
 
   pub same_full : (by : ContainingBlockClaims) (filled : Filled) (cs cs' : List ℕ)
       → ((list : Bool) → length (keep by list (candidates_in cs)) ≡ length (keep by list (candidates_in cs')))
       → list_full by lent filled cs ≡ list_full by lent' filled cs'
   unfolding list_full
   same_full by filled cs cs' kept = rw (working_long, unclaimed_long, kept true, kept false) refl
+
+-- two tests in turn, the second where the first fails
+pub or_alike : (a : Bool) {b b' : Bool} → (a ≡ false → b ≡ b') → (a || b) ≡ (a || b')
+or_alike true f = refl
+or_alike false f = f refl
 
 -- ---- openings
 
@@ -98,7 +116,7 @@ module _ (o : Opening) (candidates : List ℕ) (lent lent' : Lent) (image : lent
   unfolding opening_verdict bad_candidate
   same_opening kept =
       same_order BadArea BadExtent BadStyle BadCandidate ListFull (sym (same_area o))
-      (rw (same_slices lent lent' same, words.each_length candidate_width (image_candidate o.area) candidates) refl)
+      (rw (same_slices lent lent' same, same_tally lent lent' same, words.each_length candidate_width (image_candidate o.area) candidates) refl)
       (same_styles lent.styles lent'.styles image)
       (rw (← same_items lent.styles lent'.styles image, same_candidates o.area candidates (items lent.styles)) refl)
       (same_full lent lent' same (claims_of o) none_filled candidates (image_candidates o.area candidates) kept)
@@ -107,13 +125,14 @@ module _ (o : Opening) (candidates : List ℕ) (lent lent' : Lent) (image : lent
 
 module _ (s s' : State) (reply : Reply) (surfaced : List ℕ) (lent lent' : Lent) (image : lent'.styles ≡ image_styles lent.styles) (same : extents_of lent ≡ extents_of lent') where
   pub same_reply : s.opened.extents ≡ s'.opened.extents → s.opened.claims ≡ s'.opened.claims → s.counts ≡ s'.counts → taken_by s reply ≡ taken_by s' reply
+      → (is_none (taken_by s reply) ≡ false → any_above s.counts.answered lent.tally ≡ any_above s.counts.answered lent'.tally)
       → bad_candidate lent.styles lent.working s.counts.filled.working ≡ bad_candidate lent'.styles lent'.working s'.counts.filled.working
       → reply_verdict s reply surfaced lent ≡ reply_verdict s' reply surfaced lent'
   unfolding reply_verdict
-  same_reply extents claims counts taken good =
+  same_reply extents claims counts taken above good =
       same_order BadExtent WrongReply BadStyle BadCandidate ListFull
-      (rw (same_slices lent lent' same, extents, same_others lent lent' same s'.opened.extents) refl)
-      (rw (taken, counts, same_wrong lent lent' same s'.counts) refl)
+      (rw (extents, same_extent lent lent' same s'.opened.extents) refl)
+      (or_alike (is_none (taken_by s reply)) (λ e. same_wrong lent lent' same s.counts (above e)) ∙ rw (taken, counts) refl)
       (same_styles lent.styles lent'.styles image)
       (rw good (ap (λ (b : Bool). bad_candidate lent'.styles lent'.working s'.counts.filled.working || b) surfaced_alike))
       (rw (claims, counts) (same_full lent lent' same s'.opened.claims s'.counts.filled (lent_by reply surfaced) (lent_by reply surfaced) (λ list. refl)))
@@ -127,7 +146,7 @@ first : (a b c : Bool) → (a || b || c) ≡ false → a ≡ false
 first true b c e = no refl e
 first false b c e = refl
 
-slices_passed : (lent : Lent) → bad_slices lent ≡ false → length lent.layouts ≡ layout_width * items lent.styles
+slices_passed : (lent : Lent) → bad_slices (slices_of lent) ≡ false → length lent.layouts ≡ layout_width * items lent.styles
 unfolding bad_slices bad_table
 slices_passed lent e =
     let n = items lent.styles in
@@ -168,7 +187,7 @@ opening_passed o candidates lent e =
     let candidate = passed BadCandidate _ _ style.1 in
     record {
       area = area.0;
-      layouts = slices_passed lent (or_parts _ _ extent.0).0;
+      layouts = slices_passed lent (or_parts _ _ (or_parts _ _ extent.0).0).0;
       style = style.0;
       candidate = not-false _ candidate.0;
       room = room_passed (claims_of o) lent none_filled candidates (passed ListFull _ _ candidate.1).0;
@@ -186,7 +205,7 @@ unfolding wrong_counts
 counts_passed lent c e =
     let b =
     middle (ltb (length lent.working / candidate_width) c.filled.working) (ltb (length lent.unclaimed / candidate_width) c.filled.unclaimed) (eqb c.begun 0)
-    (ltb c.filled.working c.begun) (ltb (3 * c.begun) c.answered) e in
+    (ltb c.filled.working c.begun) (ltb (3 * c.begun) c.answered) (or_parts _ (any_above c.answered lent.tally) e).0 in
     (positive c.begun (eqb-false c.begun 0 b.0), ltb-false c.filled.working c.begun b.1)
   where
     middle : (a b c d f : Bool) → (a || b || c || d || f) ≡ false → (c ≡ false) × (d ≡ false)
@@ -209,7 +228,7 @@ reply_passed s reply surfaced lent e =
     let counts = counts_passed lent s.counts (or_parts (is_none (taken_by s reply)) (wrong_counts lent s.counts) wrong.0).1 in
     record {
       layouts =
-          slices_passed lent (first (bad_slices lent) (other_lengths s.opened.extents lent) (ragged candidate_width (lent_by reply surfaced)) extent.0);
+          slices_passed lent (or_parts _ _ (or_parts _ _ (or_parts _ _ extent.0).0).0).0;
       style = style.0;
       begun = counts.0;
       waiting = counts.1;

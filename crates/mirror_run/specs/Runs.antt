@@ -3,6 +3,7 @@
 use Rattle.std.specs.Prelude.{ℕ, suc, ◌<◌, ◌≡◌, Bool, false, ◌||◌, List, [], ◌∷◌, eqb, length, Result, Ok, Err, is_err}
 use Rattle.refusal.specs.Refusal.{number_of}
 use Rattle.refusal.specs.declared.Refusal.{Refusal}
+use Rattle.refusal.specs.declared.Refusal.TheVariants.{WrongReply}
 use Rattle.tree.specs.declared.layout.Layout.{Layout}
 use Rattle.tree.specs.declared.layout.OofCandidate.{OofCandidate}
 use Rattle.tree.specs.declared.layout.OofPositioningArea.{OofPositioningArea}
@@ -12,11 +13,12 @@ use Rattle.run.specs.declared.Extents.{Extents}
 use Rattle.run.specs.declared.Finish as ending
 use Rattle.run.specs.declared.Answer.{Answer}
 use Rattle.run.specs.declared.Answer.TheVariants.{Ask, Finish}
-use Rattle.run.specs.Call.{Lent, Outcome}
-use Rattle.run.specs.declared.Opening.{Opening}
+use Rattle.run.specs.Call.{Outcome}
+use Rattle.run.specs.declared.Counts.{Counts}
 use Rattle.run.specs.declared.State.{State}
+use Rattle.run.specs.Conditions.{NotAsked, WordIsAbove}
 use Rattle.run.specs.Refusals.{lent_by}
-use Rattle.run.specs.Run.{layout_at, extents_of, opened}
+use Rattle.run.specs.Run.{layout_at, extents_of}
 use Rattle.run.specs.Theorems.{Loan, own, other, Turn, turned, laid_so_far, claimed_so_far, hoisted}
 use Rattle.mirror_box.specs.Mirrored.{CandidateImage, SameQuestion, MirroredLayout, SameRect}
 use Rattle.mirror_run.specs.Quarter.{QuarterReply}
@@ -57,17 +59,32 @@ pub record SameWords (t t' : Turn) : Type 0 where
   pub image_slices : t'.loan ≡ own
   pub surfaced : surfaced_in t ≡ surfaced_in t'
 
--- refused with 2 or 6, which go by lengths, the reply's kind and the state: so it would be with any words in the slices
+-- refused with 2 or 6, which go by lengths, the reply's kind, the state and the tally: no word of another slice was read
 abbrev pub is_unread : Result Answer Refusal → Bool
 is_unread (Ok (Ask q)) = false
 is_unread (Ok (Finish f)) = false
 is_unread (Err r) = eqb (number_of r) 2 || eqb (number_of r) 6
 
+-- the tally lent has a word above the count of questions answered. After an opening that isn't refused the run's own has none (`AddsUp` of
+-- run/specs/Theorems.antt); after a refused one no reply is asked for
+abbrev pub LendsAbove : Counts → Loan → Type 0
+LendsAbove c own = ⊥
+LendsAbove c (other lent) = WordIsAbove lent c
+
+-- request #107: refused with 6, and not since no reply is asked for, or one of another kind. That leaves the tally: the counts of a state that a call
+-- returned are never wrong
+pub record ForTally (before : State) (answer : Result Answer Refusal) (t : Turn) : Type 0 where
+  pub asked : ¬ NotAsked before.progress t.heard.reply
+  pub wrong : answer ≡ Err WrongReply
+  pub above : LendsAbove before.counts t.loan
+
 -- by the state that the run's last call returned, and the run's answer to this one
 pub record Fair (before : State) (answer : Result Answer Refusal) (m : Message) : Type 0 where
   pub alike : Alike before.opened.extents m.turn m.image
-  -- unless no word was read
+  -- unless no word was read but the tally's
   pub words : is_unread answer ≡ false → SameWords m.turn m.image
+  -- and where it was refused for its tally, the tally lent to the image has a word above the count too
+  pub tally : ForTally before answer m.turn → LendsAbove before.counts m.image.loan
   -- an accepted reply: its values are whole quarter pixels, and no box that it surfaces is claimed
   pub quarters : is_err answer ≡ false → QuarterReply m.turn.heard.reply
   pub surfaces_none : is_err answer ≡ false → claimed before.opened.claims (candidates_in (surfaced_in m.turn)) ≡ []
@@ -104,10 +121,6 @@ pub data Unclaimed (area : OofPositioningArea) : ℕ → List OofCandidate → L
   surfaced : {cs cs' : List OofCandidate} → Each SameButX cs cs' → Unclaimed area 0 cs cs'
   image : {n : ℕ} {c c' : OofCandidate} {cs cs' : List OofCandidate} → CandidateImage area c c' → Unclaimed area n cs cs' → Unclaimed area (suc n) (c ∷ cs) (c' ∷ cs')
 
--- how many of the opening's candidates are unclaimed: none, if it was refused
-abbrev pub unclaimed_at_opening : Opening → List ℕ → Lent → ℕ
-unclaimed_at_opening o candidates lent = (opened o candidates lent).step.state.counts.filled.unclaimed
-
 -- the unclaimed records so far
 abbrev pub unclaimed_so_far : Outcome → List OofCandidate
 unclaimed_so_far o = first_candidates o.step.state.counts.filled.unclaimed o.unclaimed
@@ -116,7 +129,8 @@ unclaimed_so_far o = first_candidates o.step.state.counts.filled.unclaimed o.unc
 abbrev pub layout_of_box : Outcome → ℕ → Layout
 layout_of_box o i = layout_at o.layouts o.working i
 
-pub record MirroredRuns (area : OofPositioningArea) (at_opening : ℕ) (o o' : Outcome) : Type 0 where
+-- `opening` is what the run's opening left: as many unclaimed records as it filled are the opening's, none if it was refused
+pub record MirroredRuns (area : OofPositioningArea) (opening o o' : Outcome) : Type 0 where
   -- the answer to the last call
   pub answer : SameAnswer o.step.answer o'.step.answer
   -- filled records, boxes begun, questions answered
@@ -125,7 +139,9 @@ pub record MirroredRuns (area : OofPositioningArea) (at_opening : ℕ) (o o' : O
   pub overflow : SameRect o.step.state.overflow o'.step.state.overflow
   pub order : hoisted o ≡ hoisted o'
   pub claimed : Each (CandidateImage area) (claimed_so_far o) (claimed_so_far o')
-  pub unclaimed : Unclaimed area at_opening (unclaimed_so_far o) (unclaimed_so_far o')
+  pub unclaimed : Unclaimed area opening.step.state.counts.filled.unclaimed (unclaimed_so_far o) (unclaimed_so_far o')
   pub laid : laid_so_far o ≡ laid_so_far o'
   -- as far from the area's left edge as from its right edge, left and right exchanged, all else equal
   pub boxes : (i : ℕ) → i < laid_so_far o → MirroredLayout area (layout_of_box o i) (layout_of_box o' i)
+  -- request #107: equal counts by item. After a refused opening, which writes none, the tallies may differ as they did before it
+  pub tally : is_err opening.step.answer ≡ false → o.tally ≡ o'.tally

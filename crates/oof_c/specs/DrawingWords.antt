@@ -1,7 +1,7 @@
 -- What `oof_drawing_order` leaves, of a state's words. Assumes nothing.
 use Rattle.std.specs.Prelude.{ℕ, List, Ok, Err}
 use Rattle.refusal.specs.Refusal.{number_of}
-use Rattle.run.specs.Call.{Lent}
+use Rattle.run.specs.Call.{Slices}
 use Rattle.run.specs.Refusals.{Verdict}
 use Rattle.drawing.specs.Drawing.{Drawn, drawn}
 use Rattle.oof_c_words.specs.StateWords.{state_of}
@@ -18,8 +18,8 @@ verdict_number (Err refusal) = number_of refusal
 abbrev pub drawn_told : Drawn → DrawingReturned
 drawn_told left = record { result = verdict_number left.verdict; order = left.order }
 
--- of the slices lent, a state's 27 words, and the order's words as they came
-unfoldable pub drawing_in_words : Lent → List ℕ → List ℕ → DrawingReturned
+-- of the slices lent, a state's 28 words, and the order's words as they came
+unfoldable pub drawing_in_words : Slices → List ℕ → List ℕ → DrawingReturned
 drawing_in_words lent state before = drawn_told (drawn (state_of state) lent before)
 
 -- what the entry returns, and the order's words

@@ -7,7 +7,7 @@
 ghost use Rattle.std.specs.Prelude.{◌≡◌, []};
 ghost use Rattle.oof_c_words.specs.Entry.{returned, opening_of, opened_in_words, replied_in_words, words};
 ghost use Rattle.oof_c_words.specs.PixelWords.{pixels_returned, pixels_in_words};
-ghost use Rattle.run.specs.Call.{lent};
+ghost use Rattle.run.specs.Call.{slices};
 ghost use Rattle.oof_c.specs.ReachWords.{reach_returned, reach_in_words};
 ghost use Rattle.oof_c.specs.DrawingWords.{verdict_number, drawing_returned, drawing_in_words};
 ghost use Rattle.oof_c_words.specs.CheckWords.{check_returned, check_in_words};
@@ -20,7 +20,7 @@ use oof_c_words::state::STATE_WORDS;
 use pixels::lent::EDGES;
 use reach::lent::VERDICT;
 use refusal::Refusal;
-use run::{Lent, Opening};
+use run::{Opening, Slices};
 use tree::layout::OofPositioningArea;
 use tree_record::layout::LAYOUT_WORDS;
 
@@ -40,10 +40,11 @@ pub fn oof_open(
     layouts: &mut [u32],
     working: &mut [u32],
     unclaimed: &mut [u32],
+    tally: &mut [u32],
     state: &mut [u32; STATE_WORDS],
     answer: &mut [u32; ANSWER_WORDS],
 ) -> u32
-    ensures { returned result layouts.new working.new unclaimed.new state.new answer.new ≡ opened_in_words (opening_of width height x y direction claims overflow_x overflow_y) candidates.now styles.now (words layouts.old working.old unclaimed.old state.old answer.old) }
+    ensures { returned result layouts.new working.new unclaimed.new tally.new state.new answer.new ≡ opened_in_words (opening_of width height x y direction claims overflow_x overflow_y) candidates.now styles.now (words layouts.old working.old unclaimed.old tally.old state.old answer.old) }
 {
     let area = OofPositioningArea {
         size: Size { width, height },
@@ -56,7 +57,9 @@ pub fn oof_open(
         overflowx: overflow_x,
         overflowy: overflow_y,
     };
-    let step = placer::open(opening, styles, candidates, layouts, working, unclaimed);
+    let step = placer::open(
+        opening, styles, candidates, layouts, working, unclaimed, tally,
+    );
     *state = oof_c_words::state::state_words(step.state);
     oof_c_words::tell(step.answer, answer)
 }
@@ -70,13 +73,16 @@ fn respond(
     layouts: &mut [u32],
     working: &mut [u32],
     unclaimed: &mut [u32],
+    tally: &mut [u32],
     state: &mut [u32; STATE_WORDS],
     answer: &mut [u32; ANSWER_WORDS],
 ) -> u32
-    ensures { returned result layouts.new working.new unclaimed.new state.new answer.new ≡ replied_in_words reply surfaced.now styles.now (words layouts.old working.old unclaimed.old state.old answer.old) }
+    ensures { returned result layouts.new working.new unclaimed.new tally.new state.new answer.new ≡ replied_in_words reply surfaced.now styles.now (words layouts.old working.old unclaimed.old tally.old state.old answer.old) }
 {
     let s = oof_c_words::state::state_of(&*state);
-    let step = placer::reply(s, reply, surfaced, styles, layouts, working, unclaimed);
+    let step = placer::reply(
+        s, reply, surfaced, styles, layouts, working, unclaimed, tally,
+    );
     oof_c_words::keep(step, state);
     oof_c_words::tell(step.answer, answer)
 }
@@ -89,15 +95,16 @@ pub fn oof_reply_both(
     layouts: &mut [u32],
     working: &mut [u32],
     unclaimed: &mut [u32],
+    tally: &mut [u32],
     state: &mut [u32; STATE_WORDS],
     answer: &mut [u32; ANSWER_WORDS],
 ) -> u32
-    ensures { returned result layouts.new working.new unclaimed.new state.new answer.new ≡ replied_in_words (Reply.Both (record { width = width; height = height })) [] styles.now (words layouts.old working.old unclaimed.old state.old answer.old) }
+    ensures { returned result layouts.new working.new unclaimed.new tally.new state.new answer.new ≡ replied_in_words (Reply.Both (record { width = width; height = height })) [] styles.now (words layouts.old working.old unclaimed.old tally.old state.old answer.old) }
 {
     let reply = Reply::Both(Size { width, height });
     let none: [u32; 0] = [];
     respond(
-        reply, &none, styles, layouts, working, unclaimed, state, answer,
+        reply, &none, styles, layouts, working, unclaimed, tally, state, answer,
     )
 }
 
@@ -108,10 +115,11 @@ pub fn oof_reply_width(
     layouts: &mut [u32],
     working: &mut [u32],
     unclaimed: &mut [u32],
+    tally: &mut [u32],
     state: &mut [u32; STATE_WORDS],
     answer: &mut [u32; ANSWER_WORDS],
 ) -> u32
-    ensures { returned result layouts.new working.new unclaimed.new state.new answer.new ≡ replied_in_words (Reply.Width width) [] styles.now (words layouts.old working.old unclaimed.old state.old answer.old) }
+    ensures { returned result layouts.new working.new unclaimed.new tally.new state.new answer.new ≡ replied_in_words (Reply.Width width) [] styles.now (words layouts.old working.old unclaimed.old tally.old state.old answer.old) }
 {
     let none: [u32; 0] = [];
     respond(
@@ -121,6 +129,7 @@ pub fn oof_reply_width(
         layouts,
         working,
         unclaimed,
+        tally,
         state,
         answer,
     )
@@ -133,10 +142,11 @@ pub fn oof_reply_height(
     layouts: &mut [u32],
     working: &mut [u32],
     unclaimed: &mut [u32],
+    tally: &mut [u32],
     state: &mut [u32; STATE_WORDS],
     answer: &mut [u32; ANSWER_WORDS],
 ) -> u32
-    ensures { returned result layouts.new working.new unclaimed.new state.new answer.new ≡ replied_in_words (Reply.Height height) [] styles.now (words layouts.old working.old unclaimed.old state.old answer.old) }
+    ensures { returned result layouts.new working.new unclaimed.new tally.new state.new answer.new ≡ replied_in_words (Reply.Height height) [] styles.now (words layouts.old working.old unclaimed.old tally.old state.old answer.old) }
 {
     let none: [u32; 0] = [];
     respond(
@@ -146,6 +156,7 @@ pub fn oof_reply_height(
         layouts,
         working,
         unclaimed,
+        tally,
         state,
         answer,
     )
@@ -162,10 +173,11 @@ pub fn oof_reply_laid_out(
     layouts: &mut [u32],
     working: &mut [u32],
     unclaimed: &mut [u32],
+    tally: &mut [u32],
     state: &mut [u32; STATE_WORDS],
     answer: &mut [u32; ANSWER_WORDS],
 ) -> u32
-    ensures { returned result layouts.new working.new unclaimed.new state.new answer.new ≡ replied_in_words (Reply.LaidOut (record { left = left; right = right; top = top; bottom = bottom })) surfaced.now styles.now (words layouts.old working.old unclaimed.old state.old answer.old) }
+    ensures { returned result layouts.new working.new unclaimed.new tally.new state.new answer.new ≡ replied_in_words (Reply.LaidOut (record { left = left; right = right; top = top; bottom = bottom })) surfaced.now styles.now (words layouts.old working.old unclaimed.old tally.old state.old answer.old) }
 {
     let overflow = Rect {
         left,
@@ -180,6 +192,7 @@ pub fn oof_reply_laid_out(
         layouts,
         working,
         unclaimed,
+        tally,
         state,
         answer,
     )
@@ -205,16 +218,16 @@ pub fn oof_reach(
     state: &[u32; STATE_WORDS],
     verdict: &mut [u32; VERDICT],
 ) -> u32
-    ensures { reach_returned result verdict.new ≡ reach_in_words place (lent styles.now layouts.now working.now unclaimed.now) state.now verdict.old }
+    ensures { reach_returned result verdict.new ≡ reach_in_words place (slices styles.now layouts.now working.now unclaimed.now) state.now verdict.old }
 {
     let s = oof_c_words::state::state_of(state);
-    let lent = Lent {
+    let slices = Slices {
         styles,
         layouts,
         working,
         unclaimed,
     };
-    reach::lent::tell(reach::reach(place, s, &lent), verdict)
+    reach::lent::tell(reach::reach(place, s, &slices), verdict)
 }
 
 // 0, or the refusal's number: the C interface has no other verdict.
@@ -234,16 +247,16 @@ pub fn oof_drawing_order(
     state: &[u32; STATE_WORDS],
     order: &mut [u32],
 ) -> u32
-    ensures { drawing_returned result order.new ≡ drawing_in_words (lent styles.now layouts.now working.now unclaimed.now) state.now order.old }
+    ensures { drawing_returned result order.new ≡ drawing_in_words (slices styles.now layouts.now working.now unclaimed.now) state.now order.old }
 {
     let s = oof_c_words::state::state_of(state);
-    let lent = Lent {
+    let slices = Slices {
         styles,
         layouts,
         working,
         unclaimed,
     };
-    number(drawing::drawing_order(s, &lent, order))
+    number(drawing::drawing_order(s, &slices, order))
 }
 
 // The first word of a table of styles that breaks a code rule.

@@ -6,7 +6,7 @@
 ghost use Rattle.std.specs.Prelude.{◌≡◌, []};
 ghost use Rattle.oof_c_words.specs.Entry.{returned, opening_of, opened_in_words, replied_in_words, words};
 ghost use Rattle.oof_c_words.specs.PixelWords.{pixels_returned, pixels_in_words};
-ghost use Rattle.run.specs.Call.{lent};
+ghost use Rattle.run.specs.Call.{slices};
 ghost use Rattle.oof_c.specs.ReachWords.{reach_returned, reach_in_words};
 ghost use Rattle.oof_c.specs.DrawingWords.{drawing_returned, drawing_in_words};
 ghost use Rattle.oof_c_words.specs.CheckWords.{check_returned, check_in_words};
@@ -36,14 +36,15 @@ pub extern "C" fn oof_open(
     layouts: &mut [u32],
     working: &mut [u32],
     unclaimed: &mut [u32],
+    tally: &mut [u32],
     state: &mut [u32; STATE_WORDS],
     answer: &mut [u32; ANSWER_WORDS],
 ) -> u32
-    ensures { returned result layouts.new working.new unclaimed.new state.new answer.new ≡ opened_in_words (opening_of width height x y direction claims overflow_x overflow_y) candidates.now styles.now (words layouts.old working.old unclaimed.old state.old answer.old) }
+    ensures { returned result layouts.new working.new unclaimed.new tally.new state.new answer.new ≡ opened_in_words (opening_of width height x y direction claims overflow_x overflow_y) candidates.now styles.now (words layouts.old working.old unclaimed.old tally.old state.old answer.old) }
 {
     oof_c::oof_open(
         width, height, x, y, direction, claims, overflow_x, overflow_y, styles, candidates,
-        layouts, working, unclaimed, state, answer,
+        layouts, working, unclaimed, tally, state, answer,
     )
 }
 
@@ -56,13 +57,14 @@ pub extern "C" fn oof_reply_both(
     layouts: &mut [u32],
     working: &mut [u32],
     unclaimed: &mut [u32],
+    tally: &mut [u32],
     state: &mut [u32; STATE_WORDS],
     answer: &mut [u32; ANSWER_WORDS],
 ) -> u32
-    ensures { returned result layouts.new working.new unclaimed.new state.new answer.new ≡ replied_in_words (Reply.Both (record { width = width; height = height })) [] styles.now (words layouts.old working.old unclaimed.old state.old answer.old) }
+    ensures { returned result layouts.new working.new unclaimed.new tally.new state.new answer.new ≡ replied_in_words (Reply.Both (record { width = width; height = height })) [] styles.now (words layouts.old working.old unclaimed.old tally.old state.old answer.old) }
 {
     oof_c::oof_reply_both(
-        width, height, styles, layouts, working, unclaimed, state, answer,
+        width, height, styles, layouts, working, unclaimed, tally, state, answer,
     )
 }
 
@@ -74,12 +76,15 @@ pub extern "C" fn oof_reply_width(
     layouts: &mut [u32],
     working: &mut [u32],
     unclaimed: &mut [u32],
+    tally: &mut [u32],
     state: &mut [u32; STATE_WORDS],
     answer: &mut [u32; ANSWER_WORDS],
 ) -> u32
-    ensures { returned result layouts.new working.new unclaimed.new state.new answer.new ≡ replied_in_words (Reply.Width width) [] styles.now (words layouts.old working.old unclaimed.old state.old answer.old) }
+    ensures { returned result layouts.new working.new unclaimed.new tally.new state.new answer.new ≡ replied_in_words (Reply.Width width) [] styles.now (words layouts.old working.old unclaimed.old tally.old state.old answer.old) }
 {
-    oof_c::oof_reply_width(width, styles, layouts, working, unclaimed, state, answer)
+    oof_c::oof_reply_width(
+        width, styles, layouts, working, unclaimed, tally, state, answer,
+    )
 }
 
 // A height, measured.
@@ -90,12 +95,15 @@ pub extern "C" fn oof_reply_height(
     layouts: &mut [u32],
     working: &mut [u32],
     unclaimed: &mut [u32],
+    tally: &mut [u32],
     state: &mut [u32; STATE_WORDS],
     answer: &mut [u32; ANSWER_WORDS],
 ) -> u32
-    ensures { returned result layouts.new working.new unclaimed.new state.new answer.new ≡ replied_in_words (Reply.Height height) [] styles.now (words layouts.old working.old unclaimed.old state.old answer.old) }
+    ensures { returned result layouts.new working.new unclaimed.new tally.new state.new answer.new ≡ replied_in_words (Reply.Height height) [] styles.now (words layouts.old working.old unclaimed.old tally.old state.old answer.old) }
 {
-    oof_c::oof_reply_height(height, styles, layouts, working, unclaimed, state, answer)
+    oof_c::oof_reply_height(
+        height, styles, layouts, working, unclaimed, tally, state, answer,
+    )
 }
 
 // A box laid out: its scrollable overflow, and the candidates that it surfaced.
@@ -110,13 +118,15 @@ pub extern "C" fn oof_reply_laid_out(
     layouts: &mut [u32],
     working: &mut [u32],
     unclaimed: &mut [u32],
+    tally: &mut [u32],
     state: &mut [u32; STATE_WORDS],
     answer: &mut [u32; ANSWER_WORDS],
 ) -> u32
-    ensures { returned result layouts.new working.new unclaimed.new state.new answer.new ≡ replied_in_words (Reply.LaidOut (record { left = left; right = right; top = top; bottom = bottom })) surfaced.now styles.now (words layouts.old working.old unclaimed.old state.old answer.old) }
+    ensures { returned result layouts.new working.new unclaimed.new tally.new state.new answer.new ≡ replied_in_words (Reply.LaidOut (record { left = left; right = right; top = top; bottom = bottom })) surfaced.now styles.now (words layouts.old working.old unclaimed.old tally.old state.old answer.old) }
 {
     oof_c::oof_reply_laid_out(
-        left, right, top, bottom, surfaced, styles, layouts, working, unclaimed, state, answer,
+        left, right, top, bottom, surfaced, styles, layouts, working, unclaimed, tally, state,
+        answer,
     )
 }
 
@@ -144,7 +154,7 @@ pub extern "C" fn oof_reach(
     state: &[u32; STATE_WORDS],
     verdict: &mut [u32; VERDICT],
 ) -> u32
-    ensures { reach_returned result verdict.new ≡ reach_in_words place (lent styles.now layouts.now working.now unclaimed.now) state.now verdict.old }
+    ensures { reach_returned result verdict.new ≡ reach_in_words place (slices styles.now layouts.now working.now unclaimed.now) state.now verdict.old }
 {
     oof_c::oof_reach(place, styles, layouts, working, unclaimed, state, verdict)
 }
@@ -159,7 +169,7 @@ pub extern "C" fn oof_drawing_order(
     state: &[u32; STATE_WORDS],
     order: &mut [u32],
 ) -> u32
-    ensures { drawing_returned result order.new ≡ drawing_in_words (lent styles.now layouts.now working.now unclaimed.now) state.now order.old }
+    ensures { drawing_returned result order.new ≡ drawing_in_words (slices styles.now layouts.now working.now unclaimed.now) state.now order.old }
 {
     oof_c::oof_drawing_order(styles, layouts, working, unclaimed, state, order)
 }

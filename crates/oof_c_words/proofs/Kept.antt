@@ -26,8 +26,8 @@ use Rattle.oof_box.specs.declared.question.Replies.{Replies}
 use Rattle.oof_box.specs.declared.question.Reply.{Reply}
 use Rattle.oof_box.specs.declared.question.Reply.TheVariants.{LaidOut}
 use Rattle.oof_box.specs.declared.question.Taken.TheVariants.{Kept}
-use Rattle.run.specs.Call.{Lent, Outcome}
-use Rattle.run.specs.Refusals.{accepted, ragged, bad_table, bad_list, bad_slices, other_lengths, list_full, lent_by, wrong_counts}
+use Rattle.run.specs.Call.{Lent, Outcome, slices_of}
+use Rattle.run.specs.Refusals.{accepted, ragged, bad_table, bad_list, bad_slices, other_lengths, bad_tally, other_extents, list_full, lent_by, wrong_counts}
 use Rattle.run.specs.Run.{asking, finishing, proceeding, claims_of, none_filled, opening_verdict, closed, begun, opened, box_at_hand, taken_by, reply_verdict, measured_on, laid_out, replied}
 use Rattle.run.specs.Theorems.{Asked, asked_at_opening, asked_with}
 use Rattle.run.specs.declared.Counts.{Counts}
@@ -57,51 +57,64 @@ record Small (l : Lent) : Type 0 where
   layouts : InAWord (length l.layouts)
   working : length l.working / candidate_width ≤ 4096
   unclaimed : length l.unclaimed / candidate_width ≤ 4096
+  tally : InAWord (length l.tally)
 
-small : (l : Lent) → bad_slices l ≡ false → Small l
+small : (l : Lent) → bad_slices (slices_of l) || bad_tally l ≡ false → Small l
 unfolding bad_slices bad_table items
 small l e =
-    let lists = or_parts (bad_table l.styles l.layouts || bad_list l.working) (bad_list l.unclaimed) e in
+    let slices = or_parts (bad_slices (slices_of l)) (bad_tally l) e in
+    let lists = or_parts (bad_table l.styles l.layouts || bad_list l.working) (bad_list l.unclaimed) slices.0 in
     let first = or_parts (bad_table l.styles l.layouts) (bad_list l.working) lists.0 in
     let laid = or_parts (ragged style_words l.styles || ltb 1024 (items l.styles)) (not (eqb (length l.layouts) (layout_width * items l.styles))) first.0 in
     let few = ltb-false 1024 (items l.styles) (or_parts (ragged style_words l.styles) (ltb 1024 (items l.styles)) laid.0).1 in
     let same = eqb-true (length l.layouts) (layout_width * items l.styles) (not-false _ laid.1) in
+    let each = eqb-true (length l.tally) (items l.styles) (not-false _ slices.1) in
     record {
       styles = items_in_a_word (length l.styles) few;
       layouts = omega (arith, same, few);
       working = few_records l.working first.1;
       unclaimed = few_records l.unclaimed lists.1;
+      tally = omega (arith, each, few);
     }
 
 -- a state's lengths are those lent
-same_lengths : (e : Extents) (l : Lent) → other_lengths e l ≡ false
-    → (length l.styles ≡ e.styles) × (length l.layouts ≡ e.layouts) × (length l.working ≡ e.working) × (length l.unclaimed ≡ e.unclaimed)
+record Same (e : Extents) (l : Lent) : Type 0 where
+  styles : length l.styles ≡ e.styles
+  layouts : length l.layouts ≡ e.layouts
+  working : length l.working ≡ e.working
+  unclaimed : length l.unclaimed ≡ e.unclaimed
+  tally : length l.tally ≡ e.tally
+
+same_lengths : (e : Extents) (l : Lent) → other_extents e l ≡ false → Same e l
 unfolding other_lengths
 same_lengths e l f =
-    let last = or_parts (not (eqb (length l.styles) e.styles) || not (eqb (length l.layouts) e.layouts) || not (eqb (length l.working) e.working)) (not (eqb (length l.unclaimed) e.unclaimed)) f in
+    let each = or_parts (other_lengths e (slices_of l)) (not (eqb (length l.tally) e.tally)) f in
+    let last = or_parts (not (eqb (length l.styles) e.styles) || not (eqb (length l.layouts) e.layouts) || not (eqb (length l.working) e.working)) (not (eqb (length l.unclaimed) e.unclaimed)) each.0 in
     let third = or_parts (not (eqb (length l.styles) e.styles) || not (eqb (length l.layouts) e.layouts)) (not (eqb (length l.working) e.working)) last.0 in
-    let second = or_parts (not (eqb (length l.styles) e.styles)) (not (eqb (length l.layouts) e.layouts)) third.0 in (
-      eqb-true (length l.styles) e.styles (not-false _ second.0),
-      eqb-true (length l.layouts) e.layouts (not-false _ second.1),
-      eqb-true (length l.working) e.working (not-false _ third.1),
-      eqb-true (length l.unclaimed) e.unclaimed (not-false _ last.1),
-    )
+    let second = or_parts (not (eqb (length l.styles) e.styles)) (not (eqb (length l.layouts) e.layouts)) third.0 in
+    record {
+      styles = eqb-true (length l.styles) e.styles (not-false _ second.0);
+      layouts = eqb-true (length l.layouts) e.layouts (not-false _ second.1);
+      working = eqb-true (length l.working) e.working (not-false _ third.1);
+      unclaimed = eqb-true (length l.unclaimed) e.unclaimed (not-false _ last.1);
+      tally = eqb-true (length l.tally) e.tally (not-false _ each.1);
+    }
 
 record Lengths (e : Extents) : Type 0 where
   styles : InAWord e.styles
   layouts : InAWord e.layouts
   working : InAWord e.working
   unclaimed : InAWord e.unclaimed
+  tally : InAWord e.tally
 
-lengths_of_lem : (l : Lent) (e : Extents) → Small l
-    → (length l.styles ≡ e.styles) × (length l.layouts ≡ e.layouts) × (length l.working ≡ e.working) × (length l.unclaimed ≡ e.unclaimed)
-    → Lengths e
+lengths_of_lem : (l : Lent) (e : Extents) → Small l → Same e l → Lengths e
 lengths_of_lem l e n same =
     record {
-      styles = rw same.0 at n.styles;
-      layouts = rw same.1 at n.layouts;
-      working = rw same.2 at (records_in_a_word (length l.working) n.working);
-      unclaimed = rw same.3 at (records_in_a_word (length l.unclaimed) n.unclaimed);
+      styles = rw same.styles at n.styles;
+      layouts = rw same.layouts at n.layouts;
+      working = rw same.working at (records_in_a_word (length l.working) n.working);
+      unclaimed = rw same.unclaimed at (records_in_a_word (length l.unclaimed) n.unclaimed);
+      tally = rw same.tally at n.tally;
     }
 
 -- ---- a state whose floats fit and whose counts are small
@@ -143,6 +156,7 @@ whole_of s f r =
             layouts_lent = r.lengths.layouts;
             working_lent = r.lengths.working;
             unclaimed_lent = r.lengths.unclaimed;
+            tally_lent = r.lengths.tally;
           };
     }
 
@@ -190,13 +204,13 @@ unfolding begun opening_verdict
 begun_whole o candidates l f g e =
     let extent = passed _ _ _ (passed _ _ _ e).1 in
     let full = (passed _ _ _ (passed _ _ _ (passed _ _ _ extent.1).1).1).0 in
-    let n = small l (or_parts (bad_slices l) _ extent.0).0 in
+    let n = small l (or_parts (bad_slices (slices_of l) || bad_tally l) _ extent.0).0 in
     let held = found (claims_of o) l none_filled candidates full in
     proceeding_whole _ _ _ _ _
     (record {
       size = f;
       offset = g;
-      lengths = lengths_of_lem l _ n (refl, refl, refl, refl);
+      lengths = lengths_of_lem l _ n (record { styles = refl; layouts = refl; working = refl; unclaimed = refl; tally = refl });
       working = omega (arith, held.0, n.working);
       unclaimed = omega (arith, held.1, n.unclaimed);
       begun = omega arith;
@@ -218,7 +232,7 @@ past s reply surfaced l e =
     let extent = passed _ _ _ e in
     let answer = passed _ _ _ extent.1 in
     let full = (passed _ _ _ (passed _ _ _ (passed _ _ _ answer.1).1).1).0 in
-    let slices = or_parts (bad_slices l) (other_lengths s.opened.extents l) (or_parts (bad_slices l || other_lengths s.opened.extents l) _ extent.0).0 in
+    let slices = or_parts (bad_slices (slices_of l) || bad_tally l) (other_extents s.opened.extents l) (or_parts (bad_slices (slices_of l) || bad_tally l || other_extents s.opened.extents l) _ extent.0).0 in
     let n = small l slices.0 in
     record {
       lent = n;
@@ -281,7 +295,7 @@ refused_whole l n =
     (record {
       size = (zero_fits, zero_fits);
       offset = (zero_fits, zero_fits);
-      lengths = record { styles = n.styles; layouts = n.layouts; working = n.working; unclaimed = n.unclaimed };
+      lengths = record { styles = n.styles; layouts = n.layouts; working = n.working; unclaimed = n.unclaimed; tally = n.tally };
       working = omega arith;
       unclaimed = omega arith;
       begun = omega arith;

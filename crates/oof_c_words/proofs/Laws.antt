@@ -117,6 +117,7 @@ state_back s f n =
                   layouts = count_back s.opened.extents.layouts n.layouts_lent j;
                   working = count_back s.opened.extents.working n.working_lent j;
                   unclaimed = count_back s.opened.extents.unclaimed n.unclaimed_lent j;
+                  tally = count_back s.opened.extents.tally n.tally_lent j;
                 };
           };
     }
@@ -155,7 +156,7 @@ refused_opening_closes o candidates styles before h = go (opening_way o candidat
   where
     go : OpeningWay o candidates (lent_in styles before)
         → (opened_in_words o candidates styles before).words
-        ≡ words before.layouts before.working before.unclaimed (state_words (closed (lent_in styles before))) before.answer
+        ≡ words before.layouts before.working before.unclaimed before.tally (state_words (closed (lent_in styles before))) before.answer
     go (OpeningWay.turned_down r e) = ap (λ (left : Outcome). (in_words left (state_words left.step.state) before.answer).words) e
     go (begins v e) = absurd (h (zero_of e (begun_accepts o candidates (lent_in styles before))))
 

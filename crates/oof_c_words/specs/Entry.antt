@@ -18,12 +18,13 @@ pub record Words : Type 0 where
   pub layouts : List ℕ
   pub working : List ℕ
   pub unclaimed : List ℕ
+  pub tally : List ℕ
   pub state : List ℕ
   pub answer : List ℕ
 
-abbrev pub words : List ℕ → List ℕ → List ℕ → List ℕ → List ℕ → Words
-words layouts working unclaimed state answer =
-    record { layouts = layouts; working = working; unclaimed = unclaimed; state = state; answer = answer }
+abbrev pub words : List ℕ → List ℕ → List ℕ → List ℕ → List ℕ → List ℕ → Words
+words layouts working unclaimed tally state answer =
+    record { layouts = layouts; working = working; unclaimed = unclaimed; tally = tally; state = state; answer = answer }
 
 pub record Returned : Type 0 where
   pub result : ℕ
@@ -32,7 +33,7 @@ pub record Returned : Type 0 where
 -- the slices that every call is lent
 abbrev pub lent_in : List ℕ → Words → Lent
 lent_in styles before =
-    record { styles = styles; layouts = before.layouts; working = before.working; unclaimed = before.unclaimed }
+    record { styles = styles; layouts = before.layouts; working = before.working; unclaimed = before.unclaimed; tally = before.tally }
 
 -- 0, or the number of the refusal
 unfoldable pub result_of : Result Answer Refusal → ℕ
@@ -59,7 +60,7 @@ abbrev pub in_words : Outcome → List ℕ → List ℕ → Returned
 in_words left state shown =
     record {
       result = result_of left.step.answer;
-      words = words left.layouts left.working left.unclaimed state (answer_left left.step.answer shown);
+      words = words left.layouts left.working left.unclaimed left.tally state (answer_left left.step.answer shown);
     }
 
 -- an opening: the state's words are those of the state that it returns, refused or not
@@ -76,9 +77,9 @@ replied_in_words reply surfaced styles before =
 
 -- ---- as a contract has them: what an entry returns, and the words of the slices that it may write
 
-abbrev pub returned : ℕ → List ℕ → List ℕ → List ℕ → List ℕ → List ℕ → Returned
-returned result layouts working unclaimed state answer =
-    record { result = result; words = words layouts working unclaimed state answer }
+abbrev pub returned : ℕ → List ℕ → List ℕ → List ℕ → List ℕ → List ℕ → List ℕ → Returned
+returned result layouts working unclaimed tally state answer =
+    record { result = result; words = words layouts working unclaimed tally state answer }
 
 -- an area's width, height, x and y, then the codes of an opening
 abbrev pub opening_of : Float → Float → Float → Float → ℕ → ℕ → ℕ → ℕ → Opening

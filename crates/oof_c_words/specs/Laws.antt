@@ -42,13 +42,14 @@ pub record Counted (s : State) : Type 0 where
   pub layouts_lent : InAWord s.opened.extents.layouts
   pub working_lent : InAWord s.opened.extents.working
   pub unclaimed_lent : InAWord s.opened.extents.unclaimed
+  pub tally_lent : InAWord s.opened.extents.tally
 
 abbrev pub StateBack : Type 0
 StateBack = (s : State) → Floats s → Counted s → state_of (state_words s) ≡ s
 
--- 27 zeros are a finished run with all counts 0, opened over nothing
+-- 28 zeros are a finished run with all counts 0, opened over nothing
 abbrev pub ZeroState : Type 0
-ZeroState = state_of (replicate 27 0) ≡ closed (record { styles = []; layouts = []; working = []; unclaimed = [] })
+ZeroState = state_of (replicate 28 0) ≡ closed (record { styles = []; layouts = []; working = []; unclaimed = []; tally = [] })
 
 -- ---- a call of a run whose result isn't 0 writes no lent word
 
@@ -58,7 +59,7 @@ RefusedOpeningCloses =
     (o : Opening) (candidates styles : List ℕ) (before : Words)
     → ((opened_in_words o candidates styles before).result ≡ 0 → ⊥)
     → (opened_in_words o candidates styles before).words
-    ≡ words before.layouts before.working before.unclaimed (state_words (closed (lent_in styles before))) before.answer
+    ≡ words before.layouts before.working before.unclaimed before.tally (state_words (closed (lent_in styles before))) before.answer
 
 -- so no reply is taken after it, whatever is lent with one
 abbrev pub NoReplyAfterRefusedOpening : Type 0
@@ -91,6 +92,7 @@ pub record Short (lent : Lent) : Type 0 where
   pub layouts : InAWord (length lent.layouts)
   pub working : InAWord (length lent.working)
   pub unclaimed : InAWord (length lent.unclaimed)
+  pub tally : InAWord (length lent.tally)
 
 -- an opening whose floats are f32s and whose lengths a state's words can keep: an accepted one's always are such
 pub record Keeps (o : Opening) (candidates styles : List ℕ) (before : Words) : Type 0 where
@@ -122,7 +124,7 @@ pub record Made : Type 0 where
 -- lent these words of the state, it leaves those
 unfoldable pub state_after : List ℕ → Made → List ℕ
 state_after state c =
-    (replied_in_words c.reply c.surfaced c.lent.styles (words c.lent.layouts c.lent.working c.lent.unclaimed state c.answer)).words.state
+    (replied_in_words c.reply c.surfaced c.lent.styles (words c.lent.layouts c.lent.working c.lent.unclaimed c.lent.tally state c.answer)).words.state
 
 -- as the theorems of run/specs/Theorems.antt have it
 abbrev pub call : Made → Call

@@ -1,4 +1,4 @@
--- The state of a run in 27 words (document 01, "The dialogue": a small state by value). Read `state_of` and `state_words`, the last of each part, as
+-- The state of a run in 28 words (document 01, "The dialogue": a small state by value). Read `state_of` and `state_words`, the last of each part, as
 -- one table. Assumes nothing.
 use Rattle.std.specs.Prelude.{ℕ, ◌%◌, cond, List, [], ◌∷◌, ◌++◌, eqb, get_or, Float, Option, None, Some, unwrap_or}
 use Rattle.std.specs.Float.Ieee.{to_bits}
@@ -117,7 +117,7 @@ opening_in w =
     record { area = area_of w 15; direction = at w 19; claims = at w 20; overflowx = at w 21; overflowy = at w 22 }
 
 unfoldable pub extents_in : List ℕ → Extents
-extents_in w = record { styles = at w 23; layouts = at w 24; working = at w 25; unclaimed = at w 26 }
+extents_in w = record { styles = at w 23; layouts = at w 24; working = at w 25; unclaimed = at w 26; tally = at w 27 }
 
 unfoldable pub opened_in : List ℕ → Opened
 opened_in w = record { container = container_of (opening_in w); claims = claims_of (opening_in w); extents = extents_in w }
@@ -157,9 +157,9 @@ opening_codes run =
     ∷ overflow_code run.container.overflow.y
     ∷ []
 
--- 23 to 26
+-- 23 to 27
 abbrev pub extents_words : Extents → List ℕ
-extents_words e = count_word e.styles ∷ count_word e.layouts ∷ count_word e.working ∷ count_word e.unclaimed ∷ []
+extents_words e = count_word e.styles ∷ count_word e.layouts ∷ count_word e.working ∷ count_word e.unclaimed ∷ count_word e.tally ∷ []
 
 unfoldable pub state_words : State → List ℕ
 state_words s =

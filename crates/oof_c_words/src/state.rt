@@ -1,4 +1,4 @@
-// The state of a run in 27 lent words, by the table of specs/StateWords.antt.
+// The state of a run in 28 lent words, by the table of specs/StateWords.antt.
 ghost use Rattle.std.specs.Prelude.{◌≡◌};
 ghost use Rattle.oof_c_words.specs.StateWords.{count_word, progress_of, progress_code, keyword_reply_of, keyword_kind, keyword_width, keyword_height, fill_reply_of, fill_kind, replies_in, counts_in, overflow_in, opening_in, claims_code, extents_in, opened_in, opening_codes, state_of, state_words};
 
@@ -12,7 +12,7 @@ use tree::layout::OofPositioningArea;
 use tree_record::layout;
 use util::bits;
 
-pub const STATE_WORDS: usize = 27;
+pub const STATE_WORDS: usize = 28;
 
 // ---- codes and counts
 
@@ -110,7 +110,7 @@ fn fill_reply_of(kind: u32, width: f32, height: f32) -> Option<Size<f32>>
 
 // ---- reading
 
-// Word by word, here and below: the C interface's 27 words, each at its place in the table, and no `From`, since neither type is this crate's.
+// Word by word, here and below: the C interface's 28 words, each at its place in the table, and no `From`, since neither type is this crate's.
 #[tactic(auto, unfolding(crate::specs::StateWords::replies_in))]
 fn replies_in(w: &[u32; STATE_WORDS]) -> Replies
     ensures { result ≡ replies_in w.now }
@@ -175,6 +175,7 @@ fn extents_in(w: &[u32; STATE_WORDS]) -> Extents
         layouts: w[24] as usize,
         working: w[25] as usize,
         unclaimed: w[26] as usize,
+        tally: w[27] as usize,
     }
 }
 
@@ -190,7 +191,7 @@ fn opened_in(w: &[u32; STATE_WORDS]) -> Opened
     }
 }
 
-// The state that 27 words mean, whatever they are.
+// The state that 28 words mean, whatever they are.
 #[tactic(auto, unfolding(crate::specs::StateWords::state_of))]
 pub fn state_of(w: &[u32; STATE_WORDS]) -> State
     ensures { result ≡ state_of w.now }
@@ -259,5 +260,6 @@ pub fn state_words(s: State) -> [u32; STATE_WORDS]
         count_word(run.extents.layouts),
         count_word(run.extents.working),
         count_word(run.extents.unclaimed),
+        count_word(run.extents.tally),
     ]
 }

@@ -7,7 +7,7 @@ use mathlib.Core.List.{List, [], ◌∷◌, map, foldl}
 use mathlib.Core.Path.{◌≡◌, refl, sym, ap, ◌∙◌, subst}
 use lib.Dec.{lit≤, eqb}
 use lib.ListN.{length, get_or}
-use borrow.Author.Tests.{eqb-true, not-false, le-ltb, lt-leb}
+use borrow.Author.Tests.{eqb-true, eq-eqb, not-false, le-ltb, lt-leb}
 use Rattle.std.specs.Prelude.{Option, IsOk, None, is_err, Float}
 use Rattle.util.proofs.Floats.{no}
 use Rattle.geometry.specs.declared.Point.{Point}
@@ -33,18 +33,16 @@ use Rattle.run.specs.declared.Opened.{Opened}
 use Rattle.run.specs.declared.Opening.{Opening}
 use Rattle.run.specs.declared.State.{State}
 use Rattle.run.specs.declared.Step.{Step}
-use Rattle.run.specs.Call.{Lent, Outcome}
+use Rattle.run.specs.Call.{Slices, Lent, Outcome, slices_of}
 use Rattle.run.specs.Call as call
 use Rattle.run.specs.Refusals as test
-use Rattle.run.specs.Refusals.{bad_slices, other_lengths, bad_candidate, ragged, lent_by}
+use Rattle.run.specs.Refusals.{bad_slices, other_lengths, bad_tally, other_extents, bad_candidate, ragged, lent_by}
 use Rattle.run.specs.Run.{claims_of, container_of, extents_of, asking, finishing, proceeding, begun, opened, opening_verdict, reply_verdict, measured_on, laid_out, replied}
 use Rattle.run.specs.Straight.{Box}
 use Rattle.run.specs.Theorems.{laid_into, laid_count, laid_so_far, Loan, own, other, Turn, next, next_with, turned, AllLend, called}
-use Rattle.run.proofs.Conditions.{lengths_decided}
-use Rattle.run.proofs.Decides.{Decides}
 use Rattle.run.proofs.Refusals.{refused_in}
 use Rattle.run.proofs.Straight.{straight_run}
-use Rattle.std.proofs.lemmas.Bool.{or_parts}
+use Rattle.std.proofs.lemmas.Bool.{or_parts, or_from}
 use Rattle.run.proofs.Ways.{NextWay, asks, ends, next_way, OpeningWay, begins, turned_down, opening_way, ReplyWay, measures, lays_out, reply_way, passed}
 use Rattle.util_exact.proofs.Exact.{eighths}
 use Rattle.util_exact.proofs.Quarters.{quarters_exact}
@@ -108,9 +106,10 @@ module _ (e : Extents) where
   unfolding reply_verdict other_lengths
   lengths_kept_lem s reply surfaced l d v =
       let extent = passed _ _ _ v in
-      let bad = (or_parts (bad_slices l || other_lengths s.opened.extents l) (ragged candidate_width (lent_by reply surfaced)) extent.0).0 in
-      let others = (or_parts (bad_slices l) (other_lengths s.opened.extents l) bad).1 in
       let x = s.opened.extents in
+      let bad = (or_parts (bad_slices (slices_of l) || bad_tally l || other_extents x l) (ragged candidate_width (lent_by reply surfaced)) extent.0).0 in
+      let extents = (or_parts (bad_slices (slices_of l) || bad_tally l) (other_extents x l) bad).1 in
+      let others = (or_parts (other_lengths x (slices_of l)) (not (eqb (length l.tally) x.tally)) extents).0 in
       let same =
       last_two (eqb (length l.styles) x.styles) (eqb (length l.layouts) x.layouts) (eqb (length l.working) x.working) (eqb (length l.unclaimed) x.unclaimed) others in (
         eqb-true (length l.working) x.working same.0 ∙ ap (λ (e : Extents). e.working) d,
@@ -168,26 +167,36 @@ laid_length ws [] = refl
 laid_length ws (b ∷ bs) =
     laid_length (written ws (layout_width * b.candidate.node) (layout_words b.layout)) bs ∙ written_length ws (layout_width * b.candidate.node) (layout_words b.layout)
 
+-- no slice is of another length than itself
+own_lengths : (lent : Lent) → other_lengths (extents_of lent) (slices_of lent) ≡ false
+unfolding other_lengths
+own_lengths lent = or_from _ _ (or_from _ _ (or_from _ _ (itself (length lent.styles)) (itself (length lent.layouts))) (itself (length lent.working))) (itself (length lent.unclaimed))
+  where
+    itself : (n : ℕ) → not (eqb n n) ≡ false
+    itself n = ap not (eq-eqb n n refl)
+
 -- ---- a finished run
 
 module _ (o : Opening) (candidates : List ℕ) (lent : Lent) (turns : List Turn) where
   abbrev has : Outcome
   has = called o candidates lent turns
 
-  -- its slices
-  abbrev slices : Lent
-  slices = call.lent lent.styles has.layouts has.working has.unclaimed
+  -- what it left, as it would be lent
+  abbrev left : Lent
+  left = call.lent lent.styles has.layouts has.working has.unclaimed has.tally
 
-  lengths_same : extents_of slices ≡ extents_of lent → has.step.state.opened.extents ≡ extents_of lent → other_lengths has.step.state.opened.extents slices ≡ false
-  lengths_same long h = go (other_lengths has.step.state.opened.extents slices) (lengths_decided has.step.state.opened.extents slices)
-    where
-      go : (b : Bool) → Decides b (¬ (extents_of slices ≡ has.step.state.opened.extents)) → b ≡ false
-      go true d = absurd (d.holds refl (long ∙ sym h))
-      go false d = refl
+  abbrev slices : Slices
+  slices = slices_of left
 
-  slices_fine : opening_verdict o candidates lent ≡ test.accepted → bad_slices lent ≡ false
+  lengths_same : extents_of left ≡ extents_of lent → has.step.state.opened.extents ≡ extents_of lent → other_lengths has.step.state.opened.extents slices ≡ false
+  lengths_same long h = ap (λ (e : Extents). other_lengths e slices) (h ∙ sym long) ∙ own_lengths left
+
+  slices_fine : opening_verdict o candidates lent ≡ test.accepted → bad_slices (slices_of lent) ≡ false
   unfolding opening_verdict
-  slices_fine v = (or_parts (bad_slices lent) (ragged candidate_width candidates) (passed _ _ _ (passed _ _ _ v).1).0).0
+  slices_fine v =
+      let extent = (passed _ _ _ (passed _ _ _ v).1).0 in
+      let bad = (or_parts (bad_slices (slices_of lent) || bad_tally lent) (ragged candidate_width candidates) extent).0 in
+      (or_parts (bad_slices (slices_of lent)) (bad_tally lent) bad).0
 
   -- the tests that come before a part's own, `own-test` being what the part itself calls a bad extent
   pub tests_passed : is_err (opened o candidates lent).step.answer ≡ false → AllLend lent.styles (opened o candidates lent) turns
@@ -198,10 +207,10 @@ module _ (o : Opening) (candidates : List ℕ) (lent : Lent) (turns : List Turn)
   unfolding finished_verdict test.◌when◌else◌
   tests_passed accepts lends f good own-test none = go (opening_way o candidates lent)
     where
-      long : extents_of slices ≡ extents_of lent
+      long : extents_of left ≡ extents_of lent
       long =
           let stands = straight_run o candidates lent turns accepts lends in
-          rw (stands.layouts, stands.working, stands.unclaimed, laid_length lent.layouts, appended_length lent.working 0, appended_length lent.unclaimed 0) refl
+          rw (stands.layouts, stands.working, stands.unclaimed, stands.tally_length, laid_length lent.layouts, appended_length lent.working 0, appended_length lent.unclaimed 0) refl
 
       go : OpeningWay o candidates lent → finished_verdict has.step.state slices own-test ≡ test.accepted
       go (turned_down q e) = no (ap refused_in e) accepts
@@ -213,7 +222,7 @@ module _ (o : Opening) (candidates : List ℕ) (lent : Lent) (turns : List Turn)
           let hw = h.working in
           let hu = h.unclaimed in
           rw (
-            same_slices slices lent long ∙ slices_fine v,
+            same_slices left lent long ∙ slices_fine v,
             lengths_same long h.extents,
             none,
             f,

@@ -47,11 +47,11 @@ image_block o candidates lent v =
     let e = ltb-false 1 o.direction (or_parts _ _ (or_parts _ _ (or_parts _ _ (opening_passed o candidates lent v).area).0).0).0 in
     rw (direction_decoded o.direction (omega arith)) refl
 
-module _ (o : Opening) (candidates : List ℕ) (lent : Lent) (layouts working unclaimed : List ℕ) (ms : List Message) (area : QuarterArea o.area) (table : QuarterTable lent.styles)
-    (quarter : QuarterCandidates candidates) (same : extents_of lent ≡ extents_of (image_lent o candidates lent layouts working unclaimed))
+module _ (o : Opening) (candidates : List ℕ) (lent : Lent) (layouts working unclaimed tally : List ℕ) (ms : List Message) (area : QuarterArea o.area) (table : QuarterTable lent.styles)
+    (quarter : QuarterCandidates candidates) (same : extents_of lent ≡ extents_of (image_lent o candidates lent layouts working unclaimed tally))
     (fair : AllFair lent.styles (opened o candidates lent) ms) where
   abbrev lent' : Lent
-  lent' = image_lent o candidates lent layouts working unclaimed
+  lent' = image_lent o candidates lent layouts working unclaimed tally
 
   abbrev image : List ℕ
   image = image_candidates o.area candidates
@@ -63,12 +63,12 @@ module _ (o : Opening) (candidates : List ℕ) (lent : Lent) (layouts working un
   abbrev has' : Outcome
   has' = foldl (image_next lent'.styles) (opened (image_opening o) image lent') ms
 
-  at_opening_lem : Linked (frame o candidates lent layouts working unclaimed) (opened o candidates lent) (opened (image_opening o) image lent')
-  at_opening_lem = opened_linked o candidates lent layouts working unclaimed same area table quarter
+  at_opening_lem : Linked (frame o candidates lent layouts working unclaimed tally) (opened o candidates lent) (opened (image_opening o) image lent')
+  at_opening_lem = opened_linked o candidates lent layouts working unclaimed tally same area table quarter
 
-  pub both : Linked (frame o candidates lent layouts working unclaimed) has has'
+  pub both : Linked (frame o candidates lent layouts working unclaimed tally) has has'
   both =
-      all_replies (frame o candidates lent layouts working unclaimed) (quarter_frame o candidates lent layouts working unclaimed same area table quarter) ms [] at_opening_lem
+      all_replies (frame o candidates lent layouts working unclaimed tally) (quarter_frame o candidates lent layouts working unclaimed tally same area table quarter) ms [] at_opening_lem
       (subst (AllFair lent.styles (opened o candidates lent)) (sym (append-nil ms)) fair)
 
   -- a refused opening leaves no box
@@ -125,8 +125,8 @@ module _ (o : Opening) (candidates : List ℕ) (lent : Lent) (layouts working un
 
 -- slices that have the image's styles
 pub with_image : (lent lent' : Lent) → lent'.styles ≡ image_styles lent.styles
-    → lent' ≡ record { styles = image_styles lent.styles; layouts = lent'.layouts; working = lent'.working; unclaimed = lent'.unclaimed }
-with_image lent lent' image = ap (λ (styles : List ℕ). record { styles = styles; layouts = lent'.layouts; working = lent'.working; unclaimed = lent'.unclaimed }) image
+    → lent' ≡ record { styles = image_styles lent.styles; layouts = lent'.layouts; working = lent'.working; unclaimed = lent'.unclaimed; tally = lent'.tally }
+with_image lent lent' image = ap (λ (styles : List ℕ). record { styles = styles; layouts = lent'.layouts; working = lent'.working; unclaimed = lent'.unclaimed; tally = lent'.tally }) image
 
 pub mirrored_verdict : MirroredVerdict
 mirrored_verdict o candidates lent lent' ms place area table quarter image same fair =
@@ -136,4 +136,4 @@ mirrored_verdict o candidates lent lent' ms place area table quarter image same 
     told_of place lent.styles (foldl (run_next lent.styles) (opened o candidates lent) ms)
     ≡ told_of place lent'.styles (foldl (image_next lent'.styles) (opened (image_opening o) (image_candidates o.area candidates) lent') ms))
     (sym e)
-    (from_opening o candidates lent lent'.layouts lent'.working lent'.unclaimed ms area table quarter (same ∙ ap extents_of e) fair place)
+    (from_opening o candidates lent lent'.layouts lent'.working lent'.unclaimed lent'.tally ms area table quarter (same ∙ ap extents_of e) fair place)

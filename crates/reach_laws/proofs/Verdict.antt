@@ -15,7 +15,7 @@ use Rattle.pixels.specs.Pixels.{all_accepted}
 use Rattle.oof_box.specs.declared.question.Stage.{Stage}
 use Rattle.run.specs.declared.Extents.{Extents}
 use Rattle.run.specs.declared.State.{State}
-use Rattle.run.specs.Call.{Lent, Outcome}
+use Rattle.run.specs.Call.{Slices, Outcome, slices_of}
 use Rattle.run.specs.Refusals as test
 use Rattle.run.specs.Refusals.{Verdict, above_lists}
 use Rattle.run.specs.Run.{extents_of}
@@ -28,7 +28,7 @@ use Rattle.mirror_box.specs.Mirrored.{MirroredLayout, SameRect}
 use Rattle.mirror_run.specs.Image.{image_styles}
 use Rattle.mirror_run.specs.Quarter.{AreaInQuarters}
 use Rattle.mirror_run.specs.Runs.{layout_of_box}
-use Rattle.mirror_run.proofs.Linked.{Frame, Shared, Own, state_of, slices_of, Links, Linked, linked}
+use Rattle.mirror_run.proofs.Linked.{Frame, Shared, Own, state_of, lent_of, Links, Linked, linked}
 use Rattle.mirror_run.proofs.Verdicts.{same_slices, same_others}
 use Rattle.pixels_laws.proofs.Accepted.{exact_accepted}
 use Rattle.pixels_laws.proofs.Box.{LayoutIn}
@@ -85,7 +85,7 @@ answered_alike v v' b b' e f = go v refl ∙ ap (λ (v : Verdict). answered_by v
     go (Err r) e = refl
 
 -- an accepted one is finished
-finished_is : (s : State) (l : Lent) (other : Bool) → finished_verdict s l other ≡ test.accepted → s.progress ≡ None
+finished_is : (s : State) (l : Slices) (other : Bool) → finished_verdict s l other ≡ test.accepted → s.progress ≡ None
 unfolding finished_verdict
 finished_is s l other e =
     let a = passed _ _ _ e in
@@ -97,21 +97,21 @@ finished_is s l other e =
     shut (Some stage) e = no {b = true} refl e
 
 module _ (f : Frame) (s : Shared) (p p' : Own) (links : Links f s p p') where
-  abbrev here : Lent
-  here = slices_of f.styles p
+  abbrev here : Slices
+  here = slices_of (lent_of f.styles p)
 
-  abbrev there : Lent
-  there = slices_of (image_styles f.styles) p'
+  abbrev there : Slices
+  there = slices_of (lent_of (image_styles f.styles) p')
 
-  long : extents_of here ≡ extents_of there
+  long : extents_of (lent_of f.styles p) ≡ extents_of (lent_of (image_styles f.styles) p')
   long = links.lists.lengths ∙ sym links.lists.lengths'
 
   pub verdict_alike : (other : Bool) → finished_verdict (state_of f s p) here other ≡ finished_verdict (state_of f s p') there other
   unfolding finished_verdict
   verdict_alike other =
       rw (
-        same_slices here there long,
-        same_others here there long f.extents,
+        same_slices (lent_of f.styles p) (lent_of (image_styles f.styles) p') long,
+        same_others (lent_of f.styles p) (lent_of (image_styles f.styles) p') long f.extents,
         ap (λ (e : Extents). e.working) long,
         ap (λ (e : Extents). e.unclaimed) long,
         links.lists.good,
@@ -128,4 +128,4 @@ pub told_alike : {f : Frame} {x x' : Outcome} (place : ℕ) → Linked f x x'
 unfolding reached
 told_alike {f} place (linked s p p' links same) h =
     answered_alike _ _ _ _ (verdict_alike f s p p' links (leb s.counts.filled.working place))
-    (λ e. h (finished_is (state_of f s p) (slices_of f.styles p) _ e) (box_is_filled (state_of f s p) (slices_of f.styles p) place e))
+    (λ e. h (finished_is (state_of f s p) (slices_of (lent_of f.styles p)) _ e) (box_is_filled (state_of f s p) (slices_of (lent_of f.styles p)) place e))

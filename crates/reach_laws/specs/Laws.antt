@@ -9,7 +9,7 @@ use Rattle.tree.specs.declared.layout.Layout.{Layout}
 use Rattle.oof_resolve.specs.declared.ContainingBlock.{ContainingBlock}
 use Rattle.pixels.specs.Accepted.{in_eighths}
 use Rattle.run.specs.declared.Opening.{Opening}
-use Rattle.run.specs.Call.{Lent, Outcome, lent}
+use Rattle.run.specs.Call.{Lent, Outcome, slices}
 use Rattle.run.specs.Run.{claims_of, container_of, extents_of, opened}
 use Rattle.run.specs.Theorems.{Turn, AllLend, called, heeded_in}
 use Rattle.mirror_box.specs.Image.{image_container}
@@ -47,7 +47,7 @@ MirroredBox =
 
 -- what is told of a place by the state and the words that a call left
 abbrev pub told_of : ℕ → List ℕ → Outcome → Result (Option Offsets) Refusal
-told_of place styles o = reached place o.step.state (lent styles o.layouts o.working o.unclaimed)
+told_of place styles o = reached place o.step.state (slices styles o.layouts o.working o.unclaimed)
 
 -- seen at the same offsets, or unseen, or refused with the same number, at every place and after every call: before the finish, and after a
 -- refused opening, both are refused

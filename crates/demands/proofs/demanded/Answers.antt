@@ -1,6 +1,7 @@
 -- The check looks for no theorem in a function without a body: each is named here.
-use Rattle.demands.proofs.Demands.{three_questions_each, openings_go_by_the_check, replies_go_by_the_check, equals_straight_run, laid_out_as_asked, mirror_image, mirrored_reach, mirrored_drawing, layers_are_kept, finished_is_drawn, placement_reads_no_layer, quarters_have_edges, quarters_are_answered}
-use Rattle.run.proofs.EachQuestion.{stage_tells_kind}
+use Rattle.demands.proofs.Demands.{three_questions_each, openings_go_by_the_check, replies_go_by_the_check, equals_straight_run, laid_out_as_asked, mirror_image, mirrored_reach, mirrored_drawing, layers_are_kept, finished_is_drawn, placement_reads_no_layer, quarters_have_edges, quarters_are_answered, counts_add_up}
+use Rattle.run.proofs.EachQuestion.{stage_tells_kind, item_is_named}
+use Rattle.run.proofs.Told.{named_item_counts}
 use Rattle.boxlist_print.proofs.Listed.{run_is_listed, only_nine_in_rows}
 use Rattle.demands.proofs.demanded.Goals as goal
 
@@ -9,6 +10,9 @@ returns c =
     record {
       three_questions_each = three_questions_each;
       stage_tells_kind = stage_tells_kind;
+      item_is_named = item_is_named;
+      named_item_counts = named_item_counts;
+      counts_add_up = counts_add_up;
       openings_go_by_the_check = openings_go_by_the_check;
       replies_go_by_the_check = replies_go_by_the_check;
       equals_straight_run = equals_straight_run;

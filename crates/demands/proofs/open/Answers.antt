@@ -6,5 +6,5 @@ use Rattle.demands.proofs.open.Goals as goal
 pub returns : goal.returns
 returns c =
     let a = c.args in
-    opening_demands a.o a.candidates.now (lent a.styles.now a.layouts.now a.working.now a.unclaimed.now)
+    opening_demands a.o a.candidates.now (lent a.styles.now a.layouts.now a.working.now a.unclaimed.now a.tally.now)
     c.open.ensures

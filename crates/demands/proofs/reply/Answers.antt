@@ -6,5 +6,5 @@ use Rattle.demands.proofs.reply.Goals as goal
 pub returns : goal.returns
 returns c =
     let a = c.args in
-    reply_demands a.s a.reply a.surfaced.now (lent a.styles.now a.layouts.now a.working.now a.unclaimed.now)
+    reply_demands a.s a.reply a.surfaced.now (lent a.styles.now a.layouts.now a.working.now a.unclaimed.now a.tally.now)
     c.reply.ensures

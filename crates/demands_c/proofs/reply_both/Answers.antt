@@ -5,12 +5,12 @@ use Rattle.demands_c.proofs.Demands.{reply_demands}
 use Rattle.oof_box.specs.declared.question.Reply.TheVariants.{Both}
 use Rattle.demands_c.proofs.reply_both.Goals as goal
 
--- `l` are the words that the call left: layouts, working, unclaimed, state, answer
+-- `l` are the words that the call left: layouts, working, unclaimed, tally, state, answer
 pub returns : goal.returns
 returns c =
     let a = c.args in
     let k = c.oof_reply_both in
     let l = k.new in
     reply_demands (Both (record { width = a.width; height = a.height })) [] a.styles.now
-    (words a.layouts.now a.working.now a.unclaimed.now a.state.now a.answer.now)
-    {has = record { result = k.result; words = words l.layouts l.working l.unclaimed l.state l.answer }} k.ensures
+    (words a.layouts.now a.working.now a.unclaimed.now a.tally.now a.state.now a.answer.now)
+    {has = record { result = k.result; words = words l.layouts l.working l.unclaimed l.tally l.state l.answer }} k.ensures

@@ -1,4 +1,4 @@
--- The search gives up at a list of 27 words from as many calls: here they are, word by word.
+-- The search gives up at a list of 28 words from as many calls: here they are, word by word.
 use Rattle.std.specs.Prelude.{Float, Option, None, Some, is_some}
 use Rattle.std.specs.Int.{from_bool}
 use mathlib.Core.List.{[], ◌∷◌}
@@ -44,4 +44,5 @@ returns c =
     ∷ c.count_word-6.ensures j
     ∷ c.count_word-7.ensures j
     ∷ c.count_word-8.ensures j
+    ∷ c.count_word-9.ensures j
     ∷ []
