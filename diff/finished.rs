@@ -12,12 +12,14 @@ pub const LAYOUT: usize = 23;
 pub const CANDIDATE: usize = 14;
 pub const WIDTHS: [usize; 4] = [STYLE, LAYOUT, CANDIDATE, CANDIDATE];
 
-/// Words of the state.
+/// Words of the state. That of the tally, which no such part is lent, isn't looked at.
+pub const STATE: usize = 28;
 pub const PROGRESS: usize = 0;
 pub const FILLED: usize = 7;
 pub const BEGUN: usize = 9;
 pub const ANSWERED: usize = 10;
 pub const LENGTHS: usize = 23;
+pub const TALLY: usize = 27;
 
 /// Words of a candidate: its codes and their greatest, of which the layer is the last. Word 0 is the node.
 pub const LAYER: usize = 13;
@@ -26,11 +28,11 @@ pub const CODES: [(usize, u32); 8] = [(2, 4), (5, 2), (6, 2), (7, 2), (10, 2), (
 /// A call: the slices, and the state's words.
 pub trait Finished {
     fn slices(&mut self) -> &mut [Vec<u32>; 4];
-    fn state(&mut self) -> &mut [u32; 27];
+    fn state(&mut self) -> &mut [u32; STATE];
 
     fn record_lengths(&mut self) {
         let lengths = self.slices().each_ref().map(|slice| slice.len() as u32);
-        self.state()[LENGTHS..].copy_from_slice(&lengths);
+        self.state()[LENGTHS..TALLY].copy_from_slice(&lengths);
     }
 
     fn resize(&mut self, slice: usize, records: usize) {
@@ -96,6 +98,14 @@ pub fn other_lengths_recorded<C: Finished>() -> Vec<Change<C>> {
             c.state()[k] = c.state()[k].wrapping_add(r.pick(&[1, u32::MAX]));
         }),
     ]
+}
+
+/// Changes that no such part notices
+pub fn other_tallies<C: Finished>() -> Vec<Change<C>> {
+    vec![("any length of the tally at the opening", |c, r| {
+        let items = (c.slices()[STYLES].len() / WIDTHS[STYLES]) as u32;
+        c.state()[TALLY] = r.pick(&[0, items, items + 1, 1 << 31, u32::MAX]);
+    })]
 }
 
 /// These add 50,000 words or more

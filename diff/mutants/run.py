@@ -1,13 +1,14 @@
 #!/usr/bin/env python3
-"""What the differential runs notice: changes one place of the published Rust, or of the second implementation, at a time, and says whether
-diff/runs notices.
+"""What the differential runs notice: changes one place of the published Rust, of the second implementation or of what says how a tally is kept,
+at a time, and says whether diff/runs notices.
 
-    diff/mutants/run.py [CASES of each profile, 20,000 unless said] [EVERY, 1 unless said] [sums, stretch or a Rust file's name]
+    diff/mutants/run.py [CASES of each profile, 20,000 unless said] [EVERY, 1 unless said] [sums, stretch, tally or a Rust file's name]
 
 Each mutant is a copy of the Rust files with one operator, side, constant or branch changed; or one place of what the Rust does with a sum
 (tag 129): where its calc branch resolves a length, what basis it is given, and how the oracle's tree computes it and reads its words; or a
-wrong reading of the stretch size that the second implementation has by request #106. With a name only the latter two, or only the mutants of
-that file, are made. diff/runs is built against the copy and run; a difference from the library (or a panic) means that it was noticed. What
+wrong reading of the stretch size that the second implementation has by request #106; or a wrong reading of request #107's tally, where the
+oracle counts or where the model of diff/runs says what a call refuses and leaves, damaged calls among them. With a name only one of the latter
+three, or only the mutants of that file, are made. diff/runs is built against the copy and run; a difference from the library (or a panic) means that it was noticed. What
 the two implementations say of each other doesn't count. Survivors are printed: either the change doesn't change what the function says where
 it is compared, or the cases miss it. EVERY takes each EVERYth mutant only. A mutant takes some five seconds.
 """
@@ -117,6 +118,49 @@ STRETCH = [
     # there also where a width is known
     ("second/mod.rs", "item.known[0].unwrap_or(stretch[0])", "stretch[0]"),
 ]
+# of the tally: file of the oracle or of diff/runs, what stands there once and what is put for it
+CALLED_BACK = "self.out.tally[usize::from(node)] += 1;"
+ASKED = "self.out.tally[node as usize] += 1;"
+NEXT = "let next = self.out.working.get(self.out.laid.len() + 1).filter(|_| kind == Kind::LayOut).map(|record| record[0] as usize);"
+OPENED = "None => vec![0; w.tally.len()]"
+ABOVE = "w.tally.iter().any(|&word| u64::from(word) > answered)"
+TALLY = [
+    # by the Rust's calls back and by the second implementation: node 0; the next box; the box's place; measures or layouts alone; once
+    ("run.rs", CALLED_BACK, "self.out.tally[0] += 1;"),
+    ("run.rs", CALLED_BACK, NEXT + "self.out.tally[next.unwrap_or(usize::from(node))] += 1;"),
+    ("run.rs", CALLED_BACK, "let n = self.out.tally.len(); self.out.tally[self.out.laid.len() % n] += 1;"),
+    ("run.rs", CALLED_BACK, "if kind != Kind::LayOut { " + CALLED_BACK + " }"),
+    ("run.rs", CALLED_BACK, "if kind == Kind::LayOut { " + CALLED_BACK + " }"),
+    ("run.rs", CALLED_BACK, "self.out.tally[usize::from(node)] = 1;"),
+    ("second/mod.rs", ASKED, "self.out.tally[0] += 1;"),
+    ("second/mod.rs", ASKED, NEXT + "self.out.tally[next.unwrap_or(node as usize)] += 1;"),
+    ("second/mod.rs", ASKED, "let n = self.out.tally.len(); self.out.tally[self.out.laid.len() % n] += 1;"),
+    ("second/mod.rs", ASKED, "if kind != Kind::LayOut { " + ASKED + " }"),
+    ("second/mod.rs", ASKED, "if kind == Kind::LayOut { " + ASKED + " }"),
+    ("second/mod.rs", ASKED, "self.out.tally[node as usize] = 1;"),
+    # questions asked, not answered; none cleared; those of claimed items alone; only where the run asks something
+    ("side.rs", "w.answer[1] = q.node;", "w.answer[1] = q.node;\nw.tally[q.node as usize] += 1;"),
+    ("side.rs", "w.tally.fill(0);", ""),
+    ("side.rs", "w.tally.fill(0);", "self.run.hoisted.iter().for_each(|&node| w.tally[node as usize] = 0);"),
+    ("side.rs", "w.tally.fill(0);", "if !self.run.questions.is_empty() { w.tally.fill(0) }"),
+    ("model.rs", OPENED, "None => w.tally.clone()"),
+    # cleared by a refused opening; raised by a refused reply; by the node of the question, not of the record as it is
+    ("damage.rs", "before.state = model::closed(w);", "before.state = model::closed(w);\nif expected != 0 { before.tally.fill(0) }"),
+    ("damage.rs", "let (before, expected) = (w.clone(), model::reply(said, w));", "let (mut before, expected) = (w.clone(), model::reply(said, w));\nif expected != 0 { before.tally.iter_mut().for_each(|word| *word ^= 1) }"),
+    ("damage.rs", "model::tally(w, Some(asked))", "{ let _ = asked; model::tally(w, Some(w.answer[1] as usize)) }"),
+    # refusal 6 by no word; by the own word alone; by the others alone; by the sum; by the bound of the count; after the reply; as high as it
+    ("model.rs", ABOVE, "false"),
+    ("model.rs", ABOVE, "w.tally.get(asked_about(w)).is_some_and(|&word| u64::from(word) > answered)"),
+    ("model.rs", ABOVE, "w.tally.iter().enumerate().any(|(item, &word)| item != asked_about(w) && u64::from(word) > answered)"),
+    ("model.rs", ABOVE, "w.tally.iter().map(|&word| u64::from(word)).sum::<u64>() > answered"),
+    ("model.rs", ABOVE, "w.tally.iter().any(|&word| u64::from(word) > 3 * begun)"),
+    ("model.rs", ABOVE, "w.tally.iter().any(|&word| u64::from(word) > answered + 1)"),
+    ("model.rs", ABOVE, "w.tally.iter().any(|&word| u64::from(word) >= answered)"),
+    # refusal 2 where it is short alone, or long alone; its length not kept from the opening
+    ("model.rs", "w.tally.len() != items", "w.tally.len() < items"),
+    ("model.rs", "w.tally.len() != items", "w.tally.len() > items"),
+    ("model.rs", "(0..5).any(", "(0..4).any("),
+]
 SKIP = re.compile(r"^\s*(//|#\[|use |debug_assert|let _ =|\})|debug_assert|cfg\(|must be resolved|fn \w+\(")
 
 
@@ -148,10 +192,10 @@ def mutants(source):
                     yield source / file, i + 1, line.strip(), changed.strip(), "".join(lines[:i] + [changed] + lines[i + 1:])
 
 
-def mutants_of(changes, source, oracle):
-    """The same of a list of changes, of the Rust's files and the oracle's."""
+def mutants_of(changes, *folders):
+    """The same of a list of changes, of files in the first of the folders that has them."""
     for file, old, new in changes:
-        path = oracle / file if (oracle / file).exists() else source / file
+        path = next(folder / file for folder in folders if (folder / file).exists())
         text = path.read_text()
         places = [m.start() for m in re.finditer(re.escape(old), text)]
         assert places, f"{file}: {old} stands nowhere"
@@ -163,7 +207,8 @@ def outcome_of(mutant, cases, env):
     """Builds diff/runs with the mutant in its place, and runs it."""
     path, _, _, _, text = mutant
     build = ["cargo", "build", "--offline", "--locked", "--release", "--quiet", "--config", "profile.release.opt-level=1"]
-    run = [WORK / "cargo/release/runs", cases, "1", "--damaged", "0", "--large", "0", "--sabotaged", "0", "--library-alone"]
+    damaged = cases if WORK / "diff/runs" in path.parents else "0"
+    run = [WORK / "cargo/release/runs", cases, "1", "--damaged", damaged, "--large", "0", "--sabotaged", "0", "--library-alone"]
     kept = path.read_text()
     path.write_text(text)
     try:
@@ -188,9 +233,9 @@ def main():
     env = dict(os.environ, TAFFY_SRC=str(WORK / "src"), CARGO_TARGET_DIR=str(WORK / "cargo"), OOF_LIB=str(library))
     name = sys.argv[3] if len(sys.argv) > 3 else None
     made = [mutant for mutant in mutants(WORK / "src") if name in (None, mutant[0].name)]
-    for changes, of in (("sums", SUMS), ("stretch", STRETCH)):
+    for changes, of in (("sums", SUMS), ("stretch", STRETCH), ("tally", TALLY)):
         if name in (None, changes):
-            made += mutants_of(of, WORK / "src", WORK / "diff/oracle/src")
+            made += mutants_of(of, WORK / "diff/oracle/src", WORK / "diff/runs/src", WORK / "src")
     found = {"noticed": 0, "survived": 0, "does not build": 0}
     for mutant in made[::every]:
         outcome = outcome_of(mutant, cases, env)

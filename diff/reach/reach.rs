@@ -8,10 +8,10 @@ mod finished;
 #[path = "../random.rs"]
 mod random;
 
-use finished::{other_lengths, other_lengths_recorded, too_many, Finished, Kind};
+use finished::{other_lengths, other_lengths_recorded, other_tallies, too_many, Finished, Kind};
 use finished::{
-    ANSWERED, BEGUN, CANDIDATE, CODES, FILLED, LAYER, LAYOUT, LAYOUTS, LENGTHS, PROGRESS, STYLE, STYLES, UNCLAIMED,
-    WIDTHS, WORKING,
+    ANSWERED, BEGUN, CANDIDATE, CODES, FILLED, LAYER, LAYOUT, LAYOUTS, LENGTHS, PROGRESS, STATE, STYLE, STYLES, TALLY,
+    UNCLAIMED, WIDTHS, WORKING,
 };
 use random::Random;
 
@@ -54,7 +54,7 @@ const LARGEST: i64 = 9_999_999;
 struct Call {
     place: usize,
     slices: [Vec<u32>; 4],
-    state: [u32; 27],
+    state: [u32; STATE],
 }
 
 impl Call {
@@ -642,6 +642,9 @@ fn lengths() -> Vec<Named> {
         ("the layouts aren't held against the opening", unrecorded::<LAYOUTS>),
         ("the working list isn't held against the opening", unrecorded::<WORKING>),
         ("the unclaimed list isn't held against the opening", unrecorded::<UNCLAIMED>),
+        tests!("the tally's length at the opening is tested", |c, [a, b, d, e]| {
+            [a || c.state[TALLY] as usize != c.records(STYLES), b, d, e]
+        }),
         tests!("an unfinished run is answered", |c, [a, _, d, e]| [a, above(c, WORKING) || above(c, UNCLAIMED), d, e]),
         tests!("a run at lay out is finished", |c, [a, b, d, e]| [a, b && c.state[PROGRESS] != 5, d, e]),
         tests!("a progress above 5 is unfinished", |c, [a, b, d, e]| [a, b || c.state[PROGRESS] > 5, d, e]),
@@ -978,7 +981,7 @@ const OFFSETS: [(u32, (i64, i64)); 6] =
 fn plain(across: Row, down: Row, direction: u32, offset: (i64, i64)) -> Option<Call> {
     let mut slices = [2, 2, 3, 1].iter().zip(WIDTHS).map(|(n, width)| vec![0x7FC0_0001; n * width]);
     let mut call =
-        Call { place: 0, slices: std::array::from_fn(|_| slices.next().unwrap_or_default()), state: [0; 27] };
+        Call { place: 0, slices: std::array::from_fn(|_| slices.next().unwrap_or_default()), state: [0; STATE] };
     [1, 0].iter().zip(call.slices[WORKING].chunks_exact_mut(CANDIDATE)).for_each(|(&node, record)| {
         record[0] = node;
         CODES.iter().for_each(|&(k, most)| record[k] = most);
@@ -1026,7 +1029,7 @@ impl Finished for Call {
     fn slices(&mut self) -> &mut [Vec<u32>; 4] {
         &mut self.slices
     }
-    fn state(&mut self) -> &mut [u32; 27] {
+    fn state(&mut self) -> &mut [u32; STATE] {
         &mut self.state
     }
 }
@@ -1127,7 +1130,7 @@ fn numbers() -> Vec<Change> {
 }
 
 fn harmless() -> Vec<Change> {
-    vec![
+    let own: Vec<Change> = vec![
         ("none", |_, _| ()),
         ("a progress above 5", |c, r| c.state[PROGRESS] = r.pick(&[6, 7, 256, 1 << 31, u32::MAX])),
         ("any direction", |c, r| c.state[DIRECTION] = r.pick(&[2, 3, 256, 1 << 31, u32::MAX])),
@@ -1192,7 +1195,8 @@ fn harmless() -> Vec<Change> {
             c.state[FILLED] = 4096;
             c.place = r.below(4096);
         }),
-    ]
+    ];
+    [other_tallies(), own].concat()
 }
 
 // ---- random calls
@@ -1240,8 +1244,8 @@ impl Random {
         let filled = 1 + self.below(4);
         let records = [n, n, filled + self.below(3), self.below(3)];
         let slices = std::array::from_fn(|k| self.noise(pool, records[k] * WIDTHS[k]));
-        let mut call = Call { place: self.below(filled as u32), slices, state: [0; 27] };
-        call.state.copy_from_slice(&self.noise(pool, 27));
+        let mut call = Call { place: self.below(filled as u32), slices, state: [0; STATE] };
+        call.state.copy_from_slice(&self.noise(pool, STATE));
         // nodes in some order, each once if there are enough of them, or any
         let (turn, any) = (self.below(n as u32), self.below(2) == 0);
         for (k, record) in call.slices[WORKING].chunks_exact_mut(CANDIDATE).take(filled).enumerate() {
@@ -1292,12 +1296,12 @@ impl Random {
         let good = call.state;
         if self.below(2) == 0 {
             for _ in 0..=self.below(3) {
-                call.state[self.below(27)] = if self.below(2) == 0 { self.word() } else { self.word() % 8 };
+                call.state[self.below(STATE as u32)] = if self.below(2) == 0 { self.word() } else { self.word() % 8 };
             }
             return;
         }
         call.state.fill_with(|| self.word());
-        [PROGRESS..BEGUN, RECTANGLE..DIRECTION, LENGTHS..27].into_iter().for_each(|words| {
+        [PROGRESS..BEGUN, RECTANGLE..DIRECTION, LENGTHS..TALLY].into_iter().for_each(|words| {
             if self.below(2) == 0 {
                 call.state[words.clone()].copy_from_slice(&good[words]);
             }

@@ -35,6 +35,8 @@ mod c {
             working_len: usize,
             unclaimed: *mut u32,
             unclaimed_len: usize,
+            tally: *mut u32,
+            tally_len: usize,
             state: *mut u32,
             answer: *mut u32,
         ) -> u32;
@@ -60,7 +62,8 @@ fn proved(table: &mut [u32], found: &mut [u32; 2]) -> u32 {
 /// The result of an opening without candidates.
 fn open(table: &[u32]) -> u32 {
     let mut layouts = vec![7; table.len() / WORDS * 23];
-    let (mut state, mut answer) = ([7; 27], [7; 10]);
+    let mut tally = vec![7; table.len() / WORDS];
+    let (mut state, mut answer) = ([7; 28], [7; 10]);
     let (mut working, mut unclaimed) = ([0; CANDIDATE], [0; CANDIDATE]);
     unsafe {
         c::oof_open(
@@ -82,6 +85,8 @@ fn open(table: &[u32]) -> u32 {
             CANDIDATE,
             unclaimed.as_mut_ptr(),
             CANDIDATE,
+            tally.as_mut_ptr(),
+            tally.len(),
             state.as_mut_ptr(),
             answer.as_mut_ptr(),
         )

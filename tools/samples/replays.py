@@ -1,15 +1,18 @@
 #!/usr/bin/env python3
 """Writes the runs that hosts/c/replay.c replays, and what it must print (hosts/c/replay.stdin and replay.stdout): runs with surfaced boxes
 by the published Rust or, where request #106 doesn't compare with the Rust, by a second implementation, and damaged calls between them. A
-call is damaged by its reply, by words that the host rewrote, by a state that the host forged, or by several of these.
+call is damaged by its reply, by words that the host rewrote, those of the tally among them, by a state that the host forged, or by several of
+these.
 
     tools/samples/replays.py ORACLE [RUNS]
 
 ORACLE is the program of diff/oracle (`gen`, `answer`); RUNS (70 unless said) is the number of runs of each of its three profiles, taken as
 answers.py says. What the runs must answer and write is `answer`'s, but for the layers, which it hasn't: those of the lists are the
-layers of the candidates and surfaced records that went there, in turn. What a damaged call must answer is worked out here from document
+layers of the candidates and surfaced records that went there, in turn. The tally is counted by the questions' nodes, and is that of `answer`
+where nothing of it was forged. What a damaged call must answer is worked out here from document
 01's table of refusals. A damaged call changes nothing, so that the run goes on after it as if it had not been made. Now and then the count
-of answered questions is forged within its bound: that call is accepted, and the finish has the forged count.
+of answered questions is forged within its bound, or a word of the tally within that count: that call is accepted, and the finish has the
+forged count.
 """
 import pathlib
 import sys
@@ -23,6 +26,8 @@ LENGTH = 3
 LAYER, MOST_LAYER = 13, 255
 HERE = pathlib.Path(__file__).resolve().parents[2] / "hosts" / "c"
 NOWHERE = 0xFFFFFFFF
+# what the tally is full of before a run is opened, as the program has it
+NOISE = 0x5A5A5A5A
 KINDS = {"both": 0, "width": 1, "height": 2, "layout": 3}
 LENGTHS = [{1, 3, 5, 129}] * 8 + [{1, 5, 129}] * 8 + [{1, 3, 5, 11, 15, 27, 35, 43, 59, 75, 129}] * 6
 # tags that are none: the low byte of 1 or of 129, the neighbours of 129, the Rust's own of calc and of fit-content with calc
@@ -85,7 +90,7 @@ def full(records, claims, filled, places):
 
 def extents_bad(run):
     n = run["s"] // STYLE
-    return (run["s"] % STYLE != 0 or n > 1024 or run["l"] != LAYOUT * n or any(run[k] % CANDIDATE or run[k] > CANDIDATE * 4096 for k in "wu"))
+    return (run["s"] % STYLE != 0 or n > 1024 or run["l"] != LAYOUT * n or run["t"] != n or any(run[k] % CANDIDATE or run[k] > CANDIDATE * 4096 for k in "wu"))
 
 
 def opening_refusal(area, styles, candidates, run):
@@ -102,17 +107,17 @@ def opening_refusal(area, styles, candidates, run):
     return 0
 
 
-def counts_bad(counts, run):
+def counts_bad(counts, run, tally):
     working, unclaimed, begun, answered = counts
-    return working > run["w"] // CANDIDATE or unclaimed > run["u"] // CANDIDATE or not 1 <= begun <= working or answered > 3 * begun
+    return max(tally, default=0) > answered or working > run["w"] // CANDIDATE or unclaimed > run["u"] // CANDIDATE or not 1 <= begun <= working or answered > 3 * begun
 
 
-def reply_refusal(state, kind, surfaced, styles, working, run):
+def reply_refusal(state, kind, surfaced, styles, working, tally, run):
     """`state` is the lent one: the open question's kind (None after the finish), the counts, the lengths at the opening."""
     surfaced = surfaced if kind == 3 else []
     if extents_bad(run) or state["lengths"] != lengths(run) or len(surfaced) % CANDIDATE:
         return 2
-    if kind != state["asked"] or counts_bad(state["counts"], run):
+    if kind != state["asked"] or counts_bad(state["counts"], run, tally):
         return 6
     if style_bad(styles):
         return 3
@@ -128,11 +133,11 @@ def reply_refusal(state, kind, surfaced, styles, working, run):
 
 
 def lengths(run):
-    return [run[k] for k in "slwu"]
+    return [run[k] for k in "slwut"]
 
 
 def forged(state, what, n):
-    """As `forge` of the program: n for the progress (1), a count (2 to 5) or a length (6 to 9)."""
+    """As `forge` of the program: n for the progress (1), a count (2 to 5) or a length (6 to 10)."""
     asked, counts, of = state["asked"], list(state["counts"]), list(state["lengths"])
     if what == 1:
         asked = (None, 0, 1, 2, 0, 3)[n]
@@ -184,21 +189,21 @@ class Script:
     def open(self, area, styles, candidates, run):
         self.runs += 1
         self.calls = []
-        self.head = [run["s"], len(candidates), run["l"], run["w"], run["u"], *area, *styles, *candidates]
+        self.head = [run["s"], len(candidates), run["l"], run["w"], run["u"], run["t"], *area, *styles, *candidates]
 
-    def reply(self, kind, values, surfaced, forgery=(0, 0), style=(NOWHERE, 0), listed=(NOWHERE, 0)):
-        self.calls.append([*forgery, *style, *listed, kind, *values, *[0] * (4 - len(values)), len(surfaced), *surfaced])
+    def reply(self, kind, values, surfaced, forgery=(0, 0), style=(NOWHERE, 0), listed=(NOWHERE, 0), tallied=(NOWHERE, 0)):
+        self.calls.append([*forgery, *style, *listed, *tallied, kind, *values, *[0] * (4 - len(values)), len(surfaced), *surfaced])
 
     def say(self, line, counts):
         """An answer, and the counts of the state returned with it."""
         self.output.append(line)
         self.output.append(" ".join(["counts", *map(str, counts)]))
 
-    def close(self, layouts, working, unclaimed):
+    def close(self, layouts, working, unclaimed, tally):
         self.input.append(" ".join(f"{w:x}" for w in self.head))
         self.input.append(f"{len(self.calls):x}")
         self.input.extend(" ".join(f"{w:x}" for w in call) for call in self.calls)
-        for name, list_ in (("layouts", layouts), ("working", working), ("unclaimed", unclaimed)):
+        for name, list_ in (("layouts", layouts), ("working", working), ("unclaimed", unclaimed), ("tally", tally)):
             self.output.append(" ".join([name, *map(shown, list_)]))
 
 
@@ -214,22 +219,27 @@ def layered(area, candidates, answer):
     return lists
 
 
-def replay(script, draw, case, answer):
-    """One run, with damaged calls in between."""
+def rewritten(words, place, word):
+    """As `rewrite` of the program."""
+    return words if place == NOWHERE else words[:place] + [word] + words[place + 1:]
+
+
+def replay(script, draw, of_tally, case, answer):
+    """One run, with damaged calls in between. What is damaged of the tally is drawn from numbers of its own."""
     area = next(words(f[1:]) for f in case if f[0] == "area")
     styles = [w for f in case if f[0] == "style" for w in words(f[1:])]
     candidates = [w for f in case if f[0] == "cand" for w in words(f[1:])]
     final = layered(area, candidates, answer)
     n = len(styles) // STYLE
-    run = {"s": len(styles), "l": LAYOUT * n, "w": len(final["working"]) + CANDIDATE * draw.below(2), "u": len(final["unclaimed"]) + CANDIDATE * draw.below(2)}
+    run = {"s": len(styles), "l": LAYOUT * n, "w": len(final["working"]) + CANDIDATE * draw.below(2), "u": len(final["unclaimed"]) + CANDIDATE * draw.below(2), "t": n}
     script.open(area, styles, candidates, run)
     first = claimed(candidates, area[5])
     state = {"asked": None, "counts": [first, len(candidates) // CANDIDATE - first, min(first, 1), 0], "lengths": lengths(run), "claims": area[5]}
-    counts = state["counts"]
-    mend = (NOWHERE, 0), (NOWHERE, 0)
+    counts, tally, is_forged = state["counts"], [0] * n, False
+    mend, mend_tally = ((NOWHERE, 0), (NOWHERE, 0)), (NOWHERE, 0)
 
     def damage():
-        nonlocal mend
+        nonlocal mend, mend_tally
         asked = state["asked"]
         kind, values, surfaced, forge, style, listed = asked, [draw.below(5)] * 4, [], (0, 0), *mend
         mending, mend = style[0] != NOWHERE or listed[0] != NOWHERE, ((NOWHERE, 0), (NOWHERE, 0))
@@ -255,12 +265,18 @@ def replay(script, draw, case, answer):
             kind, surfaced = 3, ([0, 0, 2] + [0] * 10 + [1] + [0, 0, 3] + [0] * 10 + [MOST_LAYER]) * 2
         if which > 5 or draw.below(3) == 0:
             forge = forgery(draw, state, run)
+        tallied = mend_tally
+        if asked is not None and tallied[0] == NOWHERE and of_tally.below(3) == 0:
+            tallied = of_tally.below(n), of_tally.pick([counts[3] + 1, counts[3] + 1, 0x80000000, 0xFFFFFFFF])
+        elif of_tally.below(8) == 0:
+            forge = of_tally.pick([(10, 0), (10, n - 1), (10, n + 1), (10, 0xFFFFFFFF), (5, max(0, max(tally) - 1))])
         lent = forged(state, *forge)
-        refusal = reply_refusal(lent, kind, surfaced, damaged, working, run)
+        refusal = reply_refusal(lent, kind, surfaced, damaged, working, rewritten(tally, *tallied), run)
         if refusal == 0:
             mend = style, listed
             return
-        script.reply(kind, values, surfaced, forge, style, listed)
+        mend_tally = (NOWHERE, 0) if tallied == mend_tally else (tallied[0], tally[tallied[0]])
+        script.reply(kind, values, surfaced, forge, style, listed, tallied)
         script.say(f"refused {refusal}", lent["counts"])
 
     # questions and replies, in turn
@@ -273,14 +289,19 @@ def replay(script, draw, case, answer):
             damage()
         forge = (0, 0)
         if kind == 3 and draw.below(5) == 0:
-            forge = 5, draw.below(3 * counts[2] + 1)
+            forge, is_forged = (5, max(*tally, draw.below(3 * counts[2] + 1))), True
             drift += forge[1] - counts[3]
             counts[3] = forge[1]
+        tallied, mend_tally = mend_tally, (NOWHERE, 0)
+        if tallied[0] == NOWHERE and of_tally.below(12) == 0:
+            tallied, is_forged = (of_tally.below(n), of_tally.pick([0, counts[3], of_tally.below(counts[3] + 1)])), True
+            tally[tallied[0]] = tallied[1]
         values = words(said[1:])
         surfaced = values[4:] if kind == 3 else [7] * draw.below(3)
-        script.reply(kind, values[:4] if kind == 3 else values, surfaced, forge, *mend)
+        script.reply(kind, values[:4] if kind == 3 else values, surfaced, forge, *mend, tallied)
         mend = (NOWHERE, 0), (NOWHERE, 0)
         counts[3] += 1
+        tally[int(ask[2])] += 1
         if kind == 3:
             more = claimed(surfaced, area[5])
             counts[0] += more
@@ -290,15 +311,16 @@ def replay(script, draw, case, answer):
     state["asked"] = None
     script.say(" ".join(["finish", *map(field, finish[1:5]), str(int(finish[5]) + drift)]), counts)
     damage()
+    assert is_forged or (tally == words(next(f for f in answer if f[0] == "tally")[1:]) and sum(tally) == counts[3])
     layouts = [0] * run["l"]
     for f in answer:
         if f[0] == "layout":
             at = LAYOUT * int(f[1])
             layouts[at:at + LAYOUT] = words(f[2:])
-    script.close(layouts, *(final[k] + [0] * (run[s] - len(final[k])) for k, s in (("working", "w"), ("unclaimed", "u"))))
+    script.close(layouts, *(final[k] + [0] * (run[s] - len(final[k])) for k, s in (("working", "w"), ("unclaimed", "u"))), tally)
 
 
-def refuse_opening(script, draw, case):
+def refuse_opening(script, draw, of_tally, case):
     """An opening with one or two faults, then a reply to what it returned."""
     area = next(words(f[1:]) for f in case if f[0] == "area")
     styles = [w for f in case if f[0] == "style" for w in words(f[1:])]
@@ -306,7 +328,7 @@ def refuse_opening(script, draw, case):
     n = len(styles) // STYLE
     records = len(candidates) // CANDIDATE
     first = claimed(candidates, area[5])
-    run = {"l": LAYOUT * n, "w": CANDIDATE * first, "u": CANDIDATE * (records - first)}
+    run = {"l": LAYOUT * n, "w": CANDIDATE * first, "u": CANDIDATE * (records - first), "t": n}
     for _ in range(1 + draw.below(2)):
         which = draw.below(7)
         if which == 0:
@@ -324,6 +346,8 @@ def refuse_opening(script, draw, case):
             run["w"] -= CANDIDATE
         elif run["u"] > 0:
             run["u"] -= draw.pick([1, CANDIDATE])
+    if of_tally.below(4) == 0:
+        run["t"] += of_tally.pick([-1, 1, n])
     run["s"] = len(styles)
     refusal = opening_refusal(area, styles, candidates, run)
     if refusal == 0:
@@ -334,22 +358,23 @@ def refuse_opening(script, draw, case):
     kind, forge = draw.below(4), draw.pick([(0, 0), (1, 1 + draw.below(5)), (4, 1)])
     lent = forged(state, *forge)
     script.reply(kind, [0] * 4, candidates, forge)
-    script.say(f"refused {reply_refusal(lent, kind, candidates, styles, [], run)}", lent["counts"])
-    script.close([0] * run["l"], [0] * run["w"], [0] * run["u"])
+    tally = [NOISE] * run["t"]
+    script.say(f"refused {reply_refusal(lent, kind, candidates, styles, [], tally, run)}", lent["counts"])
+    script.close([0] * run["l"], [0] * run["w"], [0] * run["u"], tally)
 
 
 def main():
     oracle, runs = sys.argv[1], int(sys.argv[2]) if len(sys.argv) > 2 else 70
-    script, draw = Script(), Draw(20)
+    script, draw, of_tally = Script(), Draw(20), Draw(107)
 
     tally, compared = answers.Tally(), 0
     for seed, profile in enumerate(("quarter", "wild", "typical"), 1):
         cases = answers.cut(answers.run([oracle, "gen", profile, str(seed), str(10 * runs), "6"]))
         found = [(case, out, answers.placed(case, by, out, same)) for case, (by, out, same) in zip(cases, answers.answered(oracle, cases))]
         for case, answer, boxes in answers.chosen(found, runs, lambda f: set().union(*f[2])):
-            replay(script, draw, fields(case[1:]), fields(answer[1:]))
+            replay(script, draw, of_tally, fields(case[1:]), fields(answer[1:]))
             if draw.below(2) == 0:
-                refuse_opening(script, draw, fields(case[1:]))
+                refuse_opening(script, draw, of_tally, fields(case[1:]))
             for kinds in boxes:
                 tally.add(kinds)
             compared += "second" not in set().union(*boxes)

@@ -9,7 +9,7 @@ lays them out, by taffy 0.15.1 or, where request #106 doesn't compare with the R
 runs are taken, as answers.py says, of those that have two items or more, two candidates or more, from 3 to MOST questions, a surfaced
 candidate that is claimed and a candidate that isn't, and that differ in the kinds of their questions. Each list is lent one record more than the run fills,
 and each slice is full of UNUSED words. Neither implementation has layers: those of the lists are the layers of the candidates and surfaced
-records that went there, in turn."""
+records that went there, in turn. The tally of a run is ORACLE's: of the Rust, how often it called back about each item."""
 import re, sys
 
 sys.dont_write_bytecode = True
@@ -60,7 +60,8 @@ def record(case, out):
         answers=chain(map(chain, answers)),
         layouts=chain(flat(layouts.get(i, 23 * [UNUSED]) for i in range(items))),
         working=chain(layered(case, out, 'working', True) + CANDIDATE * [UNUSED]),
-        unclaimed=chain(layered(case, out, 'unclaimed', False) + CANDIDATE * [UNUSED]))
+        unclaimed=chain(layered(case, out, 'unclaimed', False) + CANDIDATE * [UNUSED]),
+        tally=chain(words(of(out, 'tally')[0])))
     return 'record { %s }' % '; '.join('%s = %s' % f for f in fields.items())
 
 def surfaces(case, out):

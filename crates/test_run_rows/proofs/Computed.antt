@@ -5,7 +5,7 @@ use mathlib.Core.Bool.{true}
 use lib.Ieee.{add, sub, mul, div, neg, lt, le, eq, is_nan, sum, round, units, odd, size, span, climb, of_bits, to_bits, of_fields, nan_bits, of_int}
 use Rattle.test_run_rows.specs.Script.{opening_of, both, width, height, laid, known_word, space_word, measure_words, question_words, answer_words, told, plain, same, same_all, lent_to, agrees, all_agree}
 use Rattle.test_run_rows.specs.Runs.{runs}
-use Rattle.test_run_rows.specs.Readings.{px, minus, length_of, lengths, item, sized, box, broken, candidate, on_layer, absolute, fixed, bad_absolute, bad_fixed, over, left, opening_in, opening, reply, surfacing, lending, with_extents, with_counts, at_lay_out, refuses, measures_both, measures_width, measures_height, lays_out, finishes, unwritten, counts, laid_at, never_laid, box_asked, box_end, all, refused_opening, lending57, one_more, opened_box, finished, lengths_kept, twelve, measuring, measured, surfaced_by_kind, limits, unclaimed_only, without_boxes, styles, opened_two, after_one, rewriting, rewriting_unclaimed, candidates, opened_in_two, full_by_one, full, counted, forged, pair, opened_pair, redirected, kept, first, least_by_stretch, least_by_most, least_by_auto, narrow, hundred_by_least, stretch_by_least, measures, claimed_twice, layouts, flat_box, outside, overflows, thirteen, over_words, rewriting_unclaimed_layer, aside, surfacing_two, shifted, layers, in_order, readings}
+use Rattle.test_run_rows.specs.Readings.{px, minus, length_of, lengths, item, sized, box, broken, candidate, on_layer, absolute, fixed, bad_absolute, bad_fixed, over, left, opening_in, opening, reply, surfacing, lending, with_extents, with_counts, at_lay_out, refuses, measures_both, measures_width, measures_height, lays_out, finishes, unwritten, counts, laid_at, never_laid, box_asked, box_end, all, refused_opening, lending57, one_more, opened_box, finished, lengths_kept, twelve, measuring, measured, surfaced_by_kind, limits, unclaimed_only, without_boxes, styles, opened_two, after_one, rewriting, rewriting_unclaimed, candidates, opened_in_two, full_by_one, full, counted, forged, pair, opened_pair, redirected, kept, first, least_by_stretch, least_by_most, least_by_auto, narrow, hundred_by_least, stretch_by_least, measures, claimed_twice, layouts, flat_box, outside, overflows, thirteen, over_words, rewriting_unclaimed_layer, aside, surfacing_two, shifted, layers, with_tally, tallies, refuses_over, adds_up, over_pair, both_items, broken_pair, opened_both, after_first, after_both, opened_by_three, at_count, measured_and_not, measured_first, surfaced_next, surfaced_last, measured_pair, measured_box, measured_twice, redirected_measure, of_tally, in_order, readings}
 use Rattle.util.specs.Order.{zero_of, before, larger, smaller, magnitude}
 use Rattle.util.specs.Maybe.{map_add, map_larger, at_most, at_least, clamped, map_clamped}
 use Rattle.geometry.specs.Geometry.{rect_or_zero, sum_x, sum_y, sums, rect_sum, union_of, smaller_size, definite, both_present, first_size, filled_size, added_size, raised_size, clamped_size, clamped_floats, completed, with_ratio}
@@ -29,9 +29,9 @@ use Rattle.oof_place.specs.Placing.{scrollbar_of, layout_of as layout_of', from_
 use Rattle.oof_box.specs.Box.{keyword_stretch, size_keywords, settled, width_as, height_as, in_turn, by_keywords, keyword_sizes, ignores_ratio, stretch_ratio, widened, heightened, raised_min, stretched, final_size, measured as measured', placed}
 use Rattle.oof_box.specs.Cut.{taken, known_by, stretched_by, size_by, keyword_asked, size_asked, asked_of, asked_after, layout_after}
 use Rattle.run.specs.Refusals.{◌when◌else◌, bad_area, bad_table, bad_list, bad_slices, other_lengths, bad_style, bad_candidate, list_full, wrong_counts}
-use Rattle.run.specs.Run.{box_at_hand, asking, finishing, proceeding, opening_verdict, closed, begun, opened, taken_by, reply_verdict, measured_on, laid_out, replied}
-use Rattle.run.specs.Theorems.{asked_at_opening, asked_with, asked_for_in, next, heeded, hearing, laid_into}
+use Rattle.run.specs.Run.{box_at_hand, asking, finishing, proceeding, opening_verdict, closed, begun, opened, taken_by, reply_verdict, charged, measured_on, laid_out, replied}
+use Rattle.run.specs.Theorems.{asked_at_opening, asked_with, asked_for_in, next, heeded, hearing, items_answered, laid_into}
 
 calls_agree : (all_agree runs ≡ true) × (all readings ≡ true)
-unfolding add sub mul div neg lt le eq is_nan sum round units odd size span climb of_bits to_bits of_fields nan_bits of_int opening_of both width height laid known_word space_word measure_words question_words answer_words told plain same same_all lent_to agrees all_agree runs px minus length_of lengths item sized box broken candidate on_layer absolute fixed bad_absolute bad_fixed over left opening_in opening reply surfacing lending with_extents with_counts at_lay_out refuses measures_both measures_width measures_height lays_out finishes unwritten counts laid_at never_laid box_asked box_end all refused_opening lending57 one_more opened_box finished lengths_kept twelve measuring measured surfaced_by_kind limits unclaimed_only without_boxes styles opened_two after_one rewriting rewriting_unclaimed candidates opened_in_two full_by_one full counted forged pair opened_pair redirected kept first least_by_stretch least_by_most least_by_auto narrow hundred_by_least stretch_by_least measures claimed_twice layouts flat_box outside overflows thirteen over_words rewriting_unclaimed_layer aside surfacing_two shifted layers in_order readings zero_of before larger smaller magnitude map_add map_larger at_most at_least clamped map_clamped rect_or_zero sum_x sum_y sums rect_sum union_of smaller_size definite both_present first_size filled_size added_size raised_size clamped_size clamped_floats completed with_ratio position_code sizing_code overflow_code direction_code safety_code keyword_code bits_code position_of sizing_of overflow_of direction_of safety_of keyword_of alignment_of contain_of self_relative clamped_space clamped_spaces definite_spaces by_tag resolved takes maybe_resolved resolved_rect resolved_size record_at records room written wrong canonical_word canonical_from every breaks good good_records length_field length_kinds code_kinds kind_of items safety_breaks breaks_as breaks_rule breaks' first_from first_broken or_rest checked_from checked length_at rect_at size_at align_at ratio_at overflow_at style_of style_at from_alignment shifted_axis translated edge_code edge_of axis_of candidate_of candidate_words rect_of layout_of layout_words first_candidates candidates_in moved side keep list_words swept propagates reach placed_at contribution by_keyword of_resolved keyword_of' absolute_stretch if_absent keywords_of from_resolved align_in centered_block static_block inset_block start_is_weaker repaired block both_insets stretch_fit stretching stretches is_stretch halves filled_margins margins is_normal align_edge limit kept_within self_aligned static_aligned position_in position placement of_width of_each_axis less_offset horizontal vertical padding_or_border style_size min_size less_margins space_for resolved_box scrollbar_of layout_of' from_origin box_layout keyword_stretch size_keywords settled width_as height_as in_turn by_keywords keyword_sizes ignores_ratio stretch_ratio widened heightened raised_min stretched final_size measured' placed taken known_by stretched_by size_by keyword_asked size_asked asked_of asked_after layout_after ◌when◌else◌ bad_area bad_table bad_list bad_slices other_lengths bad_style bad_candidate list_full wrong_counts box_at_hand asking finishing proceeding opening_verdict closed begun opened taken_by reply_verdict measured_on laid_out replied asked_at_opening asked_with asked_for_in next heeded hearing laid_into
+unfolding add sub mul div neg lt le eq is_nan sum round units odd size span climb of_bits to_bits of_fields nan_bits of_int opening_of both width height laid known_word space_word measure_words question_words answer_words told plain same same_all lent_to agrees all_agree runs px minus length_of lengths item sized box broken candidate on_layer absolute fixed bad_absolute bad_fixed over left opening_in opening reply surfacing lending with_extents with_counts at_lay_out refuses measures_both measures_width measures_height lays_out finishes unwritten counts laid_at never_laid box_asked box_end all refused_opening lending57 one_more opened_box finished lengths_kept twelve measuring measured surfaced_by_kind limits unclaimed_only without_boxes styles opened_two after_one rewriting rewriting_unclaimed candidates opened_in_two full_by_one full counted forged pair opened_pair redirected kept first least_by_stretch least_by_most least_by_auto narrow hundred_by_least stretch_by_least measures claimed_twice layouts flat_box outside overflows thirteen over_words rewriting_unclaimed_layer aside surfacing_two shifted layers with_tally tallies refuses_over adds_up over_pair both_items broken_pair opened_both after_first after_both opened_by_three at_count measured_and_not measured_first surfaced_next surfaced_last measured_pair measured_box measured_twice redirected_measure of_tally in_order readings zero_of before larger smaller magnitude map_add map_larger at_most at_least clamped map_clamped rect_or_zero sum_x sum_y sums rect_sum union_of smaller_size definite both_present first_size filled_size added_size raised_size clamped_size clamped_floats completed with_ratio position_code sizing_code overflow_code direction_code safety_code keyword_code bits_code position_of sizing_of overflow_of direction_of safety_of keyword_of alignment_of contain_of self_relative clamped_space clamped_spaces definite_spaces by_tag resolved takes maybe_resolved resolved_rect resolved_size record_at records room written wrong canonical_word canonical_from every breaks good good_records length_field length_kinds code_kinds kind_of items safety_breaks breaks_as breaks_rule breaks' first_from first_broken or_rest checked_from checked length_at rect_at size_at align_at ratio_at overflow_at style_of style_at from_alignment shifted_axis translated edge_code edge_of axis_of candidate_of candidate_words rect_of layout_of layout_words first_candidates candidates_in moved side keep list_words swept propagates reach placed_at contribution by_keyword of_resolved keyword_of' absolute_stretch if_absent keywords_of from_resolved align_in centered_block static_block inset_block start_is_weaker repaired block both_insets stretch_fit stretching stretches is_stretch halves filled_margins margins is_normal align_edge limit kept_within self_aligned static_aligned position_in position placement of_width of_each_axis less_offset horizontal vertical padding_or_border style_size min_size less_margins space_for resolved_box scrollbar_of layout_of' from_origin box_layout keyword_stretch size_keywords settled width_as height_as in_turn by_keywords keyword_sizes ignores_ratio stretch_ratio widened heightened raised_min stretched final_size measured' placed taken known_by stretched_by size_by keyword_asked size_asked asked_of asked_after layout_after ◌when◌else◌ bad_area bad_table bad_list bad_slices other_lengths bad_style bad_candidate list_full wrong_counts box_at_hand asking finishing proceeding opening_verdict closed begun opened taken_by reply_verdict charged measured_on laid_out replied asked_at_opening asked_with asked_for_in next heeded hearing items_answered laid_into
 calls_agree = (refl, refl)

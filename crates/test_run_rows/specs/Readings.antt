@@ -1,6 +1,6 @@
 -- Inputs that tell the readings of document 01 apart, each with its answer: numbers are those of docs/DECISIONS.md. The area is 100 by 100
 -- at 0, left-to-right, and claims absolute boxes only, unless said. Assumes nothing.
-use Rattle.std.specs.Prelude.{ℕ, zero, suc, ◌+◌, ◌*◌, Bool, true, ◌&&◌, List, [], ◌∷◌, ◌++◌, pos, get_or, replicate, set, Some}
+use Rattle.std.specs.Prelude.{ℕ, zero, suc, ◌+◌, ◌*◌, Bool, true, ◌&&◌, List, [], ◌∷◌, ◌++◌, eqb, pos, get_or, replicate, set, sum, Some}
 use Rattle.std.specs.Float.Ieee.{of_int, to_bits}
 use Rattle.std.specs.Float.{binary32}
 use Rattle.records.specs.Records.{record_at, written}
@@ -71,7 +71,7 @@ bad_absolute = set absolute 5 3
 unfoldable pub bad_fixed : List ℕ
 bad_fixed = set fixed 12 3
 
--- a table of styles, and lists of so many records; all words unused
+-- a table of styles, lists of so many records, and a tally of one word an item; all words unused
 unfoldable pub over : List ℕ → ℕ → ℕ → Lent
 over styles working unclaimed =
     record {
@@ -79,11 +79,12 @@ over styles working unclaimed =
       layouts = replicate (layout_width * items styles) unused;
       working = replicate (candidate_width * working) unused;
       unclaimed = replicate (candidate_width * unclaimed) unused;
+      tally = replicate (items styles) unused;
     }
 
 -- what a call left, with a table of styles
 unfoldable pub left : List ℕ → Outcome → Lent
-left styles o = record { styles = styles; layouts = o.layouts; working = o.working; unclaimed = o.unclaimed }
+left styles o = record { styles = styles; layouts = o.layouts; working = o.working; unclaimed = o.unclaimed; tally = o.tally }
 
 -- ---- calls
 
@@ -120,7 +121,7 @@ with_extents s styles =
           record {
             container = s.opened.container;
             claims = s.opened.claims;
-            extents = record { styles = styles; layouts = e.layouts; working = e.working; unclaimed = e.unclaimed };
+            extents = record { styles = styles; layouts = e.layouts; working = e.working; unclaimed = e.unclaimed; tally = e.tally };
           };
     }
 
@@ -162,7 +163,8 @@ unfoldable pub finishes : List ℕ → Outcome → Bool
 finishes words o = same (answer_words o.step.answer) (4 ∷ words)
 
 unfoldable pub unwritten : Lent → Outcome → Bool
-unwritten lent o = same o.layouts lent.layouts && same o.working lent.working && same o.unclaimed lent.unclaimed
+unwritten lent o =
+    same o.layouts lent.layouts && same o.working lent.working && same o.unclaimed lent.unclaimed && same o.tally lent.tally
 
 unfoldable pub counts : List ℕ → Outcome → Bool
 counts words o =
@@ -196,7 +198,14 @@ refused_opening = opening absolute (over broken 1 1)
 
 -- 57 style words and so many words for layouts
 unfoldable pub lending57 : ℕ → Lent
-lending57 words = record { styles = replicate 57 1; layouts = replicate words unused; working = replicate candidate_width unused; unclaimed = [] }
+lending57 words =
+    record {
+      styles = replicate 57 1;
+      layouts = replicate words unused;
+      working = replicate candidate_width unused;
+      unclaimed = [];
+      tally = [];
+    }
 
 -- one word more than an item has
 unfoldable pub one_more : Lent
@@ -321,14 +330,26 @@ after_one = next box opened_two (surfacing [])
 unfoldable pub rewriting : ℕ → ℕ → Outcome
 rewriting k word =
     reply after_one.step.state
-    (record { styles = box; layouts = after_one.layouts; working = set after_one.working k word; unclaimed = after_one.unclaimed })
+    (record {
+      styles = box;
+      layouts = after_one.layouts;
+      working = set after_one.working k word;
+      unclaimed = after_one.unclaimed;
+      tally = after_one.tally;
+    })
     (surfacing [])
 
 -- all words of its unclaimed list rewritten
 unfoldable pub rewriting_unclaimed : Outcome
 rewriting_unclaimed =
     reply after_one.step.state
-    (record { styles = box; layouts = after_one.layouts; working = after_one.working; unclaimed = replicate candidate_width 99 })
+    (record {
+      styles = box;
+      layouts = after_one.layouts;
+      working = after_one.working;
+      unclaimed = replicate candidate_width 99;
+      tally = after_one.tally;
+    })
     (surfacing [])
 
 unfoldable pub candidates : List Bool
@@ -404,6 +425,7 @@ redirected =
       layouts = opened_pair.layouts;
       working = set opened_pair.working 0 1;
       unclaimed = opened_pair.unclaimed;
+      tally = opened_pair.tally;
     })
     (surfacing [])
 
@@ -506,7 +528,13 @@ payload = 2143289345
 -- lists of so many words, over a broken item
 unfoldable pub over_words : ℕ → ℕ → Lent
 over_words working unclaimed =
-    record { styles = broken; layouts = (over broken 1 1).layouts; working = replicate working 0; unclaimed = replicate unclaimed 0 }
+    record {
+      styles = broken;
+      layouts = (over broken 1 1).layouts;
+      working = replicate working 0;
+      unclaimed = replicate unclaimed 0;
+      tally = (over broken 1 1).tally;
+    }
 
 -- the layer of the unclaimed record rewritten
 unfoldable pub rewriting_unclaimed_layer : ℕ → Outcome
@@ -517,6 +545,7 @@ rewriting_unclaimed_layer layer =
       layouts = after_one.layouts;
       working = after_one.working;
       unclaimed = set after_one.unclaimed layer_word layer;
+      tally = after_one.tally;
     })
     (surfacing [])
 
@@ -565,6 +594,154 @@ layers =
     ∷ same surfacing_two.unclaimed (shifted (on_layer 4 fixed))
     ∷ []
 
+-- ---- request #107: the tally
+
+unfoldable pub with_tally : List ℕ → Lent → Lent
+with_tally tally lent =
+    record { styles = lent.styles; layouts = lent.layouts; working = lent.working; unclaimed = lent.unclaimed; tally = tally }
+
+unfoldable pub tallies : List ℕ → Outcome → Bool
+tallies words o = same o.tally words
+
+-- refused, with such a tally
+unfoldable pub refuses_over : ℕ → List ℕ → Outcome → Bool
+refuses_over number tally o = refuses number o && tallies tally o
+
+-- the words add up to the questions answered
+unfoldable pub adds_up : Outcome → Bool
+adds_up o = eqb (sum o.tally) o.step.state.counts.answered
+
+-- two items and such a tally, with places for two claimed boxes; candidates that name one item each
+unfoldable pub over_pair : List ℕ → Lent
+over_pair tally = with_tally tally (over pair 2 0)
+
+unfoldable pub both_items : List ℕ
+both_items = absolute ++ candidate 1 0 2
+
+unfoldable pub broken_pair : List ℕ
+broken_pair = box ++ broken
+
+unfoldable pub opened_both : Outcome
+opened_both = opening both_items (over_pair (7 ∷ 9 ∷ []))
+
+unfoldable pub after_first : Outcome
+after_first = next pair opened_both (surfacing [])
+
+unfoldable pub after_both : Outcome
+after_both = next pair after_first (surfacing [])
+
+-- three words for two items
+unfoldable pub opened_by_three : Outcome
+opened_by_three = opening both_items (over_pair (7 ∷ 9 ∷ 8 ∷ []))
+
+-- a reply for the first box, lent such a tally, at a forged count of questions answered
+unfoldable pub at_count : ℕ → List ℕ → Outcome
+at_count answered tally =
+    reply (with_counts opened_both.step.state 2 0 1 answered) (with_tally tally (left pair opened_both)) (surfacing [])
+
+-- item 0 is measured and surfaces item 1, which isn't
+unfoldable pub measured_and_not : List ℕ
+measured_and_not = item ++ box
+
+unfoldable pub measured_first : Outcome
+measured_first = next measured_and_not (opening absolute (over measured_and_not 2 0)) (both (px 30) (px 20))
+
+unfoldable pub surfaced_next : Outcome
+surfaced_next = next measured_and_not measured_first (surfacing (candidate 1 0 2))
+
+unfoldable pub surfaced_last : Outcome
+surfaced_last = next measured_and_not surfaced_next (surfacing [])
+
+-- two items that are measured
+unfoldable pub measured_pair : List ℕ
+measured_pair = item ++ item
+
+-- a box measured and laid out
+unfoldable pub measured_box : Outcome → Outcome
+measured_box o = next measured_pair (next measured_pair o (both (px 30) (px 20))) (surfacing [])
+
+-- the second is claimed twice
+unfoldable pub measured_twice : Outcome
+measured_twice = measured_box (measured_box (opening (candidate 1 4 2 ++ candidate 1 5 2) (over measured_pair 2 0)))
+
+-- as `redirected`, where a measure is open
+unfoldable pub redirected_measure : Outcome
+redirected_measure =
+    let o = opening absolute (over measured_pair 1 0) in
+    reply o.step.state
+    (record { styles = measured_pair; layouts = o.layouts; working = set o.working 0 1; unclaimed = o.unclaimed; tally = o.tally })
+    (both (px 30) (px 20))
+
+unfoldable pub of_tally : List Bool
+of_tally =
+    -- a word more or less than the items, or none: of an opening, and of a reply; with the lengths of a refused opening
+    refuses_over 2 (7 ∷ 9 ∷ 8 ∷ []) opened_by_three
+    ∷ refuses_over 2 (7 ∷ []) (opening both_items (over_pair (7 ∷ [])))
+    ∷ refuses 2 (opening both_items (over_pair []))
+    ∷ refuses_over 2 (0 ∷ 0 ∷ 0 ∷ []) (at_count 0 (0 ∷ 0 ∷ 0 ∷ []))
+    ∷ refuses_over 2 (0 ∷ []) (at_count 0 (0 ∷ []))
+    ∷ refuses 2 (at_count 0 [])
+    ∷ refuses 2 (reply opened_by_three.step.state (over_pair (0 ∷ 0 ∷ [])) (surfacing []))
+    ∷ refuses 2 (reply opened_by_three.step.state (over_pair (0 ∷ 0 ∷ 0 ∷ [])) (surfacing []))
+    -- no items: no words, or one
+    ∷ finishes (replicate 5 0) (opening [] (over [] 0 0))
+    ∷ refuses_over 2 (7 ∷ []) (opening [] (with_tally (7 ∷ []) (over [] 0 0)))
+    -- an opening clears every word, whatever it is, and that of an item without a box; also where it finishes at once, without candidates or
+    -- with none claimed
+    ∷ tallies (0 ∷ 0 ∷ []) opened_both
+    ∷ tallies (0 ∷ 0 ∷ []) (opening both_items (over_pair (4294967295 ∷ 4294967295 ∷ [])))
+    ∷ tallies (0 ∷ 0 ∷ []) (opening absolute (over_pair (7 ∷ 9 ∷ [])))
+    ∷ tallies (0 ∷ 0 ∷ []) (opening [] (over_pair (7 ∷ 9 ∷ [])))
+    ∷ tallies (0 ∷ 0 ∷ []) (opening fixed (with_tally (7 ∷ 9 ∷ []) (over pair 0 1)))
+    -- refused, it clears none: 1, 3, 4, 5
+    ∷ refuses_over 1 (7 ∷ 9 ∷ []) (opening_in (px 100) 2 1 0 both_items (over_pair (7 ∷ 9 ∷ [])))
+    ∷ refuses_over 3 (7 ∷ 9 ∷ []) (opening both_items (with_tally (7 ∷ 9 ∷ []) (over broken_pair 2 0)))
+    ∷ refuses_over 4 (7 ∷ 9 ∷ []) (opening bad_absolute (over_pair (7 ∷ 9 ∷ [])))
+    ∷ refuses_over 5 (7 ∷ 9 ∷ []) (opening both_items (with_tally (7 ∷ 9 ∷ []) (over pair 1 0)))
+    -- a lay-out reply counts for the box just laid out, not for the one that is asked next; so does the last one
+    ∷ tallies (1 ∷ 0 ∷ []) after_first
+    ∷ lays_out (1 ∷ px 30 ∷ px 20 ∷ px 100 ∷ px 100 ∷ []) after_first
+    ∷ tallies (1 ∷ 1 ∷ []) after_both
+    ∷ finishes (box_end 2) after_both
+    -- a measure and a lay out are two; then the surfaced box
+    ∷ tallies (1 ∷ 0 ∷ []) measured_first
+    ∷ tallies (2 ∷ 0 ∷ []) surfaced_next
+    ∷ tallies (2 ∷ 1 ∷ []) surfaced_last
+    ∷ finishes (box_end 3) surfaced_last
+    -- an item claimed twice has the questions of both boxes
+    ∷ tallies (0 ∷ 2 ∷ []) (next pair (next pair claimed_twice (surfacing [])) (surfacing []))
+    ∷ tallies (0 ∷ 4 ∷ []) measured_twice
+    -- by the record as it is now, its node rewritten from 0 to 1
+    ∷ tallies (0 ∷ 1 ∷ []) redirected
+    ∷ tallies (0 ∷ 1 ∷ []) redirected_measure
+    -- a refused reply counts for none: 2, 6, 3, 4, 5
+    ∷ refuses_over 2 (1 ∷ 0 ∷ []) (next pair after_first (surfacing twelve))
+    ∷ refuses_over 6 (1 ∷ 0 ∷ []) (next pair after_first (both 0 0))
+    ∷ refuses_over 3 (1 ∷ 0 ∷ []) (next broken_pair after_first (surfacing []))
+    ∷ refuses_over 4 (1 ∷ 0 ∷ []) (next pair after_first (surfacing bad_absolute))
+    ∷ refuses_over 5 (1 ∷ 0 ∷ []) (next pair after_first (surfacing absolute))
+    -- some word above the count before this reply, that of the box at hand or another one; words as high as the count; below it, rewritten
+    ∷ refuses_over 6 (0 ∷ 1 ∷ []) (at_count 0 (0 ∷ 1 ∷ []))
+    ∷ refuses_over 6 (1 ∷ 0 ∷ []) (at_count 0 (1 ∷ 0 ∷ []))
+    ∷ refuses_over 6 (1 ∷ 2 ∷ []) (at_count 1 (1 ∷ 2 ∷ []))
+    ∷ refuses 6 (at_count 3 (0 ∷ 4294967295 ∷ []))
+    ∷ tallies (2 ∷ 1 ∷ []) (at_count 1 (1 ∷ 1 ∷ []))
+    ∷ tallies (4 ∷ 3 ∷ []) (at_count 3 (3 ∷ 3 ∷ []))
+    ∷ tallies (1 ∷ 0 ∷ []) (at_count 3 (0 ∷ 0 ∷ []))
+    -- 1 before 2, 2 before 3, 2 before 6, 6 before 3
+    ∷ refuses 1 (opening_in (px 100) 2 1 0 both_items (over_pair []))
+    ∷ refuses 2 (opening both_items (with_tally (0 ∷ []) (over broken_pair 2 0)))
+    ∷ refuses 2 (reply opened_both.step.state (with_tally (1 ∷ []) (left pair opened_both)) (both 0 0))
+    ∷ refuses 6 (reply opened_both.step.state (with_tally (0 ∷ 1 ∷ []) (left broken_pair opened_both)) (surfacing bad_absolute))
+    -- the words add up, after an opening and after each reply
+    ∷ adds_up opened_both
+    ∷ adds_up after_first
+    ∷ adds_up after_both
+    ∷ adds_up surfaced_last
+    ∷ adds_up measured_twice
+    ∷ adds_up (next pair after_first (surfacing absolute))
+    ∷ []
+
 -- ---- the order of the tests
 
 unfoldable pub in_order : List Bool
@@ -590,4 +767,5 @@ readings =
     surfaced_by_kind ++ lengths_kept ++ limits ++ without_boxes ++ styles ++ candidates ++ full ++ forged ++ kept ++ measures ++ layouts
     ++ overflows
     ++ layers
+    ++ of_tally
     ++ in_order

@@ -93,9 +93,9 @@ answer_words (Ok (Ask q)) = question_words q
 answer_words (Ok (Finish f)) = 4 ∷ (rect_words f.overflow ++ (f.count ∷ []))
 answer_words (Err r) = 5 ∷ number_of r ∷ []
 
--- the answers of an opening and of the replies after it, in turn; then the layouts and both lists, as the last call left them
+-- the answers of an opening and of the replies after it, in turn; then the layouts, both lists and the tally, as the last call left them
 unfoldable pub told : List ℕ → Outcome → List Heard → List (List ℕ)
-told styles o [] = answer_words o.step.answer ∷ o.layouts ∷ o.working ∷ o.unclaimed ∷ []
+told styles o [] = answer_words o.step.answer ∷ o.layouts ∷ o.working ∷ o.unclaimed ∷ o.tally ∷ []
 told styles o (h ∷ hs) = answer_words o.step.answer ∷ told styles (next styles o h) hs
 
 -- ---- words that agree: of zeros any sign; a NaN that is written has one word
@@ -117,7 +117,7 @@ same_all (a ∷ xs) (b ∷ ys) = same a b && same_all xs ys
 
 -- ---- a whole run
 
--- the word that lent layouts and lists are full of
+-- the word that lent layouts, lists and tally are full of
 abbrev pub unused : ℕ
 unused = 7
 
@@ -132,6 +132,7 @@ pub record Run : Type 0 where
   pub layouts : List ℕ
   pub working : List ℕ
   pub unclaimed : List ℕ
+  pub tally : List ℕ
 
 unfoldable pub lent_to : Run → Lent
 lent_to r =
@@ -140,12 +141,13 @@ lent_to r =
       layouts = replicate (length r.layouts) unused;
       working = replicate (length r.working) unused;
       unclaimed = replicate (length r.unclaimed) unused;
+      tally = replicate (length r.tally) unused;
     }
 
 unfoldable pub agrees : Run → Bool
 agrees r =
     same_all (told r.styles (opened (opening_of r.opening) r.candidates (lent_to r)) r.replies)
-    (r.answers ++ (r.layouts ∷ r.working ∷ r.unclaimed ∷ []))
+    (r.answers ++ (r.layouts ∷ r.working ∷ r.unclaimed ∷ r.tally ∷ []))
 
 unfoldable pub all_agree : List Run → Bool
 all_agree [] = true

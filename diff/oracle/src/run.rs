@@ -56,6 +56,8 @@ pub struct Laid {
 pub struct Transcript {
     pub questions: Vec<Question>,
     pub replies: Vec<Vec<u32>>,
+    /// By node; how often the Rust called back to measure it or to lay it out, and was answered (request #107)
+    pub tally: Vec<u32>,
     /// Box by box
     pub laid: Vec<Laid>,
     /// By node; the last layout written
@@ -92,7 +94,7 @@ pub fn run(case: &Case, host: &mut dyn Host) -> Result<Transcript, Refused> {
     let styles = case.styles.iter().map(|w| case::style(w, &mut sums)).collect::<Result<Vec<_>, _>>()?;
     let candidates = case.candidates.iter().map(|w| case::candidate(w, n)).collect::<Result<Vec<_>, _>>()?;
     let container = Style { overflow: area.overflow, ..Style::DEFAULT };
-    let out = Transcript { layouts: vec![None; n], ..Default::default() };
+    let out = Transcript { tally: vec![0; n], layouts: vec![None; n], ..Default::default() };
     let (overflow, surfaced) = (Rect::ZERO, OofCandidates::NONE);
     let mut tree = Script { container, styles, sums, area, overflow, surfaced, host, out };
     tree.sweep(&candidates);
@@ -227,6 +229,7 @@ impl LayoutPartialTree for Script<'_> {
             space: [space(input.available_space.width), space(input.available_space.height)],
         };
         let words = self.host.answer(&question);
+        self.out.tally[usize::from(node)] += 1;
         let mut output = LayoutOutput::DEFAULT;
         match kind {
             Kind::Both => output.size = Size { width: float(words[0]), height: float(words[1]) },

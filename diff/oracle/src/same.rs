@@ -42,6 +42,7 @@ pub fn difference(a: &Transcript, b: &Transcript) -> Option<&'static str> {
     let parts = [
         ("questions", all(&a.questions, &b.questions, question)),
         ("replies", a.replies == b.replies),
+        ("the counts by item", a.tally == b.tally),
         ("boxes", all(&a.laid, &b.laid, laid)),
         ("hoisted", a.hoisted == b.hoisted),
         ("working", all(&a.working, &b.working, |a, b| record(a, b))),

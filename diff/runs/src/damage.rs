@@ -2,9 +2,9 @@
 //! is an opening, and an accepted one only its own.
 use crate::model;
 use crate::rng::Rng;
-use crate::side::{question, Difference};
+use crate::side::{adds_up, question, Difference};
 use crate::words::{Library, Said, Words};
-use oof::ffi::state;
+use oof::ffi::{state, STATE};
 use oracle::case::{float, CANDIDATE, LAYER, LAYOUT, LENGTH, LENGTHS, NAN, STYLE, SUM};
 use oracle::gen;
 use oracle::host::{Profile, Random};
@@ -13,8 +13,8 @@ use oracle::run::{Host, Kind};
 /// Where a call is damaged
 #[derive(Copy, Clone, PartialEq, Debug)]
 pub enum Family {
-    /// Of an opening: codes of the area; lengths of slices; words of styles; sums; words of candidates; layers; room; several of
-    /// these
+    /// Of an opening: codes of the area; lengths of slices; words of styles; sums; words of candidates; layers; room; the tally; several
+    /// of these
     OpenCodes,
     OpenLengths,
     OpenStyles,
@@ -22,6 +22,7 @@ pub enum Family {
     OpenCandidates,
     OpenLayers,
     OpenRoom,
+    OpenTally,
     OpenSeveral,
     /// Of a reply: its kind; lengths; rewritten styles; rewritten sums; rewritten working list; surfaced records; layers; several of
     /// these
@@ -38,10 +39,21 @@ pub enum Family {
     StateCounts,
     StateFinished,
     StateWord,
+    /// Of the tally in a reply: its length; the word of the box at hand, just above the count and the highest one; words as high as a
+    /// forged count; another item's word; another slice; its length in the state; and the record of the box at hand with another node,
+    /// which is charged
+    TallyLength,
+    TallyAbove,
+    TallyHighest,
+    TallyForged,
+    TallyOther,
+    TallySwapped,
+    TallyState,
+    TallyNode,
 }
 use Family::*;
 
-pub const FAMILIES: [(Family, &str); 20] = [
+pub const FAMILIES: [(Family, &str); 29] = [
     (OpenCodes, "opening: codes of the area"),
     (OpenLengths, "opening: lengths of slices"),
     (OpenStyles, "opening: words of styles"),
@@ -49,6 +61,7 @@ pub const FAMILIES: [(Family, &str); 20] = [
     (OpenCandidates, "opening: words of candidates"),
     (OpenLayers, "opening: layers"),
     (OpenRoom, "opening: lists just too small"),
+    (OpenTally, "opening: the tally"),
     (OpenSeveral, "opening: several faults"),
     (ReplyKind, "reply: of another kind"),
     (ReplyLengths, "reply: lengths of slices"),
@@ -62,15 +75,45 @@ pub const FAMILIES: [(Family, &str); 20] = [
     (StateCounts, "state: counts"),
     (StateFinished, "state: finished"),
     (StateWord, "state: one word"),
+    (TallyLength, "tally: of another length"),
+    (TallyAbove, "tally: a word one above the count"),
+    (TallyHighest, "tally: the highest word"),
+    (TallyForged, "tally: words as high as a forged count"),
+    (TallyOther, "tally: another item's word"),
+    (TallySwapped, "tally: another slice"),
+    (TallyState, "tally: its length in the state"),
+    (TallyNode, "tally: another node in the record"),
 ];
+
+impl Family {
+    /// What calls of the families of the tally must have answered, if there were enough of them: accepted, or a refusal's number
+    pub fn answers(self) -> &'static [usize] {
+        match self {
+            OpenTally => &[0, 2],
+            TallyLength | TallyState => &[2],
+            TallyAbove | TallyHighest => &[6],
+            TallyForged => &[0],
+            TallyOther | TallySwapped => &[0, 6],
+            TallyNode => &[0, 4],
+            _ => &[],
+        }
+    }
+    /// These damage only a reply to an open question, of a run of two items or more
+    fn is_of_tally(self) -> bool {
+        self != OpenTally && !self.answers().is_empty()
+    }
+}
 
 /// Damaged calls by what they answered: accepted, or a refusal's number
 pub type Answered = [u64; 7];
 
 /// A case's words, its lists with no place to spare or a few
-fn lend(rng: &mut Rng) -> (Words, Random) {
+fn lend(family: Family, rng: &mut Rng) -> (Words, Random) {
     let profile = rng.of(&[Profile::Quarter, Profile::Wild, Profile::Typical]);
-    let (case, host_seed) = gen::case(profile, rng.next(), 0);
+    let (mut case, mut host_seed) = gen::case(profile, rng.next(), 0);
+    while family.is_of_tally() && case.styles.len() < 2 {
+        (case, host_seed) = gen::case(profile, rng.next(), 0);
+    }
     let claimed = model::claimed(&case.candidates.concat(), case.area[5]);
     let spare = rng.below(4) as usize;
     let words = Words::lend(&case, claimed + spare, case.candidates.len() - claimed + spare, rng);
@@ -86,10 +129,18 @@ pub fn one(
     seen: &mut Answered,
     noticed: &mut bool,
 ) -> Result<(), Difference> {
-    let (mut words, mut host) = lend(rng);
+    let (mut words, mut host) = lend(family, rng);
     if matches!(
         family,
-        OpenCodes | OpenLengths | OpenStyles | OpenSums | OpenCandidates | OpenLayers | OpenRoom | OpenSeveral
+        OpenCodes
+            | OpenLengths
+            | OpenStyles
+            | OpenSums
+            | OpenCandidates
+            | OpenLayers
+            | OpenRoom
+            | OpenTally
+            | OpenSeveral
     ) {
         // over noise, or over the state of an open run
         if rng.one_in(2) && Library::default().open(&mut words) != 0 {
@@ -105,6 +156,7 @@ pub fn one(
     if whole.open(&mut words) != 0 {
         return Err("a good opening is refused".to_string());
     }
+    adds_up("an opening", &words)?;
     while let Some(question) = question(&words) {
         damaged_reply(family, question.kind, &words, library, rng, seen, noticed)?;
         let mut said = Said::new(question.kind, &host.answer(&question));
@@ -120,6 +172,10 @@ pub fn one(
                 return Err("a reply with fewer records is refused".to_string());
             }
         }
+        adds_up("a reply", &words)?;
+    }
+    if family.is_of_tally() {
+        return Ok(());
     }
     let kind = rng.of(&KINDS);
     damaged_reply(family, kind, &words, library, rng, seen, noticed)
@@ -134,7 +190,8 @@ fn opening(w: &mut Words, library: &mut Library, seen: &mut Answered, noticed: &
     seen[expected as usize] += 1;
     before.state = model::closed(w); // of a refused one; whatever an accepted one writes there is not compared
     let result = library.open(w);
-    let may = May { node: None, filled: [0, 0], layers: model::layers(&before.candidates, before.area[5]) };
+    let layers = model::layers(&before.candidates, before.area[5]);
+    let may = May { node: None, filled: [0, 0], layers, tally: model::tally(&before, None) };
     let outcome = check("opening", expected, result, &before, w, &may);
     tell(expected, outcome, noticed)
 }
@@ -148,16 +205,15 @@ fn reply(
 ) -> Result<(), Difference> {
     let (before, expected) = (w.clone(), model::reply(said, w));
     seen[expected as usize] += 1;
-    let node = (expected == 0 && said.kind == Kind::LayOut).then(|| {
-        let begun = w.state[state::BEGUN] as usize;
-        w.working[CANDIDATE * (begun - 1)] as usize
-    });
+    let asked = (expected == 0).then(|| model::asked_about(w));
+    let node = asked.filter(|_| said.kind == Kind::LayOut);
     // only an accepted lay out writes records
     let surfaced: &[u32] = if node.is_some() { &said.surfaced } else { &[] };
     let may = May {
         node,
         filled: [state::FILLED_WORKING, state::FILLED_UNCLAIMED].map(|at| w.state[at] as usize),
         layers: model::layers(surfaced, w.state[state::CODES + 1]),
+        tally: asked.map_or(vec![], |asked| model::tally(w, Some(asked))),
     };
     let result = library.reply(said, w);
     let outcome = check(&format!("{said:?}"), expected, result, &before, w, &may);
@@ -173,11 +229,12 @@ fn tell(expected: u32, outcome: Result<(), Difference>, noticed: &mut bool) -> R
 }
 
 /// What an accepted call may write: the layout of the box at hand, and behind the filled records of each list so many as it has
-/// layers for; beside these, state and answer
+/// layers for; the tally, which it leaves so; beside these, state and answer
 struct May {
     node: Option<usize>,
     filled: [usize; 2],
     layers: [Vec<u32>; 2],
+    tally: Vec<u32>,
 }
 
 /// A refused call leaves every word, of an opening but for its state, which `before` has
@@ -198,6 +255,9 @@ fn check(call: &str, expected: u32, result: u32, before: &Words, after: &Words, 
         if layers.iter().any(|&layer| records.next().map(|record| record[LAYER]) != Some(layer)) {
             return Err(format!("{call}: {name} has another layer than {layers:?} from record {filled} on"));
         }
+    }
+    if after.tally != may.tally {
+        return Err(format!("{call}: the tally is {:?}, not {:?}", after.tally, may.tally));
     }
     if let Some(node) = may.node {
         laid_out(call, &after.layouts[LAYOUT * node..][..LAYOUT])?;
@@ -237,12 +297,13 @@ fn damage_opening(family: Family, w: &mut Words, rng: &mut Rng) {
             if rng.one_in(100) {
                 long(w, rng);
             } else {
-                let list = match rng.below(5) {
+                let list = match rng.below(6) {
                     0 => &mut w.styles,
                     1 => &mut w.layouts,
                     2 => &mut w.candidates,
                     3 => &mut w.working,
-                    _ => &mut w.unclaimed,
+                    4 => &mut w.unclaimed,
+                    _ => &mut w.tally,
                 };
                 resize(list, rng);
             }
@@ -263,10 +324,22 @@ fn damage_opening(family: Family, w: &mut Words, rng: &mut Rng) {
             let less = list.len().saturating_sub(CANDIDATE * (1 + rng.below(4) as usize));
             list.truncate(less);
         }
+        OpenTally => match rng.below(4) {
+            0 => w.tally.fill(rng.of(&[0, 1, u32::MAX])),
+            _ => resize_tally(w, rng),
+        },
         _ => {
             for _ in 0..2 + rng.below(2) {
-                let part =
-                    rng.of(&[OpenCodes, OpenLengths, OpenStyles, OpenSums, OpenCandidates, OpenLayers, OpenRoom]);
+                let part = rng.of(&[
+                    OpenCodes,
+                    OpenLengths,
+                    OpenStyles,
+                    OpenSums,
+                    OpenCandidates,
+                    OpenLayers,
+                    OpenRoom,
+                    OpenTally,
+                ]);
                 damage_opening(part, w, rng);
             }
         }
@@ -280,6 +353,7 @@ fn long(w: &mut Words, rng: &mut Rng) {
             let items = 1023 + rng.below(4) as usize;
             w.styles = w.styles[..STYLE.min(w.styles.len())].repeat(items);
             w.layouts.resize(LAYOUT * items, 1);
+            w.tally.resize(items, 1);
         }
         1 => w.working.resize(CANDIDATE * (4095 + rng.below(4) as usize), 1),
         2 => w.unclaimed.resize(CANDIDATE * (4095 + rng.below(4) as usize), 1),
@@ -301,6 +375,14 @@ fn resize(list: &mut Vec<u32>, rng: &mut Rng) {
         2 => list.truncate(list.len().saturating_sub(by)),
         _ => list.resize(list.len() + by, 1),
     }
+}
+
+/// A word less or more, none, as many as another slice has, or twice as many
+fn resize_tally(w: &mut Words, rng: &mut Rng) {
+    let length = w.tally.len();
+    let other = rng.of(&model::lengths(w));
+    let chosen = rng.of(&[0, length.saturating_sub(1), length + 1, length + 2, 2 * length, other]);
+    w.tally.resize(if chosen == length { length + 1 } else { chosen }, 1);
 }
 
 fn rewrite_style(w: &mut Words, rng: &mut Rng) {
@@ -389,17 +471,18 @@ fn damage_reply(family: Family, said: &mut Said, w: &mut Words, rng: &mut Rng) {
     match family {
         ReplyKind => said.kind = KINDS[(said.kind as usize + 1 + rng.below(3) as usize) % 4],
         ReplyLengths => {
-            let which = rng.below(5) as usize;
+            let which = rng.below(6) as usize;
             let list = match which {
                 0 => &mut w.styles,
                 1 => &mut w.layouts,
                 2 => &mut w.working,
                 3 => &mut w.unclaimed,
+                4 => &mut w.tally,
                 _ => &mut said.surfaced,
             };
             resize(list, rng);
             // the state may be made to agree
-            if which < 4 && rng.one_in(4) {
+            if which < 5 && rng.one_in(4) {
                 w.state[state::LENGTHS + which] = list.len() as u32;
             }
         }
@@ -436,6 +519,9 @@ fn damage_reply(family: Family, said: &mut Said, w: &mut Words, rng: &mut Rng) {
                     ReplySurfaced,
                     ReplyLayers,
                     StateCounts,
+                    TallyLength,
+                    TallyAbove,
+                    TallyOther,
                 ]);
                 damage_reply(part, said, w, rng);
             }
@@ -443,7 +529,7 @@ fn damage_reply(family: Family, said: &mut Said, w: &mut Words, rng: &mut Rng) {
         StateRandom => {
             let small = rng.one_in(2);
             let kept = w.state;
-            w.state = [(); 27].map(|_| if small { rng.below(6) } else { rng.code() });
+            w.state = [(); STATE].map(|_| if small { rng.below(6) } else { rng.code() });
             if !rng.one_in(4) {
                 w.state[state::LENGTHS..].copy_from_slice(&kept[state::LENGTHS..]);
             }
@@ -468,18 +554,76 @@ fn damage_reply(family: Family, said: &mut Said, w: &mut Words, rng: &mut Rng) {
         StateFinished => {
             w.state[state::PROGRESS] = rng.of(&[0, 0, 0, 6, 7, 255, 256, 257, 261, 0x1_0005, u32::MAX]);
             if rng.one_in(8) {
-                w.state = [0; 27];
+                w.state = [0; STATE];
             }
             if rng.one_in(8) {
-                for list in [&mut w.styles, &mut w.layouts, &mut w.working, &mut w.unclaimed] {
+                for list in [&mut w.styles, &mut w.layouts, &mut w.working, &mut w.unclaimed, &mut w.tally] {
                     list.clear();
                 }
             }
         }
+        TallyLength | TallyAbove | TallyHighest | TallyForged | TallyOther | TallySwapped | TallyState | TallyNode => {
+            damage_tally(family, w, rng)
+        }
         _ => {
-            let at = rng.below(27) as usize;
+            let at = rng.below(STATE as u32) as usize;
             w.state[at] = if rng.one_in(2) { w.state[at] ^ (1 << rng.below(32)) } else { rng.code() };
         }
+    }
+}
+
+/// Of a reply whose state has a box at hand, in a table with items
+fn damage_tally(family: Family, w: &mut Words, rng: &mut Rng) {
+    let (begun, answered) = (w.state[state::BEGUN], w.state[state::ANSWERED]);
+    let node = CANDIDATE * (begun.max(1) as usize - 1);
+    let (Some(&own), items) = (w.working.get(node), w.tally.len() as u32) else { return };
+    let above = [answered.wrapping_add(1), answered.wrapping_add(2), u32::MAX];
+    match family {
+        TallyLength => {
+            resize_tally(w, rng);
+            // the state may be made to agree
+            if rng.one_in(4) {
+                w.state[state::LENGTHS + 4] = w.tally.len() as u32;
+            }
+        }
+        TallyAbove => rewrite_word(&mut w.tally, own, above[0]),
+        TallyHighest => rewrite_word(&mut w.tally, own, u32::MAX),
+        TallyForged => {
+            let count = rng.below(begun.min(4096) * 3 + 1);
+            w.state[state::ANSWERED] = count;
+            w.tally.fill_with(|| rng.below(count + 1));
+            let highest = if rng.one_in(2) { own } else { rng.below(items.max(1)) };
+            rewrite_word(&mut w.tally, highest, count);
+        }
+        TallyOther => {
+            let other = own.wrapping_add(1 + rng.below(items.max(2) - 1)) % items.max(1);
+            rewrite_word(&mut w.tally, other, rng.of(&[above[0], above[1], above[2], answered, 0]));
+        }
+        TallySwapped => {
+            let lists = [&w.styles, &w.layouts, &w.working, &w.candidates];
+            let words: Vec<u32> = rng.of(&lists).iter().copied().filter(|_| rng.one_in(2)).collect();
+            let fill = rng.of(&[0, answered]);
+            let mut swapped = if rng.one_in(2) { words } else { vec![] };
+            swapped.resize(w.tally.len(), fill);
+            w.tally = swapped;
+        }
+        TallyState => {
+            let length = &mut w.state[state::LENGTHS + 4];
+            *length = if rng.one_in(2) {
+                *length ^ (1 << rng.below(32))
+            } else {
+                length.wrapping_add(rng.of(&[1, 2, u32::MAX]))
+            };
+        }
+        _ => {
+            let other = own.wrapping_add(1 + rng.below(items.max(2) - 1)) % items.max(1);
+            w.working[node] = if rng.one_in(4) { rng.of(&[items, items.wrapping_add(1), u32::MAX]) } else { other };
+        }
+    }
+}
+fn rewrite_word(list: &mut [u32], at: u32, word: u32) {
+    if let Some(place) = list.get_mut(at as usize) {
+        *place = word;
     }
 }
 

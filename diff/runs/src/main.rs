@@ -5,7 +5,8 @@
 //! CASES (20,000 unless said) are run of each profile, CALLS (as many as CASES) are damaged in each family, and 50 large cases
 //! are run. Then one bit of what the library says is flipped in each of 2,000 runs of each profile, and in 200 refused calls of
 //! each family: all must be noticed. The first difference is printed with its case, and the exit status is 1; so it is if no sum
-//! stood in some length, or if too few boxes with a size keyword were compared with the Rust. With --library-alone the second
+//! stood in some length, if too few boxes with a size keyword were compared with the Rust, if no item had several boxes, or if a family of
+//! the tally didn't answer all that it is there for. With --library-alone the second
 //! implementation isn't held to the Rust (diff/mutants changes one of them). With --figures the counts of each part are printed.
 mod answers;
 mod damage;
@@ -203,6 +204,8 @@ fn show(name: &str, seen: &Counted) {
     let Counted { cases, boxes, questions: q, surfaced, unclaimed, words, nans, signs, refused, .. } = seen;
     println!("{name}: {cases} cases, {boxes} boxes, {surfaced} surfaced, {unclaimed} unclaimed, questions {q:?} (both, width, height, lay out)");
     println!("    {words} words compared, {nans} NaNs in layouts, {signs} zeros of another sign; openings refused {:?} (1 to 4)", &refused[1..5]);
+    let Counted { items, shared, .. } = seen;
+    println!("    {items} items with questions, {shared} of them with several boxes");
     let Counted { with_sums, styles, styles_with_sums, sums, .. } = seen;
     println!("    {with_sums} runs by sums: {styles_with_sums} of {styles} styles, in each length {sums:?}");
     let Keywords { compared, closed, alone, other, runs_by_rust, runs_by_second } = seen.keywords;
@@ -249,6 +252,11 @@ fn damaged(o: &Options) -> u64 {
             }
             number += 1;
         }
+        let never: Vec<usize> = family.answers().iter().copied().filter(|&answer| seen[answer] == 0).collect();
+        if o.damaged >= LONG_ENOUGH && !never.is_empty() {
+            println!("NEVER answered {never:?} in {name}");
+            exit(1);
+        }
         if o.figures {
             println!("{name}: accepted {}, refused {:?} (1 to 6)", seen[0], &seen[1..]);
         }
@@ -285,7 +293,7 @@ fn sabotage(o: &Options) -> u64 {
             // how many calls the run damages, and which of them are refused
             let (mut seen, mut noticed) = ([0; 7], false);
             let _ = damage::one(family, &mut Library::default(), &mut rng.clone(), &mut seen, &mut noticed);
-            if seen[0] > 0 {
+            if seen[0] > 0 || seen == [0; 7] {
                 continue; // of an accepted call only the frame is checked
             }
             let wait = Rng::of_case(!o.seed, name, number).below(seen.iter().sum::<u64>() as u32);
@@ -317,6 +325,14 @@ fn keywords_were_compared(o: &Options, name: &str, seen: &Keywords) {
     }
 }
 
+/// Some item had several boxes, whose questions all stand in its word
+fn some_items_had_several_boxes(o: &Options, seen: &Counted) {
+    if o.cases >= LONG_ENOUGH && seen.shared == 0 {
+        println!("NO ITEM had several boxes");
+        exit(1);
+    }
+}
+
 /// A sum stood in every length of a style that a box was placed by
 fn every_length_held_a_sum(o: &Options, seen: &Counted) {
     let none: Vec<usize> = (0..LENGTHS).filter(|&length| seen.sums[length] == 0).collect();
@@ -330,16 +346,19 @@ fn main() {
     let o = options();
     let seen = all_profiles(&o);
     every_length_held_a_sum(&o, &seen);
+    some_items_had_several_boxes(&o, &seen);
     let calls = damaged(&o);
     let flips = sabotage(&o);
     let Keywords { compared, alone, runs_by_rust, runs_by_second, .. } = seen.keywords;
     println!(
-        "diff/runs: seed {}: {} runs agree, {runs_by_rust} with the Rust, {runs_by_second} with the second implementation ({} boxes, {} questions; with a size keyword {compared} boxes with the Rust, {alone} with the second implementation; {} styles with sums, {} sums or more in each length), {calls} damaged calls with document 01's table; {flips} flipped bits, all noticed",
+        "diff/runs: seed {}: {} runs agree, {runs_by_rust} with the Rust, {runs_by_second} with the second implementation ({} boxes, {} questions; with a size keyword {compared} boxes with the Rust, {alone} with the second implementation; {} styles with sums, {} sums or more in each length; {} items with questions, {} of them with several boxes), {calls} damaged calls with document 01's table; {flips} flipped bits, all noticed",
         o.seed,
         seen.cases,
         seen.boxes,
         seen.questions.iter().sum::<u64>(),
         seen.styles_with_sums,
         seen.sums.iter().min().unwrap(),
+        seen.items,
+        seen.shared,
     );
 }

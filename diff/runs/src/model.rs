@@ -34,6 +34,7 @@ const BEGUN: usize = 9;
 const ANSWERED: usize = 10;
 const CLAIMS: usize = 20;
 const LENGTHS: usize = 23;
+const STATE: usize = 28;
 
 /// Opening tests 1, 2, 3, 4, 5 in that order
 pub fn opening(w: &Words) -> u32 {
@@ -57,20 +58,24 @@ pub fn opening(w: &Words) -> u32 {
 }
 
 /// A refused opening returns the state of a finished run with all counts 0; its lengths are those lent
-pub fn closed(w: &Words) -> [u32; 27] {
-    let mut state = [0; 27];
-    for (at, slice) in [&w.styles, &w.layouts, &w.working, &w.unclaimed].into_iter().enumerate() {
-        state[LENGTHS + at] = slice.len() as u32;
+pub fn closed(w: &Words) -> [u32; STATE] {
+    let mut state = [0; STATE];
+    for (at, length) in lengths(w).into_iter().enumerate() {
+        state[LENGTHS + at] = length as u32;
     }
     state
+}
+
+/// Of the slices that a reply must lend as its opening did
+pub fn lengths(w: &Words) -> [usize; 5] {
+    [&w.styles, &w.layouts, &w.working, &w.unclaimed, &w.tally].map(|slice| slice.len())
 }
 
 /// A reply 2, 6, 3, 4, 5
 pub fn reply(said: &Said, w: &Words) -> u32 {
     // a measure reply has only its one or two sizes
     let surfaced: &[u32] = if said.kind == Kind::LayOut { &said.surfaced } else { &[] };
-    let lent = [w.styles.len(), w.layouts.len(), w.working.len(), w.unclaimed.len()];
-    let other = (0..4).any(|i| lent[i] != w.state[LENGTHS + i] as usize);
+    let other = (0..5).any(|i| lengths(w)[i] != w.state[LENGTHS + i] as usize);
     if bad_extents(w) || other || surfaced.len() % CANDIDATE != 0 {
         return 2;
     }
@@ -83,6 +88,8 @@ pub fn reply(said: &Said, w: &Words) -> u32 {
         || begun < 1
         || begun > filled_working as u64
         || answered > 3 * begun
+        // request #107: "a word above the run's own count of questions answered is a wrong reply", before this reply
+        || w.tally.iter().any(|&word| u64::from(word) > answered)
     {
         return 6;
     }
@@ -115,6 +122,8 @@ fn bad_extents(w: &Words) -> bool {
     w.styles.len() % STYLE != 0
         || items > 1024
         || w.layouts.len() != LAYOUT * items
+        // request #107: "a slice that doesn't hold n words is a bad extent"
+        || w.tally.len() != items
         || [&w.working, &w.unclaimed].iter().any(|list| list.len() % CANDIDATE != 0 || list.len() / CANDIDATE > 4096)
 }
 
@@ -152,6 +161,19 @@ fn bad_candidates(records: &[u32], items: usize) -> bool {
             || [5, 6, 7, 10, 11, 12].iter().any(|&at| w[at] > 2)
             || w[LAYER] > 255
     })
+}
+
+/// Request #107: the tally that a call leaves which is accepted, a reply to the question about this item, or an opening
+pub fn tally(w: &Words, asked: Option<usize>) -> Vec<u32> {
+    match asked {
+        Some(node) => w.tally.iter().enumerate().map(|(item, &word)| word + u32::from(item == node)).collect(),
+        None => vec![0; w.tally.len()],
+    }
+}
+
+/// The item of the box at hand, the last one begun, as its record says
+pub fn asked_about(w: &Words) -> usize {
+    w.working[CANDIDATE * (w.state[BEGUN] as usize - 1) + NODE] as usize
 }
 
 fn is_claimed(w: &[u32], claims: u32) -> bool {

@@ -5,7 +5,7 @@ use crate::model;
 use crate::rng::Rng;
 use crate::typed;
 use crate::words::{Library, Said, Words};
-use oof::ffi::state;
+use oof::ffi::{state, STATE};
 use oracle::case::{at::SIZE, bits, float, Case, CANDIDATE, LAYER, LAYOUT, LENGTH, LENGTHS, STYLE, SUM};
 use oracle::host::Profile;
 use oracle::run::{Host, Kind, Question, Space, Transcript};
@@ -22,6 +22,9 @@ pub struct Counted {
     pub questions: [u64; 4],
     pub surfaced: u64,
     pub unclaimed: u64,
+    /// Items with a question, and those of them that had several boxes
+    pub items: u64,
+    pub shared: u64,
     /// Words compared, those of them that are NaN, and zeros of another sign
     pub words: u64,
     pub nans: u64,
@@ -45,6 +48,13 @@ impl Counted {
         }
         self.with_sums += u64::from(self.styles_with_sums > before);
     }
+    /// The tally of a run
+    fn tally(&mut self, run: &Transcript) {
+        for (node, _) in run.tally.iter().enumerate().filter(|&(_, &count)| count > 0) {
+            self.items += 1;
+            self.shared += u64::from(run.hoisted.iter().filter(|&&hoisted| hoisted as usize == node).count() > 1);
+        }
+    }
 }
 impl AddAssign<&Counted> for Counted {
     fn add_assign(&mut self, o: &Counted) {
@@ -52,6 +62,8 @@ impl AddAssign<&Counted> for Counted {
         self.boxes += o.boxes;
         self.surfaced += o.surfaced;
         self.unclaimed += o.unclaimed;
+        self.items += o.items;
+        self.shared += o.shared;
         self.words += o.words;
         self.nans += o.nans;
         self.signs += o.signs;
@@ -106,6 +118,7 @@ pub fn compare(
     let mut side = Side { run, layers: Default::default(), laid: 0, first: true };
     side.opened(&mut wanted);
     hold("opening", &words, &wanted, seen)?;
+    adds_up("opening", &words)?;
 
     let mut host = setting.host(case);
     for at in 0..run.questions.len() {
@@ -115,6 +128,7 @@ pub fn compare(
         held(&format!("reply {at}"), 0, library.reply(&said, &mut words))?;
         side.replied(at, &said, &mut wanted);
         hold(&format!("reply {at}"), &words, &wanted, seen)?;
+        adds_up(&format!("reply {at}"), &words)?;
         seen.questions[question.kind as usize] += 1;
         seen.surfaced += (said.surfaced.len() / CANDIDATE) as u64;
     }
@@ -122,6 +136,10 @@ pub fn compare(
     if hoisted != run.hoisted {
         return Err(format!("hoisted {hoisted:?}, not {:?}", run.hoisted));
     }
+    if words.tally != run.tally {
+        return Err(format!("tally {:?}, not {:?}", words.tally, run.tally));
+    }
+    seen.tally(run);
     seen.boxes += run.hoisted.len() as u64;
     seen.unclaimed += run.unclaimed.len() as u64;
     seen.sums(case, run);
@@ -137,6 +155,19 @@ fn held(call: &str, wanted: u32, result: u32) -> Result<(), Difference> {
         return Ok(());
     }
     Err(format!("{call}: result {result}, not {wanted}"))
+}
+
+/// Request #107: "The words always add up to the run's questions answered so far, at the end the count in the finish"
+pub fn adds_up(call: &str, w: &Words) -> Result<(), Difference> {
+    let sum: u64 = w.tally.iter().map(|&word| u64::from(word)).sum();
+    let count = w.state[state::ANSWERED];
+    if sum != u64::from(count) {
+        return Err(format!("{call}: the tally {:?} doesn't add up to {count}", w.tally));
+    }
+    if w.answer[0] == 0 && count != w.answer[1] {
+        return Err(format!("{call}: the finish has {}, not {count}", w.answer[1]));
+    }
+    Ok(())
 }
 
 /// The question in an answer's words
@@ -173,13 +204,14 @@ impl Side<'_> {
     /// Words after the opening
     fn opened(&mut self, w: &mut Words) {
         let s = &mut w.state;
-        *s = [0; 27];
+        *s = [0; STATE];
         for i in 0..4 {
             s[state::AREA + i] = bits(float(w.area[i]));
             s[state::CODES + i] = w.area[4 + i];
         }
-        let lengths = [w.styles.len(), w.layouts.len(), w.working.len(), w.unclaimed.len()];
-        (0..4).for_each(|i| s[state::LENGTHS + i] = lengths[i] as u32);
+        let lent = [w.styles.len(), w.layouts.len(), w.working.len(), w.unclaimed.len(), w.tally.len()];
+        (0..5).for_each(|i| s[state::LENGTHS + i] = lent[i] as u32);
+        w.tally.fill(0);
         let claimed = model::claimed(&w.candidates, w.area[5]);
         let unclaimed = w.candidates.len() / CANDIDATE - claimed;
         let layers = model::layers(&w.candidates, w.area[5]);
@@ -206,6 +238,7 @@ impl Side<'_> {
     /// Words after the reply to question `at`
     fn replied(&mut self, at: usize, said: &Said, w: &mut Words) {
         w.state[state::ANSWERED] += 1;
+        w.tally[self.run.questions[at].node as usize] += 1;
         let value = |i: usize| bits(float(said.values[i]));
         match (said.kind, w.state[state::PROGRESS]) {
             (Kind::Both, 4) => w.state[state::FILL_REPLY..][..3].copy_from_slice(&[1, value(0), value(1)]),
@@ -270,12 +303,13 @@ fn hold(call: &str, words: &Words, wanted: &Words, seen: &mut Counted) -> Result
     let finish = wanted.answer[0] == 0;
     let answer_float = |at: usize| if finish { (2..6).contains(&at) } else { [3, 5, 7, 9].contains(&at) };
     let never = |_: usize| false;
-    let lists: [(&str, &[u32], &[u32], &dyn Fn(usize) -> bool); 7] = [
+    let lists: [(&str, &[u32], &[u32], &dyn Fn(usize) -> bool); 8] = [
         ("answer", &words.answer, &wanted.answer, &answer_float),
         ("state", &words.state, &wanted.state, &state_float),
         ("layouts", &words.layouts, &wanted.layouts, &layout_float),
         ("working", &words.working, &wanted.working, &candidate_float),
         ("unclaimed", &words.unclaimed, &wanted.unclaimed, &candidate_float),
+        ("tally", &words.tally, &wanted.tally, &never),
         ("styles", &words.styles, &wanted.styles, &never),
         ("candidates", &words.candidates, &wanted.candidates, &never),
     ];

@@ -78,7 +78,7 @@ pub fn compare(case: &Case, setting: &Setting, run: &Transcript, layers: &[Vec<u
     let placed = compute_oof_layout_with(&mut host, &area(&case.area), &styles, &candidates, room);
     let placed = placed.map_err(|refusal| format!("the Rust host is refused: {refusal}"))?;
     hold("drawing order", placed.drawing_order() == drawing_order(&layers[0]))?;
-    let Placed { layouts, hoisted, unclaimed, overflow: o, questions, .. } = placed;
+    let Placed { layouts, hoisted, unclaimed, overflow: o, questions, tally, .. } = placed;
 
     let same = same::all(&layouts, &run.layouts, |a, b| match (a, b) {
         (Some(a), Some(b)) => same::layout(&a.to_words(), b),
@@ -87,6 +87,7 @@ pub fn compare(case: &Case, setting: &Setting, run: &Transcript, layers: &[Vec<u
     hold("layouts", same)?;
     hold("hoisted", hoisted == run.hoisted)?;
     hold("questions", questions == run.questions.len() && host.asked.len() == questions)?;
+    hold("the tally", tally == run.tally)?;
     hold("a question", same::all(&host.asked, &run.questions, same::question))?;
     hold("overflow", same::floats(&[o.left, o.right, o.top, o.bottom].map(f32::to_bits), &run.overflow))?;
     let records: Vec<_> = unclaimed.iter().map(Candidate::to_words).collect();

@@ -13,6 +13,8 @@ pub struct Words {
     pub layouts: Vec<u32>,
     pub working: Vec<u32>,
     pub unclaimed: Vec<u32>,
+    /// A word for each item: how many of the run's questions about it are answered
+    pub tally: Vec<u32>,
     pub state: [u32; STATE],
     pub answer: [u32; ANSWER],
 }
@@ -45,6 +47,7 @@ impl Words {
             layouts: noise(LAYOUT * case.styles.len()),
             working: noise(CANDIDATE * working),
             unclaimed: noise(CANDIDATE * unclaimed),
+            tally: noise(case.styles.len()),
             state: noise(STATE).try_into().unwrap(),
             answer: noise(ANSWER).try_into().unwrap(),
         }
@@ -68,6 +71,7 @@ impl Library {
             layouts: &mut w.layouts,
             working: &mut w.working,
             unclaimed: &mut w.unclaimed,
+            tally: &mut w.tally,
             state: &mut w.state,
             answer: &mut w.answer,
         };
@@ -87,6 +91,7 @@ impl Library {
             layouts: &mut w.layouts,
             working: &mut w.working,
             unclaimed: &mut w.unclaimed,
+            tally: &mut w.tally,
             state: &mut w.state,
             answer: &mut w.answer,
         };
@@ -117,13 +122,14 @@ impl Saboteur {
         self.done = true;
         let r = &mut self.rng;
         loop {
-            let list: &mut [u32] = match r.below(6) {
+            let list: &mut [u32] = match r.below(7) {
                 0 => return result ^ (1 << r.below(3)),
                 1 => &mut w.answer,
                 2 => &mut w.state,
                 3 => &mut w.layouts,
                 4 => &mut w.working,
-                _ => &mut w.unclaimed,
+                5 => &mut w.unclaimed,
+                _ => &mut w.tally,
             };
             if list.is_empty() {
                 continue;

@@ -57,7 +57,8 @@ pub fn run(case: &Case, host: &mut dyn Host, stretch: Stretch) -> Result<Transcr
         claims: case.area[5],
         scrolls: [scrolls(case.area[6]), scrolls(case.area[7])],
     };
-    let out = Transcript { layouts: vec![None; case.styles.len()], ..Default::default() };
+    let n = case.styles.len();
+    let out = Transcript { tally: vec![0; n], layouts: vec![None; n], ..Default::default() };
     let mut run = Run { case, host, stretch, area, overflow: [0.0; 4], out };
     case.candidates.iter().for_each(|record| run.sweep(record, NO_SHIFT));
     let mut next = 0;
@@ -88,6 +89,7 @@ impl Run<'_> {
     fn ask(&mut self, kind: Kind, node: u32, known: Sizes, space: [Space; 2]) -> Vec<u32> {
         let question = Question { kind, node, known: known.map(|v| v.map(bits)), space };
         let words = self.host.answer(&question);
+        self.out.tally[node as usize] += 1;
         self.out.questions.push(question);
         self.out.replies.push(words.clone());
         words
