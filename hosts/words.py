@@ -166,7 +166,7 @@ def state():
     out |= {"AREA": area(block), "DIRECTION": alone(block, "direction"), "CLAIMS": alone(block, "claims")}
     out |= {f"OVERFLOW_{axis.upper()}": alone(block, f"overflow{axis}") for axis in "xy"}
     assert "container_of (opening_in w); claims = claims_of (opening_in w)" in body(STATE, "opened_in")[0][1]
-    out["LENGTHS"] = named(extents, "styles", "layouts", "working", "unclaimed")[0]
+    out["LENGTHS"] = named(extents, "styles", "layouts", "working", "unclaimed", "tally")[0]
     return {"STATE_" + name: at for name, at in out.items()}
 
 

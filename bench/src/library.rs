@@ -10,6 +10,7 @@ pub struct Words {
     candidates: Vec<u32>,
     pub layouts: Vec<u32>,
     pub working: Vec<u32>,
+    tally: Vec<u32>,
     pub state: [u32; STATE],
     pub answer: [u32; ANSWER],
 }
@@ -24,6 +25,7 @@ impl Words {
             candidates: scene.candidates.concat(),
             layouts: vec![0; LAYOUT * scene.styles.len()],
             working: vec![0; CANDIDATE * scene.candidates.len()],
+            tally: vec![0; scene.styles.len()],
             state: [0; STATE],
             answer: [0; ANSWER],
         }
@@ -34,6 +36,7 @@ impl Words {
             layouts: &mut self.layouts,
             working: &mut self.working,
             unclaimed: &mut [],
+            tally: &mut self.tally,
             state: &mut self.state,
             answer: &mut self.answer,
         };
@@ -45,6 +48,7 @@ impl Words {
             layouts: &mut self.layouts,
             working: &mut self.working,
             unclaimed: &mut [],
+            tally: &mut self.tally,
             state: &mut self.state,
             answer: &mut self.answer,
         };

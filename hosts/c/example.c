@@ -2,8 +2,8 @@
  * the start edge and 12 from the top of an 800 by 480 panel, which scrolls and stands at 100, 40 of its window; its size is
  * what the font says. Then the same label where a designer asks for "half the area less 12 px" from the start edge. Then the
  * incident's panel (README.md at the root of the repository): the first label, and before it the note, on the layer above. Of the
- * labels and of the note: their pixels in the panel, and whether scrolling can bring them into view; and in which order the
- * incident's panel is drawn. */
+ * labels and of the note: their pixels in the panel, and whether scrolling can bring them into view; and of the incident's panel
+ * how many questions each of its boxes took, and in which order they are drawn. */
 #include <stdio.h>
 #include <stdlib.h>
 #include "oof.h"
@@ -33,17 +33,19 @@ typedef struct {
     uint32_t layouts[NODES * OOF_LAYOUT_WORDS];
     uint32_t working[NODES * OOF_CANDIDATE_WORDS];
     uint32_t unclaimed[NODES * OOF_CANDIDATE_WORDS];
+    uint32_t tally[NODES];
     uint32_t state[OOF_STATE_WORDS];
     uint32_t answer[OOF_ANSWER_WORDS];
     char said[LINES][COLUMN];
     int lines;
 } panel;
 
-/* the words that every call is lent */
+/* the words that every call of a run is lent, and those that an entry is which reads a finished run */
 #define SLICES(p)                                                                                                     \
     (p)->styles, (p)->boxes * OOF_STYLE_WORDS, (p)->layouts, (p)->boxes * OOF_LAYOUT_WORDS, (p)->working,               \
-        (p)->boxes * OOF_CANDIDATE_WORDS, (p)->unclaimed, (p)->boxes * OOF_CANDIDATE_WORDS, (p)->state
-#define LENT(p) SLICES(p), (p)->answer
+        (p)->boxes * OOF_CANDIDATE_WORDS, (p)->unclaimed, (p)->boxes * OOF_CANDIDATE_WORDS
+#define LENT(p) SLICES(p), (p)->tally, (p)->boxes, (p)->state, (p)->answer
+#define FINISHED(p) SLICES(p), (p)->state
 
 static const float panel_x = 100, panel_y = 40, panel_width = 800, panel_height = 480;
 
@@ -208,7 +210,7 @@ static uint32_t place(panel *p)
     uint32_t result = oof_open(panel_width, panel_height, panel_x, panel_y, p->direction, OOF_CLAIMS_ABSOLUTE,
                                OOF_OVERFLOW_SCROLL, OOF_OVERFLOW_SCROLL, p->styles, p->boxes * OOF_STYLE_WORDS, p->candidates,
                                records, p->layouts, p->boxes * OOF_LAYOUT_WORDS, p->working, records, p->unclaimed, records,
-                               p->state, p->answer);
+                               p->tally, p->boxes, p->state, p->answer);
     while (result == OOF_ACCEPTED && p->answer[OOF_ANSWER_KIND] != OOF_FINISH)
         result = answer_question(p, &toolkit);
     return result;
@@ -271,7 +273,7 @@ static uint32_t node_at(const panel *p, size_t place)
 static const char *reach(const panel *p, size_t place, char *text, size_t room)
 {
     uint32_t verdict[OOF_REACH_WORDS];
-    uint32_t result = oof_reach(place, SLICES(p), verdict);
+    uint32_t result = oof_reach(place, FINISHED(p), verdict);
     if (result != OOF_ACCEPTED)
         return oof_refusal_name(result);
     if (verdict[OOF_REACH_KIND] == OOF_UNSEEN)
@@ -288,13 +290,24 @@ static void print_pixels_and_reach(const char *pixels_of, const char *reach_of, 
     row(reach_of, reach(e, 0, text[0], COLUMN), reach(a, 0, text[1], COLUMN));
 }
 
+static const char *const names[NODES] = {"label", "note"};
+
+/* how many questions were answered for each item */
+static const char *tallied(const panel *p, char *text, size_t room)
+{
+    size_t length = 0;
+    for (size_t node = 0; node < p->boxes && length < room; node++)
+        length += (size_t)snprintf(text + length, room - length, "%s%s %u", node ? ", " : "", names[node],
+                                   (unsigned)p->tally[node]);
+    return text;
+}
+
 /* the boxes as they are drawn, each with its place in the hoisted order */
 static const char *drawn(const panel *p, char *text, size_t room)
 {
-    static const char *const names[NODES] = {"label", "note"};
     uint32_t order[NODES];
     size_t boxes = p->state[OOF_STATE_WORKING], length = 0;
-    uint32_t result = oof_drawing_order(SLICES(p), order, boxes);
+    uint32_t result = oof_drawing_order(FINISHED(p), order, boxes);
     if (result != OOF_ACCEPTED)
         return oof_refusal_name(result);
     for (size_t k = 0; k < boxes && length < room; k++)
@@ -331,6 +344,7 @@ int main(void)
     print_pixels_and_reach("  pixels", "  verdict", &e, &a);
     print_pixels_and_reach("half less 12", "  verdict", &half_e, &half_a);
     print_pixels_and_reach("note, pixels", "note, verdict", &incident_e, &incident_a);
+    row("  questions", tallied(&incident_e, text[0], COLUMN), tallied(&incident_a, text[1], COLUMN));
     row("drawing order", drawn(&incident_e, text[0], COLUMN), drawn(&incident_a, text[1], COLUMN));
     float x = layout(&e, OOF_LAYOUT_X), image = layout(&a, OOF_LAYOUT_X), width = layout(&e, OOF_LAYOUT_WIDTH);
     int mirrored = x + image + width == 2 * panel_x + panel_width;

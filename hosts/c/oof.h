@@ -1,9 +1,10 @@
 /* Out-of-flow placement for C: places absolutely positioned boxes by a dialogue between a run and its host.
  *
  * A host opens a run with oof_open, reads the question that stands in the answer's words, and replies with the entry of
- * that question's kind, until the answer is a finish. Then the layouts hold each placed box. oof_reach says of each whether
- * scrolling can bring it into view, and oof_drawing_order in which order to draw them. oof_pixels rounds a layout to whole
- * pixels, and oof_first_bad_word says which word of a table of styles breaks a code rule; they belong to no run.
+ * that question's kind, until the answer is a finish. Then the layouts hold each placed box, and the tally has for each item
+ * how many questions were answered. oof_reach says of each box whether scrolling can bring it into view, and oof_drawing_order
+ * in which order to draw them. oof_pixels rounds a layout to whole pixels, and oof_first_bad_word says which word of a table
+ * of styles breaks a code rule; they belong to no run.
  *
  *     result = oof_open(.., state, answer);
  *     while (result == 0 && answer[OOF_ANSWER_KIND] != OOF_FINISH)
@@ -18,8 +19,8 @@
  * RESULT. That of oof_first_bad_word is 1 or 0 and no refusal: item and word are written, or nothing is. Of every other
  * entry 0: the call was accepted, and the answer's words say what comes next (of oof_pixels: the edges are written; of
  * oof_reach: the verdict; of oof_drawing_order: the order). 1 to 6, and 9, of oof_pixels and oof_reach alone: it was refused,
- * for the reason of that number (enum oof_refusal), and NO LENT WORD WAS WRITTEN: layouts, lists, answer, edges, verdict and
- * order keep every bit. 7 and 8 are refusals of parts that have no entry here. What stands in the state's words after a
+ * for the reason of that number (enum oof_refusal), and NO LENT WORD WAS WRITTEN: layouts, lists, tally, answer, edges, verdict
+ * and order keep every bit. 7 and 8 are refusals of parts that have no entry here. What stands in the state's words after a
  * refusal:
  *   - after a refused reply, what stood there before, bit for bit, so the reply can be mended and made again;
  *   - after a refused opening, a finished run with all counts 0, so that no reply is taken until an opening is accepted.
@@ -56,7 +57,7 @@ enum {
     OOF_LENGTH_WORDS = 3, /* of one length in a style */
     OOF_CANDIDATE_WORDS = 14,
     OOF_LAYOUT_WORDS = 23,
-    OOF_STATE_WORDS = 27,
+    OOF_STATE_WORDS = 28,
     OOF_ANSWER_WORDS = 10,
     OOF_PIXEL_EDGES = 4,
     OOF_REACH_WORDS = 3,
@@ -71,14 +72,16 @@ enum {
 enum oof_refusal {
     OOF_ACCEPTED = 0,
     OOF_BAD_AREA = 1,      /* an opening's direction, claims or overflow code is outside its list */
-    OOF_BAD_EXTENT = 2,    /* a slice isn't whole records, is too long, or has another length than at the opening; or, of
-                              oof_reach, no box has that place; of oof_drawing_order, the order isn't one word a box */
+    OOF_BAD_EXTENT = 2,    /* a slice isn't whole records, is too long, or has another length than at the opening; the tally
+                              isn't one word an item; or, of oof_reach, no box has that place; of oof_drawing_order, the
+                              order isn't one word a box */
     OOF_BAD_STYLE = 3,     /* a tag or code that its field doesn't take, in any item of the table; oof_first_bad_word says
                               which */
     OOF_BAD_CANDIDATE = 4, /* a node outside the table, a code outside its list, or a layer above OOF_MOST_LAYER */
     OOF_LIST_FULL = 5,     /* the claimed or the unclaimed records would exceed their list */
-    OOF_WRONG_REPLY = 6,   /* not the open question's kind, no question open, or a state whose counts don't fit; of
-                              oof_reach and oof_drawing_order, a question open, or such counts */
+    OOF_WRONG_REPLY = 6,   /* not the open question's kind, no question open, a state whose counts don't fit, or a word of the
+                              tally above the run's count of questions answered; of oof_reach and oof_drawing_order, a
+                              question open, or such counts */
     OOF_NOT_IN_EIGHTHS = 9 /* of oof_pixels and oof_reach: a number that isn't a whole eighth, or is above 9,999,999 eighths
                               in size */
 };
@@ -376,7 +379,7 @@ enum {
     OOF_FINISH_BOTTOM = 5
 };
 
-/* ---- the state, 27 words. Every opening writes it, so it may hold anything before; 27 zeros are a finished run. Between
+/* ---- the state, 28 words. Every opening writes it, so it may hold anything before; 28 zeros are a finished run. Between
  * calls a host hands it back as it came, and need not read it; what the words mean all the same: */
 
 enum {
@@ -395,10 +398,10 @@ enum {
     OOF_STATE_CLAIMS = 20,
     OOF_STATE_OVERFLOW_X = 21,
     OOF_STATE_OVERFLOW_Y = 22,
-    OOF_STATE_LENGTHS = 23 /* lent at the opening, in words modulo 2^32: styles, layouts, working, unclaimed */
+    OOF_STATE_LENGTHS = 23 /* lent at the opening, in words modulo 2^32: styles, layouts, working, unclaimed, tally */
 };
 
-/* The entries write no other codes there. Words that a host makes up are read all the same, so that any 27 words are some
+/* The entries write no other codes there. Words that a host makes up are read all the same, so that any 28 words are some
  * state: a progress above 5 is finished, a keyword reply above 3 or a fill reply above 1 is none, a direction above 0 is
  * right-to-left, an overflow above 3 is scroll, and of the claims the two low bits count. What doesn't fit the lent slices
  * is refused, with 2 or 6. */
@@ -410,16 +413,31 @@ enum {
  *   layouts     one record an item; a box's is written when it is laid out, at its node's place
  *   working     room for the claimed candidates, whole records, at most OOF_MOST_RECORDS
  *   unclaimed   room for the others, the same
+ *   tally       one word an item: how many of the run's questions about it are answered
  *   state       what the run keeps between calls
  *   answer      the question or the finish
- * A run is lent slices of the same lengths throughout. Their words are read afresh at each call. */
+ * A run is lent slices of the same lengths throughout. Their words are read afresh at each call.
+ *
+ * The tally tells which items are costly, as a label is whose text is measured again and again. It goes by the styles' length:
+ * n items have n words, and no items have 0.
+ *   - An accepted opening writes 0 to every word of it, whatever stood there, also where the answer is a finish at once.
+ *   - An accepted reply adds 1 to one word: that of the box whose question is open, by the node that its record in the working
+ *     list has at this call. A lay-out reply counts for the box that is laid out, not for the one that is asked about next.
+ *   - A refused call writes no word of it.
+ *   - A node that was claimed twice has the questions of both boxes in its word. An item that isn't asked about has 0.
+ * Its words add up to the questions answered so far, state[OOF_STATE_ANSWERED], and at the finish to its count,
+ * answer[OOF_FINISH_COUNT]. This holds after an accepted opening, while nobody else writes the tally and each call gets the
+ * state that the last one returned. So no word is above the count then, and no reply is refused for one. Of the other
+ * words a host may write any between the calls, and calls that are refused count for nothing.
+ * Entries that read a finished run aren't lent the tally, and don't look at its length in the state. */
 
 /* Opens a run over an area: its size, and its offset x and y in the caller's coordinates (any floats).
  *   direction   OOF_DIRECTION_LTR or OOF_DIRECTION_RTL
  *   claims      which candidates are placed here: OOF_CLAIMS_ABSOLUTE, OOF_CLAIMS_FIXED, both (3) or none
  *   overflow_x, overflow_y   of the container: OOF_OVERFLOW_VISIBLE to OOF_OVERFLOW_SCROLL
  *   candidates  any number of whole records; only read. The claimed ones go to `working`, the others to `unclaimed`.
- * Without a claimed candidate the answer is a finish at once. Refuses with 1, 2, 3, 4, 5, tested in this order. */
+ * Without a claimed candidate the answer is a finish at once. Refuses with 1, 2, 3, 4, 5, tested in this order: with 2 also
+ * where the tally isn't one word an item. */
 uint32_t oof_open(float width, float height, float x, float y,
                   uint32_t direction, uint32_t claims, uint32_t overflow_x, uint32_t overflow_y,
                   const uint32_t *styles, size_t styles_len,
@@ -427,9 +445,12 @@ uint32_t oof_open(float width, float height, float x, float y,
                   uint32_t *layouts, size_t layouts_len,
                   uint32_t *working, size_t working_len,
                   uint32_t *unclaimed, size_t unclaimed_len,
+                  uint32_t *tally, size_t tally_len,
                   uint32_t *state, uint32_t *answer);
 
-/* The replies refuse with 2, 6, 3, 4, 5, tested in this order. */
+/* The replies refuse with 2, 6, 3, 4, 5, tested in this order: with 2 also where the tally isn't one word an item or has another
+ * length than at the opening, with 6 also where some word of it is above state[OOF_STATE_ANSWERED], as these stand before the
+ * reply. */
 
 /* Replies to OOF_MEASURE_BOTH: the width and height of the node's box, padding and border included. */
 uint32_t oof_reply_both(float width, float height,
@@ -437,6 +458,7 @@ uint32_t oof_reply_both(float width, float height,
                         uint32_t *layouts, size_t layouts_len,
                         uint32_t *working, size_t working_len,
                         uint32_t *unclaimed, size_t unclaimed_len,
+                        uint32_t *tally, size_t tally_len,
                         uint32_t *state, uint32_t *answer);
 
 /* Replies to OOF_MEASURE_WIDTH. */
@@ -445,6 +467,7 @@ uint32_t oof_reply_width(float width,
                          uint32_t *layouts, size_t layouts_len,
                          uint32_t *working, size_t working_len,
                          uint32_t *unclaimed, size_t unclaimed_len,
+                         uint32_t *tally, size_t tally_len,
                          uint32_t *state, uint32_t *answer);
 
 /* Replies to OOF_MEASURE_HEIGHT. */
@@ -453,6 +476,7 @@ uint32_t oof_reply_height(float height,
                           uint32_t *layouts, size_t layouts_len,
                           uint32_t *working, size_t working_len,
                           uint32_t *unclaimed, size_t unclaimed_len,
+                          uint32_t *tally, size_t tally_len,
                           uint32_t *state, uint32_t *answer);
 
 /* Replies to OOF_LAY_OUT, once the host has laid the node out at the final size: its own scrollable overflow, in x counted
@@ -466,6 +490,7 @@ uint32_t oof_reply_laid_out(float left, float right, float top, float bottom,
                             uint32_t *layouts, size_t layouts_len,
                             uint32_t *working, size_t working_len,
                             uint32_t *unclaimed, size_t unclaimed_len,
+                            uint32_t *tally, size_t tally_len,
                             uint32_t *state, uint32_t *answer);
 
 /* ---- boxes that no scrolling brings up */

@@ -5,12 +5,13 @@
  *
  * replay.stdin, in hexadecimal words (tools/samples/replays.py writes it, and replay.stdout): the number of openings, each with
  * its replies, and of each
- *   - the lengths of styles, candidates, layouts, working and unclaimed list;
+ *   - the lengths of styles, candidates, layouts, working and unclaimed list, and tally;
  *   - the area's width, height, x and y; direction, claims, overflow x and y;
  *   - the words of the styles and of the candidates;
  *   - the number of its replies, and of each
  *       - what is forged of the state (see forge), and the number that it gets;
- *       - a place in the styles and the word that is written there, then the same for the working list; ffffffff is no place;
+ *       - a place in the styles and the word that is written there, then the same for the working list and for the tally; ffffffff
+ *         is no place;
  *       - its kind (see reply), four words of values, the length of what surfaced, and its words. */
 #include <inttypes.h>
 #include <stdio.h>
@@ -29,12 +30,12 @@ typedef struct {
 /* What the calls of a run are lent, and words beyond it that no call may write: 32-bit words and no padding, so that two
  * compare as bytes. */
 typedef struct {
-    slice styles, candidates, surfaced, layouts, working, unclaimed;
+    slice styles, candidates, surfaced, layouts, working, unclaimed, tally;
     uint32_t state[OOF_STATE_WORDS], beyond_state[BEYOND], answer[OOF_ANSWER_WORDS], beyond_answer[BEYOND];
 } lent;
 
 #define SLICE(s) (s).words, (s).length
-#define WRITTEN(w) SLICE((w)->layouts), SLICE((w)->working), SLICE((w)->unclaimed), (w)->state, (w)->answer
+#define WRITTEN(w) SLICE((w)->layouts), SLICE((w)->working), SLICE((w)->unclaimed), SLICE((w)->tally), (w)->state, (w)->answer
 
 static uint32_t opening_number;
 
@@ -158,7 +159,7 @@ static void forge(uint32_t *state)
     static const size_t places[] = {0, /* nothing is forged */
                                     OOF_STATE_PROGRESS, OOF_STATE_WORKING, OOF_STATE_UNCLAIMED, OOF_STATE_BEGUN,
                                     OOF_STATE_ANSWERED, OOF_STATE_LENGTHS, OOF_STATE_LENGTHS + 1, OOF_STATE_LENGTHS + 2,
-                                    OOF_STATE_LENGTHS + 3};
+                                    OOF_STATE_LENGTHS + 3, OOF_STATE_LENGTHS + 4};
     uint32_t what = read_word();
     uint32_t number = read_word();
     must(what < sizeof places / sizeof *places, "no such word of the state");
@@ -187,6 +188,7 @@ static void take_written(lent *to, const lent *from)
     take_words(&to->layouts, &from->layouts);
     take_words(&to->working, &from->working);
     take_words(&to->unclaimed, &from->unclaimed);
+    take_words(&to->tally, &from->tally);
     memcpy(to->state, from->state, sizeof to->state);
     memcpy(to->answer, from->answer, sizeof to->answer);
 }
@@ -241,6 +243,7 @@ static void play_reply(lent *w)
     forge(w->state);
     rewrite(&w->styles);
     rewrite(&w->working);
+    rewrite(&w->tally);
     uint32_t kind = read_word();
     read_floats(values);
     memset(&w->surfaced, NOISE, sizeof w->surfaced);
@@ -258,7 +261,7 @@ static void play_reply(lent *w)
     }
 }
 
-/* An opening and its replies. Layouts and lists begin as zeros; state, answer and what lies beyond as noise. */
+/* An opening and its replies. Layouts and lists begin as zeros; tally, state, answer and what lies beyond as noise. */
 static void play_run(void)
 {
     lent w;
@@ -270,12 +273,14 @@ static void play_run(void)
         read_length(written[i]);
         memset(written[i]->words, 0, written[i]->length * sizeof(uint32_t));
     }
+    read_length(&w.tally);
     play_opening(&w);
     for (uint32_t replies = read_word(); replies > 0; replies--)
         play_reply(&w);
     print_words("layouts", &w.layouts);
     print_words("working", &w.working);
     print_words("unclaimed", &w.unclaimed);
+    print_words("tally", &w.tally);
 }
 
 int main(void)

@@ -15,7 +15,7 @@ trap 'rm -rf "$work"' EXIT
 "$here/../words.py"
 "$here/install.sh" "$work/prefix" > "$work/log" || { cat "$work/log" >&2; exit 2; }
 undefined=$(nm -u "$work/prefix/lib/liboof_c.a" | awk '$1 == "U" { print $2 }' | sort -u | tr '\n' ' ')
-[ "$undefined" = "memcpy " ] || { echo "hosts/c: the library needs: $undefined" >&2; exit 1; }
+[ "$undefined" = "memcpy memset " ] || { echo "hosts/c: the library needs: $undefined" >&2; exit 1; }
 
 thousands() { # 27317 as 27,317
     echo "$1" | sed -e :again -e 's/^\([0-9]\{1,\}\)\([0-9]\{3\}\)/\1,\2/' -e 't again'
@@ -50,7 +50,7 @@ diff "$here/replay.stdout" stdout > differences || { head -n 20 differences; exi
 # what an opening answered is the first line, or follows the last line of the opening before
 awk '!inside { inside = 1; if ($1 == "refused") refused++; else runs++ }
     $1 == "counts" { calls++ }
-    $1 == "unclaimed" { inside = 0 }
+    $1 == "tally" { inside = 0 }
     END { printf "hosts/c: %d stored runs, %d refused openings, %d calls", runs, refused, calls
           print ", as the Rust or the second implementation answered or document 01 refuses" }' stdout
 build stack -D_POSIX_C_SOURCE=200809L -pthread

@@ -51,11 +51,11 @@ enum { MOST = OOF_MOST_ITEMS };
 static size_t items;
 static uint32_t styles[MOST * OOF_STYLE_WORDS], layouts[MOST * OOF_LAYOUT_WORDS];
 static uint32_t candidates[2 * OOF_CANDIDATE_WORDS], working[4 * OOF_CANDIDATE_WORDS], unclaimed[4 * OOF_CANDIDATE_WORDS];
-static uint32_t state[OOF_STATE_WORDS], answer[OOF_ANSWER_WORDS];
+static uint32_t tally[MOST], state[OOF_STATE_WORDS], answer[OOF_ANSWER_WORDS];
 
 #define LENT                                                                                                          \
     styles, items * OOF_STYLE_WORDS, layouts, items * OOF_LAYOUT_WORDS, working, 4 * OOF_CANDIDATE_WORDS, unclaimed,   \
-        4 * OOF_CANDIDATE_WORDS, state, answer
+        4 * OOF_CANDIDATE_WORDS, tally, items, state, answer
 
 static uint32_t nothing(void *context)
 {
@@ -67,7 +67,7 @@ static uint32_t do_open(void *context)
     (void)context;
     return oof_open(800, 480, 100, 40, OOF_DIRECTION_LTR, OOF_CLAIMS_ABSOLUTE, OOF_OVERFLOW_VISIBLE, OOF_OVERFLOW_VISIBLE,
                     styles, items * OOF_STYLE_WORDS, candidates, 2 * OOF_CANDIDATE_WORDS, layouts, items * OOF_LAYOUT_WORDS,
-                    working, 4 * OOF_CANDIDATE_WORDS, unclaimed, 4 * OOF_CANDIDATE_WORDS, state, answer);
+                    working, 4 * OOF_CANDIDATE_WORDS, unclaimed, 4 * OOF_CANDIDATE_WORDS, tally, items, state, answer);
 }
 static uint32_t do_both(void *context)
 {
@@ -177,7 +177,7 @@ int main(void)
                                  {OOF_TAG_STRETCH, OOF_TAG_MAX_CONTENT}};
     const size_t without = used(nothing, NULL, NULL);
     fill(1, OOF_TAG_AUTO, OOF_TAG_AUTO);
-    do_open(NULL); /* so that the dynamic linker's search for memcpy isn't counted */
+    do_open(NULL); /* so that the dynamic linker's search for memcpy and memset isn't counted */
     for (size_t count = 1; count <= MOST; count += MOST - 1)
         for (int k = 0; k < 4; k++) {
             fill(count, tags[k][0], tags[k][1]);

@@ -1,5 +1,6 @@
 /* What the header says of offsets, of layers, of refused calls, of pixels, of boxes that no scrolling brings up, of the drawing
- * order, of words that break a rule, of sums and of size keywords, tried. Prints one line; exits with 1 at the first that isn't so. */
+ * order, of words that break a rule, of sums, of size keywords and of the tally, tried. Prints one line; exits with 1 at the first
+ * that isn't so. */
 #include <stdio.h>
 #include <stdlib.h>
 #include "oof.h"
@@ -14,13 +15,14 @@ typedef struct {
     uint32_t layouts[OOF_LAYOUT_WORDS];
     uint32_t working[ROOM * OOF_CANDIDATE_WORDS];
     uint32_t unclaimed[ROOM * OOF_CANDIDATE_WORDS];
+    uint32_t tally[1];
     uint32_t state[OOF_STATE_WORDS];
     uint32_t answer[OOF_ANSWER_WORDS];
 } words;
 
 #define LENT(w)                                                                                                       \
     (w)->styles, OOF_STYLE_WORDS, (w)->layouts, OOF_LAYOUT_WORDS, (w)->working, ROOM * OOF_CANDIDATE_WORDS,            \
-        (w)->unclaimed, ROOM * OOF_CANDIDATE_WORDS, (w)->state, (w)->answer
+        (w)->unclaimed, ROOM * OOF_CANDIDATE_WORDS, (w)->tally, 1, (w)->state, (w)->answer
 
 static int tried;
 
@@ -65,7 +67,7 @@ static uint32_t opened(words *w)
     return oof_open(w->width, w->height, w->x, w->y, w->direction, OOF_CLAIMS_ABSOLUTE, OOF_OVERFLOW_VISIBLE,
                     OOF_OVERFLOW_VISIBLE, w->styles, OOF_STYLE_WORDS, w->candidates, OOF_CANDIDATE_WORDS, w->layouts,
                     OOF_LAYOUT_WORDS, w->working, ROOM * OOF_CANDIDATE_WORDS, w->unclaimed, ROOM * OOF_CANDIDATE_WORDS,
-                    w->state, w->answer);
+                    w->tally, 1, w->state, w->answer);
 }
 
 static uint32_t laid_out(words *w, const uint32_t *surfaced, size_t count)
@@ -106,6 +108,7 @@ static int closed_only(const words *before, const words *after)
     expected.state[OOF_STATE_LENGTHS] = OOF_STYLE_WORDS;
     expected.state[OOF_STATE_LENGTHS + 1] = OOF_LAYOUT_WORDS;
     expected.state[OOF_STATE_LENGTHS + 2] = expected.state[OOF_STATE_LENGTHS + 3] = ROOM * OOF_CANDIDATE_WORDS;
+    expected.state[OOF_STATE_LENGTHS + 4] = 1;
     return same(&expected, after);
 }
 
@@ -215,7 +218,8 @@ static void records_of_13(void)
     before = w;
     MUST(oof_open(w.width, w.height, w.x, w.y, w.direction, OOF_CLAIMS_ABSOLUTE, OOF_OVERFLOW_VISIBLE, OOF_OVERFLOW_VISIBLE,
                   w.styles, OOF_STYLE_WORDS, w.candidates, 13, w.layouts, OOF_LAYOUT_WORDS, w.working,
-                  ROOM * OOF_CANDIDATE_WORDS, w.unclaimed, ROOM * OOF_CANDIDATE_WORDS, w.state, w.answer) == OOF_BAD_EXTENT);
+                  ROOM * OOF_CANDIDATE_WORDS, w.unclaimed, ROOM * OOF_CANDIDATE_WORDS, w.tally, 1, w.state,
+                  w.answer) == OOF_BAD_EXTENT);
     MUST(closed_only(&before, &w));
     MUST(opened(&w) == OOF_ACCEPTED && oof_reply_both(120, 18, LENT(&w)) == OOF_ACCEPTED);
     before = w;
@@ -234,7 +238,8 @@ static void longest_lists(void)
         words w = box_at(100, 40, 100, 40);
         uint32_t result = oof_open(w.width, w.height, w.x, w.y, w.direction, OOF_CLAIMS_ABSOLUTE, OOF_OVERFLOW_VISIBLE,
                                    OOF_OVERFLOW_VISIBLE, w.styles, OOF_STYLE_WORDS, w.candidates, OOF_CANDIDATE_WORDS, w.layouts,
-                                   OOF_LAYOUT_WORDS, lists[0], lengths[k][0], lists[1], lengths[k][1], w.state, w.answer);
+                                   OOF_LAYOUT_WORDS, lists[0], lengths[k][0], lists[1], lengths[k][1], w.tally, 1, w.state,
+                                   w.answer);
         MUST(result == (k == 0 ? OOF_ACCEPTED : OOF_BAD_EXTENT));
     }
 }
@@ -348,13 +353,16 @@ typedef struct {
     uint32_t layouts[ITEM_ROOM * OOF_LAYOUT_WORDS];
     uint32_t working[RECORD_ROOM * OOF_CANDIDATE_WORDS];
     uint32_t unclaimed[RECORD_ROOM * OOF_CANDIDATE_WORDS];
+    uint32_t tally[ITEMS]; /* lent to the calls of a run alone */
     uint32_t state[OOF_STATE_WORDS];
     uint32_t lengths[4]; /* lent, at most those of the four slices */
 } ended;
 
-#define ENDED(e)                                                                                                      \
+#define FOUR(e)                                                                                                       \
     (e)->styles, (e)->lengths[STYLES], (e)->layouts, (e)->lengths[LAYOUTS], (e)->working, (e)->lengths[WORKING],       \
-        (e)->unclaimed, (e)->lengths[UNCLAIMED], (e)->state
+        (e)->unclaimed, (e)->lengths[UNCLAIMED]
+#define ENDED(e) FOUR(e), (e)->state
+#define RUNNING(e) FOUR(e), (e)->tally, ITEMS, (e)->state
 
 static const uint32_t all_lengths[4] = {ITEMS * OOF_STYLE_WORDS, ITEMS * OOF_LAYOUT_WORDS, RECORDS * OOF_CANDIDATE_WORDS,
                                         RECORDS * OOF_CANDIDATE_WORDS};
@@ -718,16 +726,16 @@ static uint32_t run_opened(ended *e, uint32_t direction, uint32_t claims, uint32
     memcpy(e->lengths, all_lengths, sizeof all_lengths);
     return oof_open(800, 480, 100, 40, direction, claims, overflow, overflow, e->styles, e->lengths[STYLES], candidates,
                     2 * OOF_CANDIDATE_WORDS, e->layouts, e->lengths[LAYOUTS], e->working, e->lengths[WORKING], e->unclaimed,
-                    e->lengths[UNCLAIMED], e->state, answer);
+                    e->lengths[UNCLAIMED], e->tally, ITEMS, e->state, answer);
 }
 
 /* every box's size is given, so that there is nothing to measure */
 static int run_finished(ended *e, uint32_t *answer)
 {
+    const uint32_t none[1] = {0};
     uint32_t result = OOF_ACCEPTED;
     while (result == OOF_ACCEPTED && answer[OOF_ANSWER_KIND] == OOF_LAY_OUT)
-        result = oof_reply_laid_out(0, 0, 0, 0, answer, 0, e->styles, e->lengths[STYLES], e->layouts, e->lengths[LAYOUTS],
-                                    e->working, e->lengths[WORKING], e->unclaimed, e->lengths[UNCLAIMED], e->state, answer);
+        result = oof_reply_laid_out(0, 0, 0, 0, none, 0, RUNNING(e), answer);
     return result == OOF_ACCEPTED && answer[OOF_ANSWER_KIND] == OOF_FINISH;
 }
 
@@ -1187,7 +1195,7 @@ static void odd_drawings(void)
     MUST(run_opened(&e, OOF_DIRECTION_LTR, OOF_CLAIMS_ABSOLUTE, OOF_OVERFLOW_SCROLL, candidates, answer) == OOF_ACCEPTED);
     MUST(gives(&e, 1, OOF_WRONG_REPLY));
     put_candidate(candidates, 0, 1, 2);
-    MUST(oof_reply_laid_out(0, 0, 0, 0, candidates, OOF_CANDIDATE_WORDS, ENDED(&e), answer) == OOF_ACCEPTED);
+    MUST(oof_reply_laid_out(0, 0, 0, 0, candidates, OOF_CANDIDATE_WORDS, RUNNING(&e), answer) == OOF_ACCEPTED);
     MUST(gives(&e, 1, OOF_BAD_EXTENT) && gives(&e, 2, OOF_WRONG_REPLY));
     MUST(run_finished(&e, answer) && drawn(&e, 2, LIST(1, 0)));
     MUST(e.unclaimed[OOF_CANDIDATE_LAYER] == 5);
@@ -1213,7 +1221,7 @@ static void placement_reads_no_layer(void)
         uint32_t *answer = answers[k];
         MUST(run_opened(&runs[k], OOF_DIRECTION_LTR, OOF_CLAIMS_ABSOLUTE, OOF_OVERFLOW_SCROLL, candidates, answer) == OOF_ACCEPTED);
         put_candidate(candidates, 0, 1, 3 * k);
-        MUST(oof_reply_laid_out(0, 0, 0, 0, candidates, OOF_CANDIDATE_WORDS, ENDED(&runs[k]), answer) == OOF_ACCEPTED);
+        MUST(oof_reply_laid_out(0, 0, 0, 0, candidates, OOF_CANDIDATE_WORDS, RUNNING(&runs[k]), answer) == OOF_ACCEPTED);
         MUST(run_finished(&runs[k], answer));
     }
     MUST(drawn(&runs[0], 2, LIST(0, 1)) && drawn(&runs[1], 2, LIST(1, 0)));
@@ -1403,10 +1411,11 @@ static int breaks(const uint32_t *style, size_t word)
 /* an opening over so many words of the table, without a candidate */
 static uint32_t opened_over(size_t words)
 {
-    static uint32_t layouts[TABLE * OOF_LAYOUT_WORDS];
+    static uint32_t layouts[TABLE * OOF_LAYOUT_WORDS], tally[TABLE];
     uint32_t none[3] = {0}, state[OOF_STATE_WORDS], answer[OOF_ANSWER_WORDS];
     return oof_open(200, 100, 0, 0, OOF_DIRECTION_LTR, OOF_CLAIMS_ABSOLUTE, OOF_OVERFLOW_VISIBLE, OOF_OVERFLOW_VISIBLE, table,
-                    words, none, 0, layouts, words / OOF_STYLE_WORDS * OOF_LAYOUT_WORDS, none + 1, 0, none + 2, 0, state, answer);
+                    words, none, 0, layouts, words / OOF_STYLE_WORDS * OOF_LAYOUT_WORDS, none + 1, 0, none + 2, 0, tally,
+                    words / OOF_STYLE_WORDS, state, answer);
 }
 
 /* whether the entry says of so many words what the header does, and an opening over them is refused accordingly */
@@ -1646,7 +1655,7 @@ static void record_of_57(void)
     words w = box_at(100, 40, 100, 40), before = w;
     MUST(oof_open(w.width, w.height, w.x, w.y, w.direction, OOF_CLAIMS_ABSOLUTE, OOF_OVERFLOW_VISIBLE, OOF_OVERFLOW_VISIBLE, table,
                   57, w.candidates, 0, w.layouts, OOF_LAYOUT_WORDS, w.working, ROOM * OOF_CANDIDATE_WORDS, w.unclaimed,
-                  ROOM * OOF_CANDIDATE_WORDS, w.state, w.answer) == OOF_BAD_EXTENT);
+                  ROOM * OOF_CANDIDATE_WORDS, w.tally, 1, w.state, w.answer) == OOF_BAD_EXTENT);
     memcpy(before.state, w.state, sizeof w.state);
     MUST(same(&before, &w));
 }
@@ -1770,6 +1779,314 @@ static void measured_from_anchors(void)
     MUST(asks(&w, OOF_MEASURE_HEIGHT, 160, 70));
 }
 
+/* ---- the tally */
+
+enum { BOXES = 3, TALLY_ROOM = ITEMS + 2 };
+
+/* A run over at most two items, with room for three boxes in each list. `words` of the tally are lent. 32-bit words and no padding,
+ * so that two compare as bytes. */
+typedef struct {
+    uint32_t items, candidates_lent, claims, words;
+    uint32_t styles[ITEMS * OOF_STYLE_WORDS];
+    uint32_t candidates[(BOXES + 1) * OOF_CANDIDATE_WORDS];
+    uint32_t layouts[ITEMS * OOF_LAYOUT_WORDS];
+    uint32_t working[BOXES * OOF_CANDIDATE_WORDS];
+    uint32_t unclaimed[BOXES * OOF_CANDIDATE_WORDS];
+    uint32_t tally[TALLY_ROOM];
+    uint32_t state[OOF_STATE_WORDS];
+    uint32_t answer[OOF_ANSWER_WORDS];
+} counted;
+
+#define COUNTED(c)                                                                                                    \
+    (c)->styles, (c)->items * OOF_STYLE_WORDS, (c)->layouts, (c)->items * OOF_LAYOUT_WORDS, (c)->working,              \
+        BOXES * OOF_CANDIDATE_WORDS, (c)->unclaimed, BOXES * OOF_CANDIDATE_WORDS, (c)->tally, (c)->words, (c)->state,  \
+        (c)->answer
+
+/* two boxes: two questions about node 0, whose size is auto, and three about node 1, whose width is min-content. What is to be
+ * written holds noise. */
+static counted two_labels(void)
+{
+    counted c;
+    memset(&c, 0x5A, sizeof c);
+    c.items = c.words = ITEMS, c.candidates_lent = 2, c.claims = OOF_CLAIMS_ABSOLUTE;
+    for (int k = 0; k < ITEMS; k++)
+        plain_style(c.styles + k * OOF_STYLE_WORDS);
+    oof_set_length(c.styles + OOF_STYLE_WORDS, OOF_STYLE_WIDTH, OOF_TAG_MIN_CONTENT, 0);
+    for (int k = 0; k <= BOXES; k++)
+        put_candidate(c.candidates, k, k % 2, 0);
+    return c;
+}
+
+static uint32_t counted_opened(counted *c)
+{
+    return oof_open(200, 100, 0, 0, OOF_DIRECTION_LTR, c->claims, OOF_OVERFLOW_VISIBLE, OOF_OVERFLOW_VISIBLE, c->styles,
+                    c->items * OOF_STYLE_WORDS, c->candidates, c->candidates_lent * OOF_CANDIDATE_WORDS, c->layouts,
+                    c->items * OOF_LAYOUT_WORDS, c->working, BOXES * OOF_CANDIDATE_WORDS, c->unclaimed,
+                    BOXES * OOF_CANDIDATE_WORDS, c->tally, c->words, c->state, c->answer);
+}
+
+/* a reply of the open question's kind; a box that is laid out surfaces so many of the candidates */
+static uint32_t replied(counted *c, uint32_t surfaced)
+{
+    switch (c->answer[OOF_ANSWER_KIND]) {
+    case OOF_MEASURE_BOTH: return oof_reply_both(120, 18, COUNTED(c));
+    case OOF_MEASURE_WIDTH: return oof_reply_width(120, COUNTED(c));
+    case OOF_MEASURE_HEIGHT: return oof_reply_height(18, COUNTED(c));
+    default: return oof_reply_laid_out(0, 0, 0, 0, c->candidates, surfaced * OOF_CANDIDATE_WORDS, COUNTED(c));
+    }
+}
+
+/* whether that reply is refused with this number, and no word is written */
+static int refuses(counted *c, uint32_t surfaced, uint32_t number)
+{
+    const counted before = *c;
+    return replied(c, surfaced) == number && memcmp(&before, c, sizeof before) == 0;
+}
+
+/* whether that opening is refused with this number, and a finished run is written into the state's words, and no other word */
+static int opening_refuses(counted *c, uint32_t number)
+{
+    counted expected = *c;
+    const uint32_t lengths[5] = {c->items * OOF_STYLE_WORDS, c->items * OOF_LAYOUT_WORDS, BOXES * OOF_CANDIDATE_WORDS,
+                                 BOXES * OOF_CANDIDATE_WORDS, c->words};
+    memset(expected.state, 0, sizeof expected.state);
+    memcpy(expected.state + OOF_STATE_LENGTHS, lengths, sizeof lengths);
+    return counted_opened(c) == number && memcmp(&expected, c, sizeof expected) == 0;
+}
+
+/* whether the two words are these, and add up to the questions answered; the words behind them are as they were */
+static int counts(const counted *c, uint32_t first, uint32_t second)
+{
+    return c->tally[0] == first && c->tally[1] == second && c->tally[2] == 0x5A5A5A5A && c->tally[3] == 0x5A5A5A5A &&
+           c->state[OOF_STATE_ANSWERED] == first + second;
+}
+
+/* the rest of the run */
+static int finishes(counted *c)
+{
+    while (c->answer[OOF_ANSWER_KIND] != OOF_FINISH)
+        if (replied(c, 0) != OOF_ACCEPTED)
+            return 0;
+    return 1;
+}
+
+/* another number of words than there are items, or than at the opening */
+static void other_tallies(void)
+{
+    for (uint32_t words = 0; words <= TALLY_ROOM; words++) {
+        counted c = two_labels();
+        c.words = words;
+        if (words != ITEMS) {
+            MUST(opening_refuses(&c, OOF_BAD_EXTENT) && refuses(&c, 0, OOF_BAD_EXTENT));
+            c.words = ITEMS; /* as many as there are items, and not as many as at the opening */
+            MUST(refuses(&c, 0, OOF_BAD_EXTENT));
+            MUST(counted_opened(&c) == OOF_ACCEPTED && counts(&c, 0, 0));
+            c.words = words;
+            MUST(refuses(&c, 0, OOF_BAD_EXTENT));
+            c.words = ITEMS, c.state[OOF_STATE_LENGTHS + 4] = words; /* a state that no call wrote */
+            MUST(refuses(&c, 0, OOF_BAD_EXTENT));
+            c.state[OOF_STATE_LENGTHS + 4] = ITEMS;
+            MUST(replied(&c, 0) == OOF_ACCEPTED && counts(&c, 1, 0));
+            c.words = words;
+            MUST(refuses(&c, 0, OOF_BAD_EXTENT)); /* of a lay-out reply too */
+        }
+    }
+    counted c = two_labels();
+    c.claims = 4;
+    MUST(opening_refuses(&c, OOF_BAD_AREA) && refuses(&c, 0, OOF_WRONG_REPLY)); /* of as many words: no question is open */
+}
+
+/* items without words, and words without items */
+static void no_items(void)
+{
+    counted c = two_labels();
+    c.items = c.candidates_lent = c.words = 0;
+    MUST(counted_opened(&c) == OOF_ACCEPTED && c.answer[OOF_ANSWER_KIND] == OOF_FINISH && c.answer[OOF_FINISH_COUNT] == 0);
+    MUST(c.tally[0] == 0x5A5A5A5A && c.state[OOF_STATE_LENGTHS + 4] == 0);
+    MUST(refuses(&c, 0, OOF_WRONG_REPLY));
+    c.words = 1;
+    MUST(refuses(&c, 0, OOF_BAD_EXTENT) && opening_refuses(&c, OOF_BAD_EXTENT));
+}
+
+/* a word above the questions answered, whoever's it is, as both stand before the reply */
+static void words_above(void)
+{
+    const uint32_t above[3] = {1, 2, 0xFFFFFFFF};
+    for (int k = 0; k < ITEMS; k++)
+        for (int of = 0; of < 3; of++) {
+            counted c = two_labels();
+            MUST(counted_opened(&c) == OOF_ACCEPTED);
+            c.tally[k] = above[of];
+            MUST(refuses(&c, 0, OOF_WRONG_REPLY));
+            c.tally[k] = 0;
+            MUST(replied(&c, 0) == OOF_ACCEPTED && counts(&c, 1, 0));
+        }
+    counted c = two_labels();
+    MUST(counted_opened(&c) == OOF_ACCEPTED && replied(&c, 0) == OOF_ACCEPTED && counts(&c, 1, 0));
+    c.tally[1] = 2;
+    MUST(refuses(&c, 0, OOF_WRONG_REPLY));
+    c.tally[1] = 0, c.state[OOF_STATE_ANSWERED] = 0;
+    MUST(refuses(&c, 0, OOF_WRONG_REPLY)); /* another run's state, as may be */
+    c.tally[1] = c.state[OOF_STATE_ANSWERED] = 1;
+    MUST(replied(&c, 0) == OOF_ACCEPTED && c.tally[0] == 2 && c.tally[1] == 1 && c.state[OOF_STATE_ANSWERED] == 2);
+}
+
+/* 1 before the tally's length, that before all other tests; the words after other lengths, before styles */
+static void tallies_in_order(void)
+{
+    counted c = two_labels();
+    c.words = 1, c.styles[OOF_STYLE_DIRECTION] = 2;
+    MUST(opening_refuses(&c, OOF_BAD_EXTENT));
+    c.claims = 4;
+    MUST(opening_refuses(&c, OOF_BAD_AREA));
+    c = two_labels();
+    MUST(counted_opened(&c) == OOF_ACCEPTED);
+    c.styles[OOF_STYLE_DIRECTION] = 2, c.tally[1] = 1;
+    MUST(refuses(&c, 0, OOF_WRONG_REPLY));
+    MUST(oof_reply_laid_out(0, 0, 0, 0, c.candidates, 13, COUNTED(&c)) == OOF_BAD_EXTENT);
+    c.words = 1;
+    MUST(refuses(&c, 0, OOF_BAD_EXTENT));
+    c.words = 2, c.tally[1] = 0;
+    MUST(refuses(&c, 0, OOF_BAD_STYLE));
+}
+
+/* who is charged: the box whose question is open, by its record as it is then */
+static void charged_boxes(void)
+{
+    counted c = two_labels();
+    MUST(counted_opened(&c) == OOF_ACCEPTED && c.answer[OOF_QUESTION_NODE] == 0);
+    c.working[OOF_CANDIDATE_NODE] = 1; /* between question and reply */
+    MUST(replied(&c, 0) == OOF_ACCEPTED && counts(&c, 0, 1));
+
+    c = two_labels();
+    MUST(counted_opened(&c) == OOF_ACCEPTED && replied(&c, 0) == OOF_ACCEPTED && counts(&c, 1, 0));
+    MUST(c.answer[OOF_ANSWER_KIND] == OOF_LAY_OUT && refuses(&c, 2, OOF_LIST_FULL));
+    MUST(replied(&c, 0) == OOF_ACCEPTED && counts(&c, 2, 0)); /* the box laid out, and not the next one */
+    MUST(c.answer[OOF_QUESTION_NODE] == 1 && c.answer[OOF_ANSWER_KIND] == OOF_MEASURE_WIDTH);
+    MUST(finishes(&c) && counts(&c, 2, 3) && c.answer[OOF_FINISH_COUNT] == 5);
+
+    c = two_labels();
+    c.candidates_lent = 3; /* node 0 twice */
+    MUST(counted_opened(&c) == OOF_ACCEPTED && finishes(&c) && counts(&c, 4, 3) && c.answer[OOF_FINISH_COUNT] == 7);
+    MUST(refuses(&c, 0, OOF_WRONG_REPLY)); /* finished */
+
+    c = two_labels();
+    c.candidates_lent = 1; /* what it surfaces is another box of node 0 */
+    MUST(counted_opened(&c) == OOF_ACCEPTED && replied(&c, 0) == OOF_ACCEPTED && replied(&c, 1) == OOF_ACCEPTED);
+    MUST(counts(&c, 2, 0) && finishes(&c) && counts(&c, 4, 0) && c.answer[OOF_FINISH_COUNT] == 4);
+}
+
+/* what an opening does: it clears all words, or it is refused and leaves them */
+static void cleared_tallies(void)
+{
+    counted c = two_labels();
+    MUST(counted_opened(&c) == OOF_ACCEPTED && finishes(&c) && counts(&c, 2, 3));
+    c.candidates_lent = BOXES + 1;
+    MUST(opening_refuses(&c, OOF_LIST_FULL) && c.tally[0] == 2 && c.tally[1] == 3);
+    c.candidates_lent = 1;
+    MUST(counted_opened(&c) == OOF_ACCEPTED && counts(&c, 0, 0)); /* also the word of an item without a box */
+    MUST(finishes(&c) && counts(&c, 2, 0));
+    c.styles[OOF_STYLE_DIRECTION] = 2;
+    MUST(opening_refuses(&c, OOF_BAD_STYLE) && c.tally[0] == 2 && c.tally[1] == 0);
+    c.styles[OOF_STYLE_DIRECTION] = 0, c.tally[0] = 0xFFFFFFFF, c.claims = 0;
+    MUST(counted_opened(&c) == OOF_ACCEPTED && c.answer[OOF_ANSWER_KIND] == OOF_FINISH && counts(&c, 0, 0));
+}
+
+/* as many items as there can be, of which the last has a box */
+static void longest_tally(void)
+{
+    enum { MOST = OOF_MOST_ITEMS, LAST = MOST - 1 };
+    static uint32_t layouts[MOST * OOF_LAYOUT_WORDS], tally[MOST];
+    uint32_t candidate[OOF_CANDIDATE_WORDS], lists[2 * OOF_CANDIDATE_WORDS], state[OOF_STATE_WORDS], answer[OOF_ANSWER_WORDS];
+    uint32_t others = 0;
+    good_items(MOST);
+    put_candidate(candidate, 0, LAST, 0);
+    memset(tally, 0xFF, sizeof tally);
+#define LONGEST                                                                                                       \
+    layouts, MOST * OOF_LAYOUT_WORDS, lists, OOF_CANDIDATE_WORDS, lists + OOF_CANDIDATE_WORDS, OOF_CANDIDATE_WORDS,   \
+        tally, MOST, state, answer
+    MUST(oof_open(200, 100, 0, 0, OOF_DIRECTION_LTR, OOF_CLAIMS_ABSOLUTE, OOF_OVERFLOW_VISIBLE, OOF_OVERFLOW_VISIBLE, table,
+                  MOST * OOF_STYLE_WORDS, candidate, OOF_CANDIDATE_WORDS, LONGEST) == OOF_ACCEPTED);
+    tally[LAST - 1] = 1;
+    MUST(oof_reply_both(120, 18, table, MOST * OOF_STYLE_WORDS, LONGEST) == OOF_WRONG_REPLY);
+    tally[LAST - 1] = 0;
+    MUST(oof_reply_both(120, 18, table, MOST * OOF_STYLE_WORDS, LONGEST) == OOF_ACCEPTED);
+    MUST(oof_reply_laid_out(0, 0, 0, 0, candidate, 0, table, MOST * OOF_STYLE_WORDS, LONGEST) == OOF_ACCEPTED);
+#undef LONGEST
+    for (int k = 0; k < LAST; k++)
+        others |= tally[k];
+    MUST(others == 0 && tally[LAST] == 2 && answer[OOF_FINISH_COUNT] == 2);
+}
+
+/* one change for which the reply is refused with the number that is returned */
+static uint32_t damage_counted(counted *c)
+{
+    switch (below(6)) {
+    case 0: c->words += below(2) ? 1 : -1; return OOF_BAD_EXTENT;
+    case 1: c->state[OOF_STATE_LENGTHS + 4]++; return OOF_BAD_EXTENT;
+    case 2: c->tally[below(ITEMS)] = c->state[OOF_STATE_ANSWERED] + 1; return OOF_WRONG_REPLY;
+    case 3: c->answer[OOF_ANSWER_KIND] = 1 + c->answer[OOF_ANSWER_KIND] % 4; return OOF_WRONG_REPLY; /* of another kind */
+    case 4: c->styles[below(ITEMS) * OOF_STYLE_WORDS + OOF_STYLE_CONTAIN] = 256; return OOF_BAD_STYLE;
+    default: c->working[OOF_CANDIDATE_NODE] = ITEMS; return OOF_BAD_CANDIDATE;
+    }
+}
+
+/* runs with refused replies between the others, with nodes that somebody rewrites and boxes that surface, beside a count of the
+ * replies that were accepted, by their boxes */
+static void random_tallies(void)
+{
+    enum { RUNS = 30000 };
+    const uint32_t tags[5] = {OOF_TAG_AUTO, OOF_TAG_PX, OOF_TAG_MIN_CONTENT, OOF_TAG_FIT_CONTENT, OOF_TAG_STRETCH};
+    int wrong = 0, full = 0, refused = 0, twice = 0;
+    for (int run = 0; run < RUNS; run++) {
+        counted c = two_labels();
+        uint32_t expected[ITEMS] = {0}, sum = 0, last = ITEMS;
+        for (int k = 0; k < 2 * ITEMS; k++)
+            oof_set_length(c.styles + k / 2 * OOF_STYLE_WORDS, k % 2 ? OOF_STYLE_HEIGHT : OOF_STYLE_WIDTH, tags[below(5)], 8);
+        c.candidates_lent = below(BOXES + 1), c.claims = below(8) ? OOF_CLAIMS_ABSOLUTE : below(4);
+        for (int k = 0; k < BOXES; k++)
+            put_candidate(c.candidates, k, below(ITEMS), below(256))[OOF_CANDIDATE_POSITION] = OOF_POSITION_ABSOLUTE + !below(4);
+        wrong += counted_opened(&c) != OOF_ACCEPTED || !counts(&c, 0, 0);
+        while (c.answer[OOF_ANSWER_KIND] != OOF_FINISH) {
+            if (!below(3)) {
+                counted damaged = c;
+                const uint32_t number = damage_counted(&damaged);
+                wrong += !refuses(&damaged, 0, number), refused++;
+            }
+            if (!below(8))
+                c.working[below(c.state[OOF_STATE_WORKING]) * OOF_CANDIDATE_WORDS + OOF_CANDIDATE_NODE] = below(ITEMS);
+            const uint32_t node = c.working[(c.state[OOF_STATE_BEGUN] - 1) * OOF_CANDIDATE_WORDS + OOF_CANDIDATE_NODE];
+            const counted before = c;
+            uint32_t result = replied(&c, below(3));
+            if (result == OOF_LIST_FULL) {
+                wrong += memcmp(&before, &c, sizeof c) != 0, full++;
+                result = replied(&c, 0);
+            }
+            expected[node]++, sum++;
+            twice += before.answer[OOF_ANSWER_KIND] == OOF_LAY_OUT && node == last;
+            last = before.answer[OOF_ANSWER_KIND] == OOF_LAY_OUT ? node : last;
+            if (result != OOF_ACCEPTED || !counts(&c, expected[0], expected[1])) {
+                wrong++;
+                break;
+            }
+        }
+        wrong += c.answer[OOF_FINISH_COUNT] != sum;
+    }
+    MUST(wrong == 0 && full > 1000 && refused > 10000 && twice > 1000);
+}
+
+static void of_tallies(void)
+{
+    other_tallies();
+    no_items();
+    words_above();
+    tallies_in_order();
+    charged_boxes();
+    cleared_tallies();
+    longest_tally();
+    random_tallies();
+}
+
 static void of_drawings(void)
 {
     drawing_orders();
@@ -1818,6 +2135,7 @@ int main(void)
     of_sums();
     stretched_from_anchors();
     measured_from_anchors();
+    of_tallies();
     printf("hosts/c: %d tests passed\n", tried);
     return EXIT_SUCCESS;
 }

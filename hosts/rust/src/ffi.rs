@@ -9,7 +9,7 @@
 use crate::words::LAYOUT;
 
 /// Words of a state. All zeros are the state of a finished run.
-pub const STATE: usize = 27;
+pub const STATE: usize = 28;
 /// Words of an answer
 pub const ANSWER: usize = 10;
 /// Pixel edges of a box: left, right, top, bottom
@@ -41,7 +41,7 @@ pub mod state {
     pub const AREA: usize = 15;
     /// Direction, claims, overflow x and y
     pub const CODES: usize = 19;
-    /// Words lent at the opening: styles, layouts, working, unclaimed
+    /// Words lent at the opening: styles, layouts, working, unclaimed, tally
     pub const LENGTHS: usize = 23;
 }
 
@@ -55,13 +55,17 @@ pub struct Lent<'a> {
     pub working: &'a mut [u32],
     /// Room for the others
     pub unclaimed: &'a mut [u32],
+    /// One word an item: how many of the run's questions about it are answered. An opening clears it, and an accepted reply adds 1 to
+    /// the word of the box whose question was open. The words add up to the questions answered, while nobody else writes them and each
+    /// call gets the state that the last one returned
+    pub tally: &'a mut [u32],
     /// What the run keeps between calls. Written by every opening, and by a reply that is accepted
     pub state: &'a mut [u32; STATE],
     /// The next question, or the finish. Written when a call is accepted
     pub answer: &'a mut [u32; ANSWER],
 }
 
-/// What a call lends that reads a finished run: its words, as the last call left them.
+/// What a call lends that reads a finished run: its words, as the last call left them. The tally isn't lent.
 #[derive(Copy, Clone)]
 pub struct Finished<'a> {
     /// As many words as at the opening; which ones doesn't count
@@ -110,6 +114,8 @@ mod c {
             working_len: usize,
             unclaimed: *mut u32,
             unclaimed_len: usize,
+            tally: *mut u32,
+            tally_len: usize,
             state: *mut u32,
             answer: *mut u32,
         ) -> u32;
@@ -124,6 +130,8 @@ mod c {
             working_len: usize,
             unclaimed: *mut u32,
             unclaimed_len: usize,
+            tally: *mut u32,
+            tally_len: usize,
             state: *mut u32,
             answer: *mut u32,
         ) -> u32;
@@ -137,6 +145,8 @@ mod c {
             working_len: usize,
             unclaimed: *mut u32,
             unclaimed_len: usize,
+            tally: *mut u32,
+            tally_len: usize,
             state: *mut u32,
             answer: *mut u32,
         ) -> u32;
@@ -150,6 +160,8 @@ mod c {
             working_len: usize,
             unclaimed: *mut u32,
             unclaimed_len: usize,
+            tally: *mut u32,
+            tally_len: usize,
             state: *mut u32,
             answer: *mut u32,
         ) -> u32;
@@ -168,6 +180,8 @@ mod c {
             working_len: usize,
             unclaimed: *mut u32,
             unclaimed_len: usize,
+            tally: *mut u32,
+            tally_len: usize,
             state: *mut u32,
             answer: *mut u32,
         ) -> u32;
@@ -206,7 +220,7 @@ mod c {
 macro_rules! call {
     ($entry:ident, $lent:expr, $($before:expr),*) => {
         // SAFETY: pointers and lengths come from Rust slices that live through the call; those that are written are borrowed
-        // uniquely, so none overlaps another; state and answer have the 27 and 10 words that the entry reads and writes.
+        // uniquely, so none overlaps another; state and answer have the 28 and 10 words that the entry reads and writes.
         unsafe {
             c::$entry(
                 $($before,)*
@@ -216,6 +230,8 @@ macro_rules! call {
                 $lent.working.len(),
                 $lent.unclaimed.as_mut_ptr(),
                 $lent.unclaimed.len(),
+                $lent.tally.as_mut_ptr(),
+                $lent.tally.len(),
                 $lent.state.as_mut_ptr(),
                 $lent.answer.as_mut_ptr(),
             )
@@ -262,7 +278,7 @@ pub fn reply(reply: Reply, surfaced: &[u32], lent: &mut Lent) -> u32 {
 /// Whether scrolling can bring the box at a place of the hoisted order into view. The verdict is written when the call is accepted.
 /// The result is 0, or the number of a refusal.
 pub fn reach(place: usize, run: Finished, verdict: &mut [u32; VERDICT]) -> u32 {
-    // SAFETY: pointers and lengths come from Rust slices that live through the call; the entry only reads them and the state's 27
+    // SAFETY: pointers and lengths come from Rust slices that live through the call; the entry only reads them and the state's 28
     // words, and writes the verdict's 3, which are borrowed uniquely
     unsafe {
         c::oof_reach(
@@ -284,7 +300,7 @@ pub fn reach(place: usize, run: Finished, verdict: &mut [u32; VERDICT]) -> u32 {
 /// The order in which the boxes of a finished run are drawn, as places in the hoisted order: lower layers first, and within one layer the
 /// hoisted order. `order` has one word a box; it is written when the call is accepted. The result is 0, or the number of a refusal.
 pub fn drawing_order(run: Finished, order: &mut [u32]) -> u32 {
-    // SAFETY: pointers and lengths come from Rust slices that live through the call; the entry only reads them and the state's 27
+    // SAFETY: pointers and lengths come from Rust slices that live through the call; the entry only reads them and the state's 28
     // words, and writes the words of `order`, which are borrowed uniquely
     unsafe {
         c::oof_drawing_order(

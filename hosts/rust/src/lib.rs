@@ -3,9 +3,9 @@
 //! [`compute_oof_layout_for_area`] reads like the function of that name in taffy 0.15.1: it takes an area, a table of styles
 //! and a list of candidates, calls the [`Host`] back to measure and to lay out, and returns where the boxes stand. Under it is
 //! the library's dialogue of questions and replies over lent words; [`ffi`] has its nine entries, with slices checked by
-//! Rust. [`Layout::pixels`] rounds a box to whole pixels, [`Placed::reach`] says whether scrolling can bring it into view, and
-//! [`Placed::drawing_order`] in which order the boxes are drawn. [`first_bad_word`] says which word of a table of styles, held as
-//! words and perhaps half typed, breaks a code rule.
+//! Rust. [`Placed::tally`] says how many questions each item took, [`Placed::reach`] whether scrolling can bring a box into view,
+//! and [`Placed::drawing_order`] in which order the boxes are drawn. [`Layout::pixels`] rounds a box to whole pixels.
+//! [`first_bad_word`] says which word of a table of styles, held as words and perhaps half typed, breaks a code rule.
 //!
 //! ```
 //! use oof::*;
@@ -28,6 +28,7 @@
 //! assert_eq!(layout.location, Point { x: 120.0, y: 52.0 });
 //! assert_eq!(layout.pixels(offset), Ok(Rect { left: 20, right: 140, top: 12, bottom: 30 }));
 //! assert_eq!(placed.reach(0), Ok(Reach::Seen { x_eighths: 0, y_eighths: 0 }));
+//! assert_eq!((placed.tally, placed.questions), (vec![2], 2));
 //! ```
 #![deny(unsafe_code, missing_docs)]
 

@@ -61,6 +61,9 @@ pub struct Placed {
     pub overflow: Rect<f32>,
     /// How many questions the host answered
     pub questions: usize,
+    /// By item: how many of these questions were about it, so that a host whose font is slow sees the costly labels. They add up to
+    /// `questions`. An item that was claimed twice has those of both its boxes, one that wasn't placed 0.
+    pub tally: Vec<u32>,
     pub(crate) words: Words,
 }
 
@@ -76,7 +79,7 @@ pub(crate) struct Words {
 
 impl Words {
     fn of(run: Run) -> Words {
-        let Run { styles, layouts, mut working, mut unclaimed, mut state, answer: _ } = run;
+        let Run { styles, layouts, mut working, mut unclaimed, tally: _, mut state, answer: _ } = run;
         let mut trim = |list: &mut Vec<u32>, filled: usize, length: usize| {
             list.truncate(CANDIDATE * state[filled] as usize);
             list.shrink_to_fit();
@@ -199,6 +202,7 @@ struct Run {
     layouts: Vec<u32>,
     working: Vec<u32>,
     unclaimed: Vec<u32>,
+    tally: Vec<u32>,
     state: [u32; ffi::STATE],
     answer: [u32; ffi::ANSWER],
 }
@@ -212,6 +216,7 @@ impl Run {
             layouts: vec![0; LAYOUT * styles.len()],
             working: list(room.working, Room::MOST.working),
             unclaimed: list(room.unclaimed, Room::MOST.unclaimed),
+            tally: vec![0; styles.len()],
             state: [0; ffi::STATE],
             answer: [0; ffi::ANSWER],
         }
@@ -222,6 +227,7 @@ impl Run {
             layouts: &mut self.layouts,
             working: &mut self.working,
             unclaimed: &mut self.unclaimed,
+            tally: &mut self.tally,
             state: &mut self.state,
             answer: &mut self.answer,
         }
@@ -241,7 +247,7 @@ impl Run {
     fn answer(&self) -> Answer {
         Answer::from_words(&self.answer).expect("the library answers with a question or a finish")
     }
-    fn placed(self, overflow: Rect<f32>, questions: usize) -> Placed {
+    fn placed(mut self, overflow: Rect<f32>, questions: usize) -> Placed {
         let filled = |list: &[u32], count: u32| -> Vec<Candidate> {
             let records = list.as_chunks::<CANDIDATE>().0;
             let read = |w: &[u32; CANDIDATE]| Candidate::from_words(w).expect("the library writes good records");
@@ -255,7 +261,8 @@ impl Run {
             layouts[node as usize] = Some(Layout::from_words(&records[node as usize]));
         }
         let unclaimed = filled(&self.unclaimed, self.state[state::FILLED_UNCLAIMED]);
-        Placed { layouts, hoisted, unclaimed, overflow, questions, words: Words::of(self) }
+        let tally = std::mem::take(&mut self.tally);
+        Placed { layouts, hoisted, unclaimed, overflow, questions, tally, words: Words::of(self) }
     }
 }
 

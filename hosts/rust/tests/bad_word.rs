@@ -78,6 +78,7 @@ fn opened(styles: &[u32]) -> Option<Refusal> {
         layouts: &mut vec![0; styles.len() / STYLE * LAYOUT],
         working: &mut [],
         unclaimed: &mut [],
+        tally: &mut vec![0; styles.len() / STYLE],
         state: &mut state,
         answer: &mut answer,
     };

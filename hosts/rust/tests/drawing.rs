@@ -145,6 +145,7 @@ struct Words {
     layouts: Vec<u32>,
     working: Vec<u32>,
     unclaimed: Vec<u32>,
+    tally: Vec<u32>,
     state: [u32; ffi::STATE],
 }
 impl Words {
@@ -154,6 +155,7 @@ impl Words {
             layouts: vec![0xDEAD_0001; NODES * LAYOUT],
             working: vec![0xDEAD_0002; 4 * CANDIDATE],
             unclaimed: vec![0xDEAD_0003; 4 * CANDIDATE],
+            tally: vec![0xDEAD_0005; NODES],
             state: [0; ffi::STATE],
         };
         let candidates: Vec<u32> = [on(5, 1), on(5, 0), on(2, 0)].iter().flat_map(Candidate::to_words).collect();
@@ -174,13 +176,14 @@ impl Words {
             layouts: &mut self.layouts,
             working: &mut self.working,
             unclaimed: &mut self.unclaimed,
+            tally: &mut self.tally,
             state: &mut self.state,
             answer: &mut [0; ffi::ANSWER],
         })
     }
     /// The order, or the refusal, which writes none; never a word beside it
     fn drawing_order(&self, words: usize) -> Result<Vec<u32>, Refusal> {
-        let Words { styles, layouts, working, unclaimed, state } = self;
+        let Words { styles, layouts, working, unclaimed, tally: _, state } = self;
         let mut room = [0xDEAD_0004; 8];
         let number =
             ffi::drawing_order(Finished { styles, layouts, working, unclaimed, state }, &mut room[1..][..words]);
@@ -203,6 +206,7 @@ fn refused_by_name() {
     w.unclaimed[LAYER] = 256; // nor is the unclaimed list
     w.working[3 * CANDIDATE + LAYER] = 256; // nor is what isn't filled
     (w.state[state::BEGUN], w.state[state::ANSWERED]) = (7, 99);
+    w.state[state::LENGTHS + 4] = 99; // of the tally, which isn't lent
     w.state[state::AREA] = f32::NAN.to_bits();
     assert_eq!(w.drawing_order(3), Ok(vec![1, 2, 0]));
     for layer in [256, 257, 1 << 24, 0x7FC0_0001, 1 << 31, u32::MAX] {

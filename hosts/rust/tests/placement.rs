@@ -214,6 +214,7 @@ struct Words {
     layouts: Vec<u32>,
     working: Vec<u32>,
     unclaimed: Vec<u32>,
+    tally: Vec<u32>,
     state: [u32; ffi::STATE],
     answer: [u32; ffi::ANSWER],
 }
@@ -226,6 +227,7 @@ fn words() -> Words {
         layouts: vec![0xDEAD_0001; LAYOUT],
         working: vec![0xDEAD_0002; CANDIDATE],
         unclaimed: vec![0xDEAD_0003; CANDIDATE],
+        tally: vec![0xDEAD_0004],
         state: std::array::from_fn(|i| 0xDEAD_0100 + i as u32),
         answer: std::array::from_fn(|i| 0xDEAD_0200 + i as u32),
     }
@@ -237,6 +239,7 @@ impl Words {
             layouts: &mut self.layouts,
             working: &mut self.working,
             unclaimed: &mut self.unclaimed,
+            tally: &mut self.tally,
             state: &mut self.state,
             answer: &mut self.answer,
         }
@@ -256,13 +259,13 @@ fn refused(number: u32) -> Option<Refusal> {
 /// A finished run with all counts 0, opened over slices of these lengths
 fn closed(w: &Words) -> [u32; ffi::STATE] {
     let mut state = [0; ffi::STATE];
-    let lengths = [w.styles.len(), w.layouts.len(), w.working.len(), w.unclaimed.len()];
-    (0..4).for_each(|i| state[ffi::state::LENGTHS + i] = lengths[i] as u32);
+    let lengths = [w.styles.len(), w.layouts.len(), w.working.len(), w.unclaimed.len(), w.tally.len()];
+    (0..5).for_each(|i| state[ffi::state::LENGTHS + i] = lengths[i] as u32);
     state
 }
 
 /// Ways to have an opening refused, and how
-const BAD_OPENINGS: [(Refusal, fn(&mut Words)); 17] = {
+const BAD_OPENINGS: [(Refusal, fn(&mut Words)); 19] = {
     use Refusal::*;
     [
         (BadArea, |w| w.codes[0] = 2),
@@ -275,6 +278,8 @@ const BAD_OPENINGS: [(Refusal, fn(&mut Words)); 17] = {
         (BadExtent, |w| w.candidates.truncate(CANDIDATE - 1)),
         (BadExtent, |w| w.working.resize(CANDIDATE * 4097, 0)),
         (BadExtent, |w| w.unclaimed.push(0)),
+        (BadExtent, |w| w.tally.clear()),
+        (BadExtent, |w| w.tally.push(0)),
         (BadStyle, |w| w.styles[style::PADDING_LEFT] = tag::AUTO),
         (BadStyle, |w| w.styles[style::INSET_LEFT] = 256 + tag::LENGTH),
         (BadStyle, |w| w.styles[style::WIDTH] = 256 + tag::SUM),
@@ -348,7 +353,9 @@ fn refused_replies_write_nothing() {
     refuse(&mut w, WrongReply, laid, &[], |_| ());
     refuse(&mut w, WrongReply, Reply::Both(1.0, 1.0), &[], |w| w.state[ffi::state::BEGUN] = 2);
     refuse(&mut w, WrongReply, Reply::Both(1.0, 1.0), &[], |w| w.state[ffi::state::PROGRESS] = 6);
+    refuse(&mut w, WrongReply, Reply::Both(1.0, 1.0), &[], |w| w.tally[0] = 1);
     refuse(&mut w, BadExtent, Reply::Both(1.0, 1.0), &[], |w| w.unclaimed.truncate(0));
+    refuse(&mut w, BadExtent, Reply::Both(1.0, 1.0), &[], |w| w.tally.push(0));
     refuse(&mut w, BadStyle, Reply::Both(1.0, 1.0), &[], |w| w.styles[style::CONTAIN] = 256);
     refuse(&mut w, BadCandidate, Reply::Both(1.0, 1.0), &[], |w| w.working[2] = 5);
     assert_eq!(w.reply(Reply::Both(120.0, 18.0), &[7]), 0); // a slice lent with it isn't looked at
@@ -357,10 +364,11 @@ fn refused_replies_write_nothing() {
     refuse(&mut w, BadCandidate, laid, &on_layer(256), |_| ());
     refuse(&mut w, BadCandidate, laid, &[], |w| w.working[LAYER] = 256);
     refuse(&mut w, ListFull, laid, &Candidate::default().to_words(), |_| ());
+    refuse(&mut w, WrongReply, laid, &[], |w| w.tally[0] = u32::MAX);
     refuse(&mut w, WrongReply, Reply::Both(1.0, 1.0), &[0; CANDIDATE - 1], |_| ());
     assert_eq!(w.layouts, words().layouts);
     assert_eq!(w.reply(laid, &[]), 0);
-    assert_eq!((w.answer[0], w.answer[1]), (0, 2));
+    assert_eq!((w.answer[0], w.answer[1], w.tally[0]), (0, 2, 2));
     refuse(&mut w, WrongReply, laid, &[], |_| ()); // finished
 }
 
@@ -370,6 +378,6 @@ fn a_state_of_zeros_is_finished() {
     let mut w = words();
     w.state = [0; ffi::STATE];
     assert_eq!(refused(w.reply(Reply::Width(0.0), &[])), Some(Refusal::BadExtent));
-    let mut none = Words { styles: vec![], layouts: vec![], working: vec![], unclaimed: vec![], ..w };
+    let mut none = Words { styles: vec![], layouts: vec![], working: vec![], unclaimed: vec![], tally: vec![], ..w };
     assert_eq!(refused(none.reply(Reply::Width(0.0), &[])), Some(Refusal::WrongReply));
 }

@@ -173,6 +173,7 @@ struct Words {
     layouts: Vec<u32>,
     working: Vec<u32>,
     unclaimed: Vec<u32>,
+    tally: Vec<u32>,
     state: [u32; ffi::STATE],
 }
 impl Words {
@@ -182,6 +183,7 @@ impl Words {
             layouts: vec![0xDEAD_0001; LAYOUT],
             working: vec![0xDEAD_0002; 2 * CANDIDATE],
             unclaimed: vec![0xDEAD_0003; 2 * CANDIDATE],
+            tally: vec![0xDEAD_0005],
             state: [0; ffi::STATE],
         };
         let candidates = Candidate::default().to_words();
@@ -199,13 +201,14 @@ impl Words {
             layouts: &mut self.layouts,
             working: &mut self.working,
             unclaimed: &mut self.unclaimed,
+            tally: &mut self.tally,
             state: &mut self.state,
             answer: &mut [0; ffi::ANSWER],
         })
     }
     /// Its verdict, or its refusal, which writes none
     fn reach(&self, place: usize) -> Result<[u32; ffi::VERDICT], Refusal> {
-        let Words { styles, layouts, working, unclaimed, state } = self;
+        let Words { styles, layouts, working, unclaimed, tally: _, state } = self;
         let mut verdict = [0xDEAD_0004; ffi::VERDICT];
         match ffi::reach(place, Finished { styles, layouts, working, unclaimed, state }, &mut verdict) {
             0 => Ok(verdict),
@@ -225,6 +228,7 @@ fn refused_by_name() {
     w.styles[style::PADDING_LEFT] = 2; // no tag: styles aren't read
     w.unclaimed[2] = 5; // nor is the unclaimed list
     (w.state[state::BEGUN], w.state[state::ANSWERED]) = (7, 99);
+    w.state[state::LENGTHS + 4] = 99; // of the tally, which isn't lent
     w.layouts[11] = f32::NAN.to_bits(); // a padding
     assert_eq!(w.reach(0), Ok([1, 801, 0]));
     w.state[state::OVERFLOW] = (-0.1f32).to_bits();

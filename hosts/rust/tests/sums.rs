@@ -23,7 +23,7 @@ impl Written {
 
 /// A run in an area at 0, 0, over words: each measurement gives the font's size, and nothing surfaces
 fn run(area: Size<f32>, direction: Direction, styles: &[u32]) -> Result<Written, Refusal> {
-    let (mut layout, mut working, mut unclaimed) = ([0; LAYOUT], [0; CANDIDATE], [0; CANDIDATE]);
+    let (mut layout, mut working, mut unclaimed, mut tally) = ([0; LAYOUT], [0; CANDIDATE], [0; CANDIDATE], [0]);
     let (mut state, mut answer, mut questions) = ([0; ffi::STATE], [0; ffi::ANSWER], vec![]);
     let mut reply = None;
     loop {
@@ -32,6 +32,7 @@ fn run(area: Size<f32>, direction: Direction, styles: &[u32]) -> Result<Written,
             layouts: &mut layout,
             working: &mut working,
             unclaimed: &mut unclaimed,
+            tally: &mut tally,
             state: &mut state,
             answer: &mut answer,
         };
