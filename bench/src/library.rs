@@ -10,7 +10,7 @@ pub struct Words {
     candidates: Vec<u32>,
     pub layouts: Vec<u32>,
     pub working: Vec<u32>,
-    tally: Vec<u32>,
+    pub tally: Vec<u32>,
     pub state: [u32; STATE],
     pub answer: [u32; ANSWER],
 }

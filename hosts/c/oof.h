@@ -427,8 +427,9 @@ enum {
  *   - A node that was claimed twice has the questions of both boxes in its word. An item that isn't asked about has 0.
  * Its words add up to the questions answered so far, state[OOF_STATE_ANSWERED], and at the finish to its count,
  * answer[OOF_FINISH_COUNT]. This holds after an accepted opening, while nobody else writes the tally and each call gets the
- * state that the last one returned. So no word is above the count then, and no reply is refused for one. Of the other
- * words a host may write any between the calls, and calls that are refused count for nothing.
+ * state that the last one returned. So no word is above the count then, and no reply is refused for one. Of the other words a
+ * host may write any between the calls, and calls that are refused count for nothing. A host that goes back to a state that it
+ * kept puts the tally back with it: else a word may be above that state's count, and the reply is refused with 6.
  * Entries that read a finished run aren't lent the tally, and don't look at its length in the state. */
 
 /* Opens a run over an area: its size, and its offset x and y in the caller's coordinates (any floats).
