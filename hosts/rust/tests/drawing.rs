@@ -1,4 +1,6 @@
 //! Which box is drawn over which: boxes of runs, and every refusal by its name.
+mod common;
+use common::Words;
 use oof::ffi::{self, state, Finished, Lent, Reply};
 use oof::words::{style, CANDIDATE, LAYER, LAYOUT};
 use oof::*;
@@ -139,25 +141,9 @@ fn equality() {
 }
 
 /// A run by words: three boxes of six items on layers 1, 0, 0, and lists of four records
-#[derive(Clone)]
-struct Words {
-    styles: Vec<u32>,
-    layouts: Vec<u32>,
-    working: Vec<u32>,
-    unclaimed: Vec<u32>,
-    tally: Vec<u32>,
-    state: [u32; ffi::STATE],
-}
 impl Words {
     fn opened() -> Words {
-        let mut w = Words {
-            styles: [style(); NODES].iter().flat_map(Style::to_words).collect(),
-            layouts: vec![0xDEAD_0001; NODES * LAYOUT],
-            working: vec![0xDEAD_0002; 4 * CANDIDATE],
-            unclaimed: vec![0xDEAD_0003; 4 * CANDIDATE],
-            tally: vec![0xDEAD_0005; NODES],
-            state: [0; ffi::STATE],
-        };
+        let mut w = Words::over([style(); NODES].iter().flat_map(Style::to_words).collect(), 4);
         let candidates: Vec<u32> = [on(5, 1), on(5, 0), on(2, 0)].iter().flat_map(Candidate::to_words).collect();
         assert_eq!(w.call(|lent| ffi::open([800.0, 480.0, 0.0, 0.0], [0, 3, 3, 3], &candidates, lent)), 0);
         w
@@ -171,19 +157,11 @@ impl Words {
         w
     }
     fn call(&mut self, call: impl FnOnce(&mut Lent) -> u32) -> u32 {
-        call(&mut Lent {
-            styles: &self.styles,
-            layouts: &mut self.layouts,
-            working: &mut self.working,
-            unclaimed: &mut self.unclaimed,
-            tally: &mut self.tally,
-            state: &mut self.state,
-            answer: &mut [0; ffi::ANSWER],
-        })
+        call(&mut self.lent())
     }
     /// The order, or the refusal, which writes none; never a word beside it
     fn drawing_order(&self, words: usize) -> Result<Vec<u32>, Refusal> {
-        let Words { styles, layouts, working, unclaimed, tally: _, state } = self;
+        let Words { styles, layouts, working, unclaimed, state, .. } = self;
         let mut room = [0xDEAD_0004; 8];
         let number =
             ffi::drawing_order(Finished { styles, layouts, working, unclaimed, state }, &mut room[1..][..words]);

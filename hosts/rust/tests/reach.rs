@@ -1,4 +1,6 @@
 //! Which boxes scrolling can bring into view: boxes of runs, and every refusal by its name.
+mod common;
+use common::Words;
 use oof::ffi::{self, state, Finished, Lent, Reply};
 use oof::words::{style, CANDIDATE, LAYER, LAYOUT};
 use oof::*;
@@ -167,25 +169,9 @@ fn equality() {
 }
 
 /// A run by words: one box 900 from the left of an area of 800, lists of two records
-#[derive(Clone)]
-struct Words {
-    styles: Vec<u32>,
-    layouts: Vec<u32>,
-    working: Vec<u32>,
-    unclaimed: Vec<u32>,
-    tally: Vec<u32>,
-    state: [u32; ffi::STATE],
-}
 impl Words {
     fn opened() -> Words {
-        let mut w = Words {
-            styles: at(Direction::Ltr, 900.0, 12.0, 160.0, 24.0).to_words().to_vec(),
-            layouts: vec![0xDEAD_0001; LAYOUT],
-            working: vec![0xDEAD_0002; 2 * CANDIDATE],
-            unclaimed: vec![0xDEAD_0003; 2 * CANDIDATE],
-            tally: vec![0xDEAD_0005],
-            state: [0; ffi::STATE],
-        };
+        let mut w = Words::over(at(Direction::Ltr, 900.0, 12.0, 160.0, 24.0).to_words().to_vec(), 2);
         let candidates = Candidate::default().to_words();
         assert_eq!(w.call(|lent| ffi::open([800.0, 480.0, 0.0, 0.0], [0, 3, 3, 3], &candidates, lent)), 0);
         w
@@ -196,19 +182,11 @@ impl Words {
         w
     }
     fn call(&mut self, call: impl FnOnce(&mut Lent) -> u32) -> u32 {
-        call(&mut Lent {
-            styles: &self.styles,
-            layouts: &mut self.layouts,
-            working: &mut self.working,
-            unclaimed: &mut self.unclaimed,
-            tally: &mut self.tally,
-            state: &mut self.state,
-            answer: &mut [0; ffi::ANSWER],
-        })
+        call(&mut self.lent())
     }
     /// Its verdict, or its refusal, which writes none
     fn reach(&self, place: usize) -> Result<[u32; ffi::VERDICT], Refusal> {
-        let Words { styles, layouts, working, unclaimed, tally: _, state } = self;
+        let Words { styles, layouts, working, unclaimed, state, .. } = self;
         let mut verdict = [0xDEAD_0004; ffi::VERDICT];
         match ffi::reach(place, Finished { styles, layouts, working, unclaimed, state }, &mut verdict) {
             0 => Ok(verdict),

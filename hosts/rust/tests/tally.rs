@@ -1,5 +1,7 @@
 //! How many questions are answered for each item: typed runs beside the calls that the host counts, and words.
-use oof::ffi::{self, state, Lent, Reply};
+mod common;
+use common::Words;
+use oof::ffi::{self, state, Reply};
 use oof::words::{style, CANDIDATE, LAYOUT};
 use oof::*;
 
@@ -85,42 +87,13 @@ fn without_boxes() {
 }
 
 /// A run by words: two items, and lists of two records
-#[derive(Clone, PartialEq, Debug)]
-struct Words {
-    styles: Vec<u32>,
-    layouts: Vec<u32>,
-    working: Vec<u32>,
-    unclaimed: Vec<u32>,
-    tally: Vec<u32>,
-    state: [u32; ffi::STATE],
-    answer: [u32; ffi::ANSWER],
-}
 fn words() -> Words {
-    Words {
-        styles: [Style::default(); 2].iter().flat_map(Style::to_words).collect(),
-        layouts: vec![0xDEAD_0001; 2 * LAYOUT],
-        working: vec![0xDEAD_0002; 2 * CANDIDATE],
-        unclaimed: vec![0xDEAD_0003; 2 * CANDIDATE],
-        tally: vec![0xDEAD_0004; 2],
-        state: std::array::from_fn(|i| 0xDEAD_0100 + i as u32),
-        answer: std::array::from_fn(|i| 0xDEAD_0200 + i as u32),
-    }
+    Words::over([Style::default(); 2].iter().flat_map(Style::to_words).collect(), 2)
 }
 const BOTH: Reply = Reply::Both(120.0, 18.0);
 const LAID: Reply = Reply::LaidOut([0.0; 4]);
 
 impl Words {
-    fn lent(&mut self) -> Lent<'_> {
-        Lent {
-            styles: &self.styles,
-            layouts: &mut self.layouts,
-            working: &mut self.working,
-            unclaimed: &mut self.unclaimed,
-            tally: &mut self.tally,
-            state: &mut self.state,
-            answer: &mut self.answer,
-        }
-    }
     fn open(&mut self, candidates: &[Candidate]) -> Option<Refusal> {
         let candidates: Vec<u32> = candidates.iter().flat_map(Candidate::to_words).collect();
         Refusal::from_number(ffi::open([800.0, 480.0, 0.0, 0.0], [0, 3, 0, 0], &candidates, &mut self.lent()))
