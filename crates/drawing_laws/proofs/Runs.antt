@@ -27,7 +27,8 @@ use Rattle.run.specs.Theorems.{Heard, Loan, other, Turn, next, next_with, turned
 use Rattle.run.proofs.Refusals.{turn_refused}
 use Rattle.run.proofs.Ways.{OpeningWay, begins, opening_way, ReplyWay, measures, lays_out, reply_way}
 use Rattle.mirror_run.proofs.Unread.{taken_all}
-use Rattle.drawing.proofs.There.{layers_in, layer_by_word}
+use Rattle.finished.proofs.There.{many_said}
+use Rattle.drawing.proofs.There.{layer_by_word}
 use Rattle.drawing_laws.specs.Laws.{LayersAllowed, SameCandidates, SameSlices, SameOutcomes, SameLoan, both_own, both_other, SameTurns, none, one, RunReadsNoLayer}
 use Rattle.drawing_laws.proofs.Kept.{swept_layers, reply_room, proceeding_keeps, opening_layers}
 use Rattle.drawing_laws.proofs.Calls.{opening_reads_no_layer, reply_reads_no_layer}
@@ -60,12 +61,15 @@ all_kept by list (c ∷ cs) a = go (side by list c.position) (keep by list cs) (
     go true xs g = (a.0, g)
     go false xs g = g
 
+layers_in : (n : ℕ) (ws : List ℕ) → length (layers_of (first_candidates n ws)) ≡ n
+layers_in = many_said (λ (c : OofCandidate). c.layer)
+
 in_turn_lem : (n : ℕ) (ws : List ℕ) → LayersAllowed n ws → AllAllowed (layers_of (first_candidates n ws))
 in_turn_lem n ws a =
-    all_by (layers_of (first_candidates n ws)) (λ i h. let l : i < n = rw (layers_in n ws) at h in rw (layer_by_word n ws i l) (a i l))
+    all_by (layers_of (first_candidates n ws)) (λ i h. let l : i < n = rw (many_said (λ (c : OofCandidate). c.layer) n ws) at h in rw (layer_by_word n ws i l) (a i l))
 
 by_words : (n : ℕ) (ws : List ℕ) → AllAllowed (layers_of (first_candidates n ws)) → LayersAllowed n ws
-by_words n ws a i h = rw (layer_by_word n ws i h) at (all_at (layers_of (first_candidates n ws)) a i (rw (layers_in n ws) h))
+by_words n ws a i h = rw (layer_by_word n ws i h) at (all_at (layers_of (first_candidates n ws)) a i (rw (many_said (λ (c : OofCandidate). c.layer) n ws) h))
 
 -- of a whole list, so many as are looked at: past its end stand zeros
 whole_list : (ws : List ℕ) → LayersAllowed (length ws / candidate_width) ws → (n : ℕ) → LayersAllowed n ws

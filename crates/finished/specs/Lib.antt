@@ -1,3 +1,4 @@
 pub mod Finished
 pub mod Conditions
 pub mod Laws
+pub mod RowWords

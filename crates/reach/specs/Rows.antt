@@ -1,8 +1,6 @@
 -- Rows worked out by hand; `proofs/Rows.antt` computes each. `e 8` is the word of eight eighths of a pixel, `8e` in the comments. Assumes
 -- nothing.
-use Rattle.std.specs.Prelude.{ℕ, ◌+◌, ◌*◌, true, false, List, [], ◌∷◌, ◌++◌, ◌≡◌, pos, neg_ℤ, Float, replicate, Option, Some, None, Ok, Err, Result}
-use Rattle.std.specs.Float.Ieee.{div, neg, of_int, of_bits, to_bits}
-use Rattle.std.specs.Float.{binary32}
+use Rattle.std.specs.Prelude.{ℕ, ◌+◌, ◌*◌, true, false, List, [], ◌++◌, ◌≡◌, pos, neg_ℤ, Float, replicate, Option, Some, None, Ok, Err, Result}
 use Rattle.refusal.specs.declared.Refusal.{Refusal}
 use Rattle.reach.specs.declared.Offsets.{Offsets}
 use Rattle.geometry.specs.declared.Rect.{Rect}
@@ -17,36 +15,21 @@ use Rattle.oof_resolve.specs.declared.ContainingBlock.{ContainingBlock}
 use Rattle.oof_box.specs.declared.question.Stage.{Stage}
 use Rattle.oof_box.specs.Cut.{no_replies}
 use Rattle.oof_box.specs.declared.question.Stage.TheVariants as stage
-use Rattle.run.specs.Call.{Slices, Lent, slices, lent}
+use Rattle.run.specs.Call.{Slices, Lent, slices}
 use Rattle.run.specs.Run.{extents_of, closed}
 use Rattle.run.specs.declared.Counts.{Counts}
 use Rattle.run.specs.declared.State.{State}
+use Rattle.finished.specs.RowWords.{e, minus, nan, half, float, styles, layout, candidate, on_layer, counts, with_tally}
 use Rattle.reach.specs.Reach.{Axis, least, last_offset, axis_of, box_reached, reached}
 
 -- ---- words
 
--- n eighths, and so many below 0
-abbrev e : ℕ → ℕ
-e n = to_bits binary32 (div binary32 (of_int binary32 (pos n)) (of_int binary32 (pos 8)))
-
-abbrev minus : ℕ → ℕ
-minus n = to_bits binary32 (neg (of_bits binary32 (e n)))
-
 abbrev pub WordRows : Type 0
 WordRows = (e 0 ≡ 0) × (e 1 ≡ 0x3E00_0000) × (e 8 ≡ 0x3F80_0000) × (minus 12 ≡ 0xBFC0_0000)
 
--- a NaN, half an eighth, and -0.1
-abbrev nan : ℕ
-nan = 0x7FC0_0000
-
-abbrev half : ℕ
-half = 0x3D80_0000
-
+-- -0.1
 abbrev tenth : ℕ
 tenth = 0xBDCC_CCCD
-
-abbrev float : ℕ → Float
-float word = of_bits binary32 word
 
 -- ---- one axis
 
@@ -225,41 +208,18 @@ IncidentRows =
 
 -- ---- a box of a run
 
--- a layout's 23 words: x, y, width and height
-abbrev layout : ℕ → ℕ → ℕ → ℕ → List ℕ
-layout x y width height = 0 ∷ width ∷ height ∷ (replicate 6 0 ++ (x ∷ y ∷ replicate 12 0))
-
--- a candidate's 14 words: node, position, of which 2 is absolute and 5 none, and layer
-abbrev on_layer : ℕ → ℕ → ℕ → List ℕ
-on_layer layer node position = node ∷ 0 ∷ position ∷ (replicate 10 0 ++ (layer ∷ []))
-
-abbrev candidate : ℕ → ℕ → List ℕ
-candidate node position = on_layer 0 node position
-
 -- node 0 is 4e by 3e, 40e from the left of its area and 2e from the top; node 1 is 6e by 10e, 20e and 5e from there. The area stands at
 -- 24e, 40e
 abbrev layouts : List ℕ
 layouts = layout (e 64) (e 42) (e 4) (e 3) ++ layout (e 44) (e 45) (e 6) (e 10)
 
--- the styles of n items, in words that are all 0
-abbrev styles : ℕ → List ℕ
-styles n = replicate (style_words * n) 0
-
 -- two items, hoisted as 1, 0
 abbrev two : Slices
 two = slices (styles 2) layouts (candidate 1 2 ++ candidate 0 2) []
 
--- filled working and unclaimed records, boxes begun, questions answered
-abbrev counts : ℕ → ℕ → ℕ → ℕ → Counts
-counts working unclaimed begun answered = record { filled = record { working = working; unclaimed = unclaimed }; begun = begun; answered = answered }
-
 -- in an area of 16e by 8e
 abbrev panel : Direction → Overflow → Overflow → ContainingBlock
 panel direction overflowx overflowy = container direction overflowx overflowy (e 16) (e 8) (e 24) (e 40)
-
--- as an opening is lent them: with a tally of n words
-abbrev with_tally : ℕ → Slices → Lent
-with_tally n l = lent l.styles l.layouts l.working l.unclaimed (replicate n 0)
 
 -- with one of a word for each item
 abbrev at_opening : Slices → Lent

@@ -1,0 +1,5 @@
+pub mod Touch
+pub mod Conditions
+pub mod Passes
+pub mod Laws
+pub mod Rows
