@@ -1,5 +1,5 @@
 -- The three demands of the entries, from their contracts and the theorems of `run`, `oof_box` and `mirror_run`. Assumes nothing.
-use Prim.Native.Nat.{ℕ, ◌+◌, ◌<◌}
+use Prim.Native.Nat.{ℕ, ◌+◌, ◌*◌, ◌<◌}
 use native.Mathlib.Omega.{arith}
 use native.Mathlib.Nat.{zero-add, add-zero}
 use mathlib.Core.Logic.Iff
@@ -38,7 +38,7 @@ use Rattle.run.specs.declared.Step.{Step}
 use Rattle.run.specs.Call.{Slices, Lent, Outcome, outcome}
 use Rattle.run.specs.Refusals.{accepted}
 use Rattle.run.specs.Conditions.{StyleIsBad, FirstIs, NoneHolds}
-use Rattle.run.specs.Theorems.{Names, WroteSize, open_in, one_if_asked, one_if_accepted, asked_for, Heard, Loan, own, other, Turn, next, next_with, turned, Lends, AllLend, called, AddsUp, Stands, heeded_in, course_of, answered_in, laid_so_far}
+use Rattle.run.specs.Theorems.{Names, WroteSize, open_in, one_if_asked, one_if_accepted, asked_for, Heard, Loan, own, other, Turn, next, next_with, turned, Lends, AllLend, called, AddsUp, Stands, heeded_in, course_of, answered_in, laid_so_far, hoisted}
 use Rattle.run.specs.Run.{claims_of, extents_of, box_at_hand, opened, replied, taken_by, laid_out}
 use Rattle.run.proofs.Refusals.{refused_reply_keeps, refused_opening_keeps, saying, turn_refused}
 use Rattle.run.proofs.Exactly.{opening_refused_exactly, opening_accepted_exactly, reply_refused_exactly, reply_accepted_exactly, unresolved_exactly}
@@ -56,6 +56,11 @@ use Rattle.reach_laws.proofs.Answered.{quarters_are_answered as all_answered}
 use Rattle.reach.proofs.Exactly as reach
 use Rattle.drawing.specs.Drawing.{drawing_order, Drawn, drawn}
 use Rattle.drawing.proofs.Exactly as drawing
+use Rattle.touch.specs.Touch.{touch_width, touch_words, Touched, left_by, touched}
+use Rattle.touch.proofs.Exactly as touch
+use Rattle.touch.specs.Laws.{SameToDriver}
+use Rattle.touch_laws.specs.Laws.{touched_of, StandAlike}
+use Rattle.touch_laws.proofs.Runs as run
 use Rattle.boxlist_print.specs.declared.Listing.{Listing}
 use Rattle.boxlist_print.specs.Rows.{Prints}
 use Rattle.boxlist_print.specs.Printed.{printed}
@@ -73,7 +78,7 @@ use Rattle.pixels_laws.specs.Laws.{HasEdges}
 use Rattle.pixels_laws.proofs.Run.{run_has_edges}
 use Rattle.pixels_laws.proofs.Tests.{refused_first, edges_first}
 use Rattle.demands.specs.Entries.{Opens, RepliesTo, AnyCalls, TallyKept, Takes, Run, RefusedSince, BothRuns, AfterEach}
-use Rattle.demands.specs.Demands.{OpeningDemands, ReplyDemands, AlignmentDemands, PixelsDemands, ReachDemands, DrawingDemands, CheckDemands, ScreenDemands, OpeningsGoByTheCheck, RepliesGoByTheCheck, ThreeQuestionsEach, CountsAddUp, EqualsStraightRun, SizedLayout, SizeLaw, LaidOutAsAsked, MirrorImage, MirroredReach, MirroredDrawing, LayersAreKept, FinishedIsDrawn, PlacementReadsNoLayer, QuartersHaveEdges, QuartersAreAnswered}
+use Rattle.demands.specs.Demands.{OpeningDemands, ReplyDemands, AlignmentDemands, PixelsDemands, ReachDemands, DrawingDemands, TouchDemands, CheckDemands, ScreenDemands, OpeningsGoByTheCheck, RepliesGoByTheCheck, ThreeQuestionsEach, CountsAddUp, EqualsStraightRun, SizedLayout, SizeLaw, LaidOutAsAsked, MirrorImage, MirroredReach, MirroredDrawing, LayersAreKept, FinishedIsDrawn, PlacementReadsNoLayer, FinishedIsTouched, RunsAreSeenAlike, QuartersHaveEdges, QuartersAreAnswered, QuartersAreTouched}
 
 -- ---- one call
 
@@ -110,6 +115,17 @@ drawing_demands s lent before c =
       accepted = drawing.accepted_exactly s lent before;
       kept = drawing.refused_keeps s lent before;
       in_order = drawing.drawn_in_order s lent before;
+    })
+
+pub touch_demands : (s : State) (lent : Slices) (before : List ℕ) {has : Touched} → has ≡ touched s lent before → TouchDemands s lent before has
+touch_demands s lent before c =
+    subst (TouchDemands s lent before) (sym c)
+    (record {
+      call = refl;
+      refused = touch.refused_exactly s lent before;
+      accepted = touch.accepted_exactly s lent before;
+      kept = touch.refused_keeps s lent before;
+      boxes = touch.accepted_holds s lent before;
     })
 
 pub check_demands : (styles : List ℕ) {r : Result ⊤ BadWord} → r ≡ checked styles → CheckDemands styles r
@@ -255,6 +271,14 @@ quarters_are_answered o candidates lent turns has area table quarter calls heard
     (sym (run_is o candidates lent calls))
     (λ finished place filled. all_answered o candidates lent turns place area table quarter (run_opened o candidates lent calls) (run_lends o candidates lent calls) heard finished filled)
 
+pub quarters_are_touched : QuartersAreTouched
+quarters_are_touched o candidates lent turns has before area table quarter calls heard =
+    subst
+    (λ (x : Outcome).
+    x.step.state.progress ≡ None → length before ≡ touch_width * x.step.state.counts.filled.working → (touched_of before lent.styles x).verdict ≡ accepted)
+    (sym (run_is o candidates lent calls))
+    (run.quarters_are_touched o candidates lent turns before area table quarter (run_opened o candidates lent calls) (run_lends o candidates lent calls) heard)
+
 -- ---- layers
 
 pub layers_are_kept : LayersAreKept
@@ -276,6 +300,26 @@ pub placement_reads_no_layer : PlacementReadsNoLayer
 placement_reads_no_layer o candidates candidates' lent lent' turns turns' has has' came slices same calls calls' =
     subst₂ SameOutcomes (sym (run_is o candidates lent calls)) (sym (run_is o candidates' lent' calls'))
     (run_reads_no_layer o candidates candidates' lent lent' turns turns' came slices same (run_lends o candidates lent calls))
+
+-- ---- what the touch driver reads
+
+pub finished_is_touched : FinishedIsTouched
+finished_is_touched o candidates lent turns has before calls =
+    subst
+    (λ (x : Outcome).
+    x.step.state.progress ≡ None → length before ≡ touch_width * x.step.state.counts.filled.working
+    → touched_of before lent.styles x ≡ left_by (touch_words x.layouts o.area.offset (hoisted x)) before)
+    (sym (run_is o candidates lent calls))
+    (run.finished_is_touched o candidates lent turns before (run_opened o candidates lent calls) (run_lends o candidates lent calls))
+
+pub runs_are_seen_alike : RunsAreSeenAlike
+runs_are_seen_alike o o' candidates candidates' lent lent' turns turns' has has' before before' calls calls' =
+    subst₂
+    (λ (x x' : Outcome).
+    x.step.state.progress ≡ None → x'.step.state.progress ≡ None → StandAlike o o' x x' → length before ≡ length before'
+    → SameToDriver (touched_of before lent.styles x) (touched_of before' lent'.styles x'))
+    (sym (run_is o candidates lent calls)) (sym (run_is o' candidates' lent' calls'))
+    (run.runs_are_seen_alike o o' candidates candidates' lent lent' turns turns' before before' (run_opened o candidates lent calls) (run_opened o' candidates' lent' calls') (run_lends o candidates lent calls) (run_lends o' candidates' lent' calls'))
 
 -- ---- the size law
 

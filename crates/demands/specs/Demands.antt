@@ -1,6 +1,7 @@
 -- The three demands, of every entry. Refusals 1 to 6 are those of `open` and `reply`, 7 of `from_alignment`, 8 of the programs, 9 of
--- `pixel_edges`; `reach` has 2, 6, 4 and 9, `drawing_order` 2, 6 and 4, `check_styles` none. The demands of the C entries stand in demands_c/specs. No entry asks anything
--- of its caller, and a proved function ends, without a panic: so each of these holds for any bits in any number and slices of any length.
+-- `pixel_edges`; `reach` and `touch` have 2, 6, 4 and 9, `drawing_order` 2, 6 and 4, `check_styles` none. The demands of the C entries stand in
+-- demands_c/specs. No entry asks anything of its caller, and a proved function ends, without a panic: so each of these holds for any bits in any
+-- number and slices of any length.
 -- `proofs/Demands.antt` proves each, under its name in small letters.
 -- What document 01 leaves free is fixed by the definition all the same: what is asked and written where words were rewritten between calls or
 -- a state was forged (oof_box/specs/Cut.antt), and the numbers of a refused opening's state, which are zeros.
@@ -37,7 +38,7 @@ use Rattle.run.specs.Call.{Slices, Lent, Outcome, unwritten}
 use Rattle.run.specs.Refusals as verdict
 use Rattle.run.specs.Run.{closed, box_at_hand, extents_of, claims_of, opened}
 use Rattle.run.specs.Conditions.{StyleIsBad, FirstNotAllowed, AllAllowed, FirstIs, NoneHolds, SideIsUnresolved, opening_tests, reply_tests}
-use Rattle.run.specs.Theorems.{Names, own, StageTellsKind, ItemIsNamed, NamedItemCounts, CountsNone, CountsOne, AddsUp, WroteSize, Turn, Stands, heeded_in, course_of, answered_in, laid_so_far}
+use Rattle.run.specs.Theorems.{Names, own, StageTellsKind, ItemIsNamed, NamedItemCounts, CountsNone, CountsOne, AddsUp, WroteSize, Turn, Stands, heeded_in, course_of, answered_in, laid_so_far, hoisted}
 use Rattle.mirror_run.specs.Image.{image_styles}
 use Rattle.mirror_run.specs.Quarter.{AreaInQuarters, QuarterArea, QuarterTable, QuarterCandidates}
 use Rattle.mirror_run.specs.Runs.{Message, MirroredRuns, layout_of_box}
@@ -50,6 +51,10 @@ use Rattle.reach.specs.Reach.{reached}
 use Rattle.drawing.specs.Conditions.{drawing_tests}
 use Rattle.drawing.specs.Drawing.{drawing_order, box_layers, Drawn, drawn}
 use Rattle.drawing.specs.Laws.{EachOnce, InOrder}
+use Rattle.touch.specs.Conditions.{touch_tests}
+use Rattle.touch.specs.Touch.{touch_width, touch_words, Touched, left_by, touched}
+use Rattle.touch.specs.Laws.{HoldsBoxes, SameToDriver}
+use Rattle.touch_laws.specs.Laws.{touched_of, StandAlike}
 use Rattle.boxlist_print.specs.declared.Listing.{Listing}
 use Rattle.boxlist_print.specs.Rows.{Prints}
 use Rattle.boxlist_print.specs.Printed.{printed}
@@ -118,6 +123,15 @@ pub record DrawingDemands (s : State) (lent : Slices) (before : List ℕ) (has :
   pub accepted : (has.verdict ≡ verdict.accepted) ↔ NoneHolds (drawing_tests s lent before)
   pub kept : (q : Refusal) → has.verdict ≡ verdict.refused q → has.order ≡ before
   pub in_order : has.verdict ≡ verdict.accepted → EachOnce s.counts.filled.working has.order × InOrder (box_layers s lent) has.order
+
+-- request #108, `touch`: 2, 6, 4, 9. It can write one slice, the driver's: refused, its words stay; accepted, they are "five words a box, in hoisted
+-- order: node, and its layout's pixel edges of #101 in their order, negative ones in two's complement"
+pub record TouchDemands (s : State) (lent : Slices) (before : List ℕ) (has : Touched) : Type 0 where
+  pub call : has ≡ touched s lent before
+  pub refused : (q : Refusal) → (has.verdict ≡ verdict.refused q) ↔ FirstIs (touch_tests s lent before) (number_of q)
+  pub accepted : (has.verdict ≡ verdict.accepted) ↔ NoneHolds (touch_tests s lent before)
+  pub kept : (q : Refusal) → has.verdict ≡ verdict.refused q → has.words ≡ before
+  pub boxes : has.verdict ≡ verdict.accepted → HoldsBoxes s lent has.words
 
 -- request #103. `check_styles` refuses nothing: "it names that item and the first of its words, in record order from 0, that breaks one, or
 -- nothing exactly when no word of the table does". The rules are refusal 3's, and it names a word exactly where 3's condition holds. The table
@@ -251,8 +265,31 @@ PlacementReadsNoLayer =
     → Run o candidates' lent' turns' has'
     → SameOutcomes has has'
 
+-- ---- Request #108, of runs
+
+-- lent a slice of five words a box, a call for the driver is accepted or refused with 9: it leaves the words of the hoisted nodes in turn, in an area
+-- at the opening's offset, or, where the layout of one has no pixel edges there, the slice as it came
+abbrev pub FinishedIsTouched : Type 0
+FinishedIsTouched =
+    (o : Opening) (candidates : List ℕ) (lent : Lent) (turns : List Turn) (has : Outcome) (before : List ℕ)
+    → Run o candidates lent turns has
+    → has.step.state.progress ≡ None → length before ≡ touch_width * has.step.state.counts.filled.working
+    → touched_of before lent.styles has ≡ left_by (touch_words has.layouts o.area.offset (hoisted has)) before
+
+-- "Two runs with the same area and hoisted order whose layouts differ only in padding, border, margins, scrollbars, child overflow and order give
+-- the driver identical words", or are refused with the same number, whatever stood in the two slices. Of the area only the offset has to be the
+-- same
+abbrev pub RunsAreSeenAlike : Type 0
+RunsAreSeenAlike =
+    (o o' : Opening) (candidates candidates' : List ℕ) (lent lent' : Lent) (turns turns' : List Turn) (has has' : Outcome) (before before' : List ℕ)
+    → Run o candidates lent turns has
+    → Run o' candidates' lent' turns' has'
+    → has.step.state.progress ≡ None → has'.step.state.progress ≡ None
+    → StandAlike o o' has has' → length before ≡ length before'
+    → SameToDriver (touched_of before lent.styles has) (touched_of before' lent'.styles has')
+
 -- ---- Beyond the demands: under what demand 3 asks of area, styles, candidates and replies, but that the area's width may be 0, no box
--- meets refusal 9 (pixels_laws/specs, reach_laws/specs)
+-- meets refusal 9 (pixels_laws/specs, reach_laws/specs, touch_laws/specs)
 
 abbrev pub QuartersHaveEdges : Type 0
 QuartersHaveEdges =
@@ -271,6 +308,16 @@ QuartersAreAnswered =
     → All (QuarterHeard (claims_of o)) (heeded_in o candidates lent turns)
     → has.step.state.progress ≡ None
     → (place : ℕ) → place < has.step.state.counts.filled.working → IsOk (told_of place lent.styles has)
+
+-- nor in what the touch driver reads of one: lent five words a box, it is accepted
+abbrev pub QuartersAreTouched : Type 0
+QuartersAreTouched =
+    (o : Opening) (candidates : List ℕ) (lent : Lent) (turns : List Turn) (has : Outcome) (before : List ℕ)
+    → AreaInQuarters o.area → QuarterTable lent.styles → QuarterCandidates candidates
+    → Run o candidates lent turns has
+    → All (QuarterHeard (claims_of o)) (heeded_in o candidates lent turns)
+    → has.step.state.progress ≡ None → length before ≡ touch_width * has.step.state.counts.filled.working
+    → (touched_of before lent.styles has).verdict ≡ verdict.accepted
 
 -- ---- What is demanded of runs, and the theorems beyond: the function `demanded` of src/lib.rt ensures these, so that a crate without a proof of each is not proved.
 
@@ -293,8 +340,11 @@ pub record Demanded : Type 0 where
   pub layers_are_kept : LayersAreKept
   pub finished_is_drawn : FinishedIsDrawn
   pub placement_reads_no_layer : PlacementReadsNoLayer
+  pub finished_is_touched : FinishedIsTouched
+  pub runs_are_seen_alike : RunsAreSeenAlike
   pub quarters_have_edges : QuartersHaveEdges
   pub quarters_are_answered : QuartersAreAnswered
+  pub quarters_are_touched : QuartersAreTouched
   -- what a program lists is the run that the screen scripts, and a row of verdicts says seen, unseen or refused 9
   pub run_is_listed : RunIsListed
   pub only_nine_in_rows : OnlyNineInRows

@@ -6,7 +6,7 @@
 ghost use Rattle.std.specs.Prelude.{◌≡◌};
 ghost use Rattle.oof_axis.specs.StaticOffset.{static_offset};
 ghost use Rattle.run.specs.Call.{lent, outcome};
-ghost use Rattle.demands.specs.Demands.{OpeningDemands, ReplyDemands, AlignmentDemands, PixelsDemands, ReachDemands, DrawingDemands, CheckDemands, ScreenDemands, Demanded};
+ghost use Rattle.demands.specs.Demands.{OpeningDemands, ReplyDemands, AlignmentDemands, PixelsDemands, ReachDemands, DrawingDemands, TouchDemands, CheckDemands, ScreenDemands, Demanded};
 
 use boxlist_print::{LIST_BYTES, Listing};
 use geometry::{Line, Point, Rect, Size};
@@ -80,6 +80,13 @@ pub fn drawing_order(s: State, lent: &Slices, order: &mut [u32]) -> Result<(), R
     ensures { DrawingDemands s lent.now order.old (record { verdict = result; order = order.new }) }
 {
     drawing::drawing_order(s, lent, order)
+}
+
+#[tactic(auto, using(crate::proofs::Demands::touch_demands))]
+pub fn touch(s: State, lent: &Slices, words: &mut [u32]) -> Result<(), Refusal>
+    ensures { TouchDemands s lent.now words.old (record { verdict = result; words = words.new }) }
+{
+    touch::touch(s, lent, words)
 }
 
 // These two refuse nothing.

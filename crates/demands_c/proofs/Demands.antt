@@ -1,5 +1,5 @@
 -- Demands 1 and 2 of the C entries. Assumes nothing.
-use Prim.Native.Nat.{ℕ, ◌+◌, ◌<◌, ◌≤◌}
+use Prim.Native.Nat.{ℕ, ◌+◌, ◌*◌, ◌<◌, ◌≤◌}
 use native.Mathlib.Omega.{arith}
 use mathlib.Core.Bool.{Bool, true, false, cond, not, ◌&&◌}
 use mathlib.Core.List.{List, [], ◌∷◌, ◌++◌, foldl, foldl-append}
@@ -66,9 +66,15 @@ use Rattle.oof_c.specs.DrawingWords.{DrawingReturned, verdict_number, drawing_in
 use Rattle.drawing.specs.Conditions.{drawing_tests}
 use Rattle.drawing.specs.Drawing.{drawn}
 use Rattle.drawing.proofs.Exactly as drawing
+use Rattle.oof_c.specs.TouchWords.{TouchReturned, touch_in_words, touch_told}
+use Rattle.touch.specs.Conditions.{touch_tests}
+use Rattle.touch.specs.Touch.{touch_width, Touched, touched}
+use Rattle.touch.proofs.Exactly as touch
+use Rattle.touch.specs.Laws.{SameToDriver as Alike}
+use Rattle.touch_laws.proofs.Runs.{finished_is_touched as run-gives, quarters_are_touched as run-is-touched, runs_are_seen_alike as runs-alike}
 use Rattle.run.specs.Refusals.{Verdict, accepted, refused}
 use Rattle.demands_c.specs.Calls.{Opens, RepliesTo, FitsOpening, asked_for, AnyCalls, one_if_accepted, TallyKept, Takes, Lends, Run}
-use Rattle.demands_c.specs.Demands.{OpeningDemands, ReplyDemands, PixelsDemands, VerdictIn, ReachDemands, DrawingDemands, BadWordDemands, ThreeQuestionsEach, CountsAddUp, StandsInWords, EqualsStraightRun, QuartersHaveEdges, QuartersAreAnswered}
+use Rattle.demands_c.specs.Demands.{OpeningDemands, ReplyDemands, PixelsDemands, VerdictIn, ReachDemands, DrawingDemands, TouchDemands, BadWordDemands, ThreeQuestionsEach, CountsAddUp, StandsInWords, EqualsStraightRun, QuartersHaveEdges, QuartersAreAnswered, SameToDriver, FinishedIsTouched, RunsAreSeenAlike, QuartersAreTouched}
 
 -- ---- the result is the number of the first condition that holds
 
@@ -227,14 +233,13 @@ reach_demands place lent state before c =
     subst (ReachDemands place lent state before) (sym c)
     (record { call = refl; refused = numbered by; accepted = zeroed by; kept = verdict_kept before v; written = verdict_written before v })
 
--- ---- the drawing order
+-- ---- a verdict by its number
 
-order_by : (tests : List (ℕ × Type 0)) (v : Verdict) → ((r : Refusal) → (v ≡ refused r) ↔ FirstIs tests (number_of r)) → (v ≡ accepted) ↔ NoneHolds tests
+number_by : (tests : List (ℕ × Type 0)) (v : Verdict) → ((r : Refusal) → (v ≡ refused r) ↔ FirstIs tests (number_of r)) → (v ≡ accepted) ↔ NoneHolds tests
     → ResultBy tests (verdict_number v)
-order_by tests (Ok tt) f g = none_holds (g.0 refl)
-order_by tests (Err r) f g = first_holds r ((f r).0 refl)
+number_by tests (Ok tt) f g = none_holds (g.0 refl)
+number_by tests (Err r) f g = first_holds r ((f r).0 refl)
 
--- a verdict by its number
 zero_accepted : (v : Verdict) → verdict_number v ≡ 0 → v ≡ accepted
 zero_accepted (Ok tt) e = refl
 zero_accepted (Err r) e = absurd (refused_is_not r e)
@@ -243,13 +248,15 @@ other_refused : (v : Verdict) → verdict_number v ≢ 0 → (r : Refusal) × (v
 other_refused (Ok tt) h = absurd (h refl)
 other_refused (Err r) h = (r, refl)
 
+-- ---- the drawing order, and what the touch driver reads
+
 pub drawing_demands :
     (lent : Slices) (state before : List ℕ) {has : DrawingReturned} → has ≡ drawing_in_words lent state before → DrawingDemands lent state before has
 unfolding drawing_in_words
 drawing_demands lent state before c =
     let s = state_of state in
     let v = (drawn s lent before).verdict in
-    let by = order_by (drawing_tests s lent before) v (drawing.refused_exactly s lent before) (drawing.accepted_exactly s lent before) in
+    let by = number_by (drawing_tests s lent before) v (drawing.refused_exactly s lent before) (drawing.accepted_exactly s lent before) in
     subst (DrawingDemands lent state before) (sym c)
     (record {
       call = refl;
@@ -257,6 +264,22 @@ drawing_demands lent state before c =
       accepted = zeroed by;
       kept = λ h. let r = other_refused v h in drawing.refused_keeps s lent before r.0 r.1;
       written = λ e. drawing.drawn_in_order s lent before (zero_accepted v e);
+    })
+
+pub touch_demands :
+    (lent : Slices) (state before : List ℕ) {has : TouchReturned} → has ≡ touch_in_words lent state before → TouchDemands lent state before has
+unfolding touch_in_words
+touch_demands lent state before c =
+    let s = state_of state in
+    let v = (touched s lent before).verdict in
+    let by = number_by (touch_tests s lent before) v (touch.refused_exactly s lent before) (touch.accepted_exactly s lent before) in
+    subst (TouchDemands lent state before) (sym c)
+    (record {
+      call = refl;
+      refused = numbered by;
+      accepted = zeroed by;
+      kept = λ h. let r = other_refused v h in touch.refused_keeps s lent before r.0 r.1;
+      written = λ e. touch.accepted_holds s lent before (zero_accepted v e);
     })
 
 -- ---- the first bad word
@@ -730,3 +753,43 @@ quarters_are_answered o candidates styles before turns has area table quarter ca
     all_answered o candidates (lent_in styles before) turns place area table quarter r.accepted r.lent heard (sym (ap (λ (s : State). s.progress) r.now.state) ∙ finished)
     (subst (λ (s : State). place < s.counts.filled.working) r.now.state filled) in
     rw (r.now.state, r.now.layouts, r.now.working, r.now.unclaimed) (answer_is_zero verdict _ e)
+
+pub quarters_are_touched : QuartersAreTouched
+unfolding touch_in_words
+quarters_are_touched o candidates styles before turns has area table quarter calls heard finished five long =
+    let r = ran o candidates styles before calls in
+    let e =
+    run-is-touched o candidates (lent_in styles before) turns five area table quarter r.accepted r.lent heard (sym (ap (λ (s : State). s.progress) r.now.state) ∙ finished)
+    (subst (λ (s : State). length five ≡ touch_width * s.counts.filled.working) r.now.state long) in
+    rw (r.now.state, r.now.layouts, r.now.working, r.now.unclaimed) (ap verdict_number e)
+
+-- ---- the touch driver, of a finished run and of two
+
+pub finished_is_touched : FinishedIsTouched
+unfolding touch_in_words
+finished_is_touched o candidates styles before turns has calls finished five long =
+    let r = ran o candidates styles before calls in
+    rw (r.now.state, r.now.layouts, r.now.working, r.now.unclaimed)
+    (ap touch_told
+    (run-gives o candidates (lent_in styles before) turns five r.accepted r.lent (sym (ap (λ (s : State). s.progress) r.now.state) ∙ finished)
+    (subst (λ (s : State). length five ≡ touch_width * s.counts.filled.working) r.now.state long)))
+
+-- a call's record goes by what the definition leaves
+told_alike : (a b : Touched) → Alike a b → SameToDriver (touch_told a) (touch_told b)
+told_alike a b s = record { result = ap verdict_number s.verdict; words = λ e. s.words (zero_accepted a.verdict e) }
+
+pub runs_are_seen_alike : RunsAreSeenAlike
+unfolding touch_in_words
+runs_are_seen_alike o o' candidates candidates' styles styles' before before' turns turns' has has' calls calls' finished finished' offset nodes boxes five five' long =
+    let r = ran o candidates styles before calls in
+    let r' = ran o' candidates' styles' before' calls' in
+    rw (r.now.state, r.now.layouts, r.now.working, r.now.unclaimed, r'.now.state, r'.now.layouts, r'.now.working, r'.now.unclaimed)
+    (told_alike _ _
+    (runs-alike o o' candidates candidates' (lent_in styles before) (lent_in styles' before') turns turns' five five' r.accepted r'.accepted r.lent r'.lent
+    (sym (ap (λ (s : State). s.progress) r.now.state) ∙ finished) (sym (ap (λ (s : State). s.progress) r'.now.state) ∙ finished')
+    (record {
+      offset = offset;
+      nodes = rw (r.now.state, r.now.working, r'.now.state, r'.now.working) at nodes;
+      boxes = rw (r.now.state, r.now.layouts, r.now.working, r'.now.layouts, r'.now.working) at boxes;
+    })
+    long))

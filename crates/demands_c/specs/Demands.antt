@@ -1,6 +1,6 @@
 -- Demands 1 and 2, of the C entries. No entry asks anything of its caller, so each contract, and with it each of these, holds for any bits
 -- in any number and slices of any length. `proofs/Demands.antt` proves each, under its name in small letters. Assumes nothing.
-use Rattle.std.specs.Prelude.{ℕ, ◌%◌, ◌≤◌, ◌<◌, List, [], ◌∷◌, ◌⊎◌, ◌≢◌, ◌↔◌, ◌≡◌, ℤ, length, replicate, sum, Some, None, Ok, Err, All, Option, Result, Float}
+use Rattle.std.specs.Prelude.{ℕ, ◌*◌, ◌%◌, ◌≤◌, ◌<◌, List, [], ◌∷◌, ◌⊎◌, ◌≢◌, ◌↔◌, ◌≡◌, ℤ, length, replicate, sum, Some, None, Ok, Err, All, Option, Result, Float}
 use Rattle.refusal.specs.declared.Refusal.{Refusal}
 use Rattle.reach.specs.declared.Offsets.{Offsets}
 use Rattle.geometry.specs.declared.Point.{Point}
@@ -13,7 +13,7 @@ use Rattle.geometry.specs.declared.Rect.{Rect}
 use Rattle.oof_box.specs.declared.question.Reply.{Reply}
 use Rattle.run.specs.Call.{Slices, Lent, slices_of, outcome}
 use Rattle.run.specs.Conditions.{StyleIsBad, FirstNotAllowed, AllAllowed, FirstIs, NoneHolds, opening_tests, reply_tests}
-use Rattle.run.specs.Run.{closed, claims_of, box_at_hand, charged}
+use Rattle.run.specs.Run.{closed, claims_of, layout_at, box_at_hand, charged}
 use Rattle.run.specs.Straight.{Course}
 use Rattle.run.specs.Theorems.{Turn, Stands, said_after, heeded_in, answered_in, course_of, laid_count}
 use Rattle.run.specs.declared.Opening.{Opening}
@@ -31,13 +31,17 @@ use Rattle.drawing.specs.Drawing.{box_layers}
 use Rattle.drawing.specs.Laws.{EachOnce, InOrder}
 use Rattle.oof_c.specs.ReachWords.{reach_in_words}
 use Rattle.oof_c.specs.DrawingWords.{DrawingReturned, drawing_in_words}
+use Rattle.touch.specs.Conditions.{touch_tests}
+use Rattle.touch.specs.Touch.{touch_width, touch_words, left_by, nodes_of}
+use Rattle.touch.specs.Laws.{HoldsBoxes, SamePoint, SameLocationAndSize}
+use Rattle.oof_c.specs.TouchWords.{TouchReturned, touch_told, touch_in_words}
 use Rattle.oof_c_words.specs.PixelWords.{pixels_in_words}
 use Rattle.demands_c.specs.Calls.{Opens, RepliesTo, AnyCalls, TallyKept, Run}
 
 -- ---- Demand 1. "Whoever calls an entry, with any bits in any number and slices of any length, gets its answer .. or one of document 01's
 -- refusals .., each exactly under its stated condition. A refusal writes no lent word and returns the state as it came." The conditions, in
 -- document 01's words and order, stand in run/specs/Conditions.antt, that of request #101 in pixels/specs/Conditions.antt, those of #102 in
--- finished/specs and reach/specs, that of #104 in drawing/specs.
+-- finished/specs and reach/specs, that of #104 in drawing/specs, those of #108 in touch/specs.
 
 -- the words of a verdict
 abbrev pub VerdictIn : Result (Option Offsets) Refusal → List ℕ → Type 0
@@ -91,6 +95,14 @@ pub record DrawingDemands (lent : Slices) (state before : List ℕ) (has : Drawi
   pub kept : has.result ≢ 0 → has.order ≡ before
   pub written : has.result ≡ 0 → EachOnce (state_of state).counts.filled.working has.order × InOrder (box_layers (state_of state) lent) has.order
 
+-- `oof_touch`, whatever words stand for its state: 2, 6, 4, 9. Slices and state are lent to be read only, but for the driver's slice
+pub record TouchDemands (lent : Slices) (state before : List ℕ) (has : TouchReturned) : Type 0 where
+  pub call : has ≡ touch_in_words lent state before
+  pub refused : (n : ℕ) → n ≢ 0 → (has.result ≡ n) ↔ FirstIs (touch_tests (state_of state) lent before) n
+  pub accepted : (has.result ≡ 0) ↔ NoneHolds (touch_tests (state_of state) lent before)
+  pub kept : has.result ≢ 0 → has.words ≡ before
+  pub written : has.result ≡ 0 → HoldsBoxes (state_of state) lent has.words
+
 -- request #103, `oof_first_bad_word`. It refuses nothing. Result 1: a word is not allowed, by refusal 3's rules, and the two words are written:
 -- the item, modulo 2 ^ 32 as all counts are, then its word. Result 0: every word is allowed, and the two words stay. This 1 is not refusal 1.
 -- `some` has the condition of 3 that `OpeningDemands` and `ReplyDemands` go by
@@ -137,8 +149,48 @@ EqualsStraightRun =
     → Run o candidates styles before turns has
     → StandsInWords (lent_in styles before) (answered_in o candidates (lent_in styles before) turns) has (course_of o candidates (lent_in styles before) turns)
 
+-- ---- Request #108, of runs by C calls
+
+-- what `oof_touch` leaves of such a run, and of the driver's words as they came
+abbrev pub touched_of : List ℕ → Words → List ℕ → TouchReturned
+touched_of styles words five = touch_in_words (slices_of (lent_in styles words)) words.state five
+
+-- lent five words a box, a finished run is refused with 9 alone: the call leaves the words of its hoisted nodes in turn, in an area at the
+-- opening's offset; where #101 refuses the layout of one, it leaves the slice as it came
+abbrev pub FinishedIsTouched : Type 0
+FinishedIsTouched =
+    (o : Opening) (candidates styles : List ℕ) (before : Words) (turns : List Turn) (has : Returned)
+    → Run o candidates styles before turns has
+    → let state = state_of has.words.state in
+    state.progress ≡ None
+    → (five : List ℕ) → length five ≡ touch_width * state.counts.filled.working
+    → touched_of styles has.words five
+    ≡ touch_told (left_by (touch_words has.words.layouts o.area.offset (nodes_of state (slices_of (lent_in styles has.words)))) five)
+
+-- the same to the driver: one result and, where it is 0, the same words
+pub record SameToDriver (a b : TouchReturned) : Type 0 where
+  pub result : a.result ≡ b.result
+  pub words : a.result ≡ 0 → a.words ≡ b.words
+
+-- "Two runs with the same area and hoisted order whose layouts differ only in padding, border, margins, scrollbars, child overflow and order give
+-- the driver identical words". Of the area only the offset has to be the same
+abbrev pub RunsAreSeenAlike : Type 0
+RunsAreSeenAlike =
+    (o o' : Opening) (candidates candidates' styles styles' : List ℕ) (before before' : Words) (turns turns' : List Turn) (has has' : Returned)
+    → Run o candidates styles before turns has → Run o' candidates' styles' before' turns' has'
+    → let state = state_of has.words.state in
+    let state' = state_of has'.words.state in
+    let l = slices_of (lent_in styles has.words) in
+    let l' = slices_of (lent_in styles' has'.words) in
+    state.progress ≡ None → state'.progress ≡ None
+    → SamePoint o.area.offset o'.area.offset
+    → nodes_of state l ≡ nodes_of state' l'
+    → ((place : ℕ) → place < state.counts.filled.working → SameLocationAndSize (layout_at l.layouts l.working place) (layout_at l'.layouts l'.working place))
+    → (five five' : List ℕ) → length five ≡ length five'
+    → SameToDriver (touched_of styles has.words five) (touched_of styles' has'.words five')
+
 -- ---- Beyond the demands: under what demand 3 asks of area, styles, candidates and replies, but that the area's width may be 0, no box
--- meets refusal 9 (pixels_laws/specs, reach_laws/specs)
+-- meets refusal 9 (pixels_laws/specs, reach_laws/specs, touch_laws/specs)
 
 -- the layout's words of box i, record i of the working list: they stand at its node's place, where a node claimed twice has its last layout
 abbrev pub words_of_box : Words → ℕ → List ℕ
@@ -166,6 +218,18 @@ QuartersAreAnswered =
     → (place : ℕ) → place < state.counts.filled.working
     → (verdict : List ℕ) → (reach_in_words place (slices_of (lent_in styles has.words)) has.words.state verdict).result ≡ 0
 
+-- nor in what the touch driver reads of one: lent five words a box, it is accepted
+abbrev pub QuartersAreTouched : Type 0
+QuartersAreTouched =
+    (o : Opening) (candidates styles : List ℕ) (before : Words) (turns : List Turn) (has : Returned)
+    → AreaInQuarters o.area → QuarterTable styles → QuarterCandidates candidates
+    → Run o candidates styles before turns has
+    → All (QuarterHeard (claims_of o)) (heeded_in o candidates (lent_in styles before) turns)
+    → let state = state_of has.words.state in
+    state.progress ≡ None
+    → (five : List ℕ) → length five ≡ touch_width * state.counts.filled.working
+    → (touch_in_words (slices_of (lent_in styles has.words)) has.words.state five).result ≡ 0
+
 -- ---- What is demanded of runs, and the theorems beyond: the function `demanded` of src/lib.rt ensures these, so that a crate without a proof of each is not proved.
 
 pub record Demanded : Type 0 where
@@ -174,3 +238,6 @@ pub record Demanded : Type 0 where
   pub equals_straight_run : EqualsStraightRun
   pub quarters_have_edges : QuartersHaveEdges
   pub quarters_are_answered : QuartersAreAnswered
+  pub finished_is_touched : FinishedIsTouched
+  pub runs_are_seen_alike : RunsAreSeenAlike
+  pub quarters_are_touched : QuartersAreTouched

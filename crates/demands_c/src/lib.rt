@@ -9,7 +9,8 @@ ghost use Rattle.run.specs.Call.{slices};
 ghost use Rattle.oof_c_words.specs.CheckWords.{check_returned};
 ghost use Rattle.oof_c.specs.ReachWords.{reach_returned};
 ghost use Rattle.oof_c.specs.DrawingWords.{drawing_returned};
-ghost use Rattle.demands_c.specs.Demands.{OpeningDemands, ReplyDemands, PixelsDemands, ReachDemands, DrawingDemands, BadWordDemands, Demanded};
+ghost use Rattle.oof_c.specs.TouchWords.{touch_returned};
+ghost use Rattle.demands_c.specs.Demands.{OpeningDemands, ReplyDemands, PixelsDemands, ReachDemands, DrawingDemands, TouchDemands, BadWordDemands, Demanded};
 
 use oof_box::question::Reply;
 
@@ -148,6 +149,20 @@ pub fn drawing_order(
     ensures { DrawingDemands (slices styles.now layouts.now working.now unclaimed.now) state.now order.old (drawing_returned result order.new) }
 {
     oof_c::oof_drawing_order(styles, layouts, working, unclaimed, state, order)
+}
+
+#[tactic(auto, using(crate::proofs::Demands::touch_demands))]
+pub fn touch(
+    styles: &[u32],
+    layouts: &[u32],
+    working: &[u32],
+    unclaimed: &[u32],
+    state: &[u32; 28],
+    words: &mut [u32],
+) -> u32
+    ensures { TouchDemands (slices styles.now layouts.now working.now unclaimed.now) state.now words.old (touch_returned result words.new) }
+{
+    oof_c::oof_touch(styles, layouts, working, unclaimed, state, words)
 }
 
 #[tactic(auto, using(crate::proofs::Demands::bad_word_demands))]

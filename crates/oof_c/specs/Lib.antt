@@ -1,2 +1,3 @@
 pub mod ReachWords
 pub mod DrawingWords
+pub mod TouchWords

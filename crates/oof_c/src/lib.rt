@@ -1,7 +1,7 @@
 // The C entries: a run whose state and answer stand in lent words, the pixel edges of a box, whether scrolling brings a box up, in which order
-// the boxes are drawn, and the first word of a table of styles that breaks a code rule. A slice passes as a pointer, then its length in words;
-// state, answer, a layout, edges, a verdict and a found word's place pass as a pointer each. `oof_c_c` exports them, and hosts/c/oof.h
-// declares them for C.
+// the boxes are drawn, what the touch driver reads of them, and the first word of a table of styles that breaks a code rule. A slice passes as a
+// pointer, then its length in words; state, answer, a layout, edges, a verdict and a found word's place pass as a pointer each. `oof_c_c`
+// exports them, and hosts/c/oof.h declares them for C.
 #![tactic(auto)]
 
 ghost use Rattle.std.specs.Prelude.{◌≡◌, []};
@@ -10,6 +10,7 @@ ghost use Rattle.oof_c_words.specs.PixelWords.{pixels_returned, pixels_in_words}
 ghost use Rattle.run.specs.Call.{slices};
 ghost use Rattle.oof_c.specs.ReachWords.{reach_returned, reach_in_words};
 ghost use Rattle.oof_c.specs.DrawingWords.{verdict_number, drawing_returned, drawing_in_words};
+ghost use Rattle.oof_c.specs.TouchWords.{touch_returned, touch_in_words};
 ghost use Rattle.oof_c_words.specs.CheckWords.{check_returned, check_in_words};
 
 use geometry::{Point, Rect, Size};
@@ -207,6 +208,23 @@ pub fn oof_pixels(layout: &[u32; LAYOUT_WORDS], x: f32, y: f32, edges: &mut [i32
     pixels::lent::tell(p, edges)
 }
 
+// The slices of a finished run, as the parts that read one are lent them.
+fn run_slices<'a>(
+    styles: &'a [u32],
+    layouts: &'a [u32],
+    working: &'a [u32],
+    unclaimed: &'a [u32],
+) -> Slices<'a>
+    ensures { result ≡ slices styles.now layouts.now working.now unclaimed.now }
+{
+    Slices {
+        styles,
+        layouts,
+        working,
+        unclaimed,
+    }
+}
+
 // Whether scrolling brings up the box at a place of a finished run.
 #[tactic(auto, unfolding(crate::specs::ReachWords::reach_in_words))]
 pub fn oof_reach(
@@ -221,12 +239,7 @@ pub fn oof_reach(
     ensures { reach_returned result verdict.new ≡ reach_in_words place (slices styles.now layouts.now working.now unclaimed.now) state.now verdict.old }
 {
     let s = oof_c_words::state::state_of(state);
-    let slices = Slices {
-        styles,
-        layouts,
-        working,
-        unclaimed,
-    };
+    let slices = run_slices(styles, layouts, working, unclaimed);
     reach::lent::tell(reach::reach(place, s, &slices), verdict)
 }
 
@@ -250,13 +263,25 @@ pub fn oof_drawing_order(
     ensures { drawing_returned result order.new ≡ drawing_in_words (slices styles.now layouts.now working.now unclaimed.now) state.now order.old }
 {
     let s = oof_c_words::state::state_of(state);
-    let slices = Slices {
-        styles,
-        layouts,
-        working,
-        unclaimed,
-    };
+    let slices = run_slices(styles, layouts, working, unclaimed);
     number(drawing::drawing_order(s, &slices, order))
+}
+
+// What the touch driver reads of a finished run: five words a box.
+#[tactic(auto, unfolding(crate::specs::TouchWords::touch_in_words))]
+pub fn oof_touch(
+    styles: &[u32],
+    layouts: &[u32],
+    working: &[u32],
+    unclaimed: &[u32],
+    state: &[u32; STATE_WORDS],
+    words: &mut [u32],
+) -> u32
+    ensures { touch_returned result words.new ≡ touch_in_words (slices styles.now layouts.now working.now unclaimed.now) state.now words.old }
+{
+    let s = oof_c_words::state::state_of(state);
+    let slices = run_slices(styles, layouts, working, unclaimed);
+    number(touch::touch(s, &slices, words))
 }
 
 // The first word of a table of styles that breaks a code rule.

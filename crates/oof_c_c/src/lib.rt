@@ -9,6 +9,7 @@ ghost use Rattle.oof_c_words.specs.PixelWords.{pixels_returned, pixels_in_words}
 ghost use Rattle.run.specs.Call.{slices};
 ghost use Rattle.oof_c.specs.ReachWords.{reach_returned, reach_in_words};
 ghost use Rattle.oof_c.specs.DrawingWords.{drawing_returned, drawing_in_words};
+ghost use Rattle.oof_c.specs.TouchWords.{touch_returned, touch_in_words};
 ghost use Rattle.oof_c_words.specs.CheckWords.{check_returned, check_in_words};
 
 use oof_box::question::Reply;
@@ -172,6 +173,21 @@ pub extern "C" fn oof_drawing_order(
     ensures { drawing_returned result order.new ≡ drawing_in_words (slices styles.now layouts.now working.now unclaimed.now) state.now order.old }
 {
     oof_c::oof_drawing_order(styles, layouts, working, unclaimed, state, order)
+}
+
+// What the touch driver reads of a finished run: five words a box.
+#[unsafe(no_mangle)]
+pub extern "C" fn oof_touch(
+    styles: &[u32],
+    layouts: &[u32],
+    working: &[u32],
+    unclaimed: &[u32],
+    state: &[u32; STATE_WORDS],
+    words: &mut [u32],
+) -> u32
+    ensures { touch_returned result words.new ≡ touch_in_words (slices styles.now layouts.now working.now unclaimed.now) state.now words.old }
+{
+    oof_c::oof_touch(styles, layouts, working, unclaimed, state, words)
 }
 
 // The first word of a table of styles that breaks a code rule.

@@ -1,5 +1,5 @@
 -- The check looks for no theorem in a function without a body: each is named here.
-use Rattle.demands.proofs.Demands.{three_questions_each, openings_go_by_the_check, replies_go_by_the_check, equals_straight_run, laid_out_as_asked, mirror_image, mirrored_reach, mirrored_drawing, layers_are_kept, finished_is_drawn, placement_reads_no_layer, quarters_have_edges, quarters_are_answered, counts_add_up}
+use Rattle.demands.proofs.Demands.{three_questions_each, openings_go_by_the_check, replies_go_by_the_check, equals_straight_run, laid_out_as_asked, mirror_image, mirrored_reach, mirrored_drawing, layers_are_kept, finished_is_drawn, placement_reads_no_layer, finished_is_touched, runs_are_seen_alike, quarters_have_edges, quarters_are_answered, quarters_are_touched, counts_add_up}
 use Rattle.run.proofs.EachQuestion.{stage_tells_kind, item_is_named}
 use Rattle.run.proofs.Told.{named_item_counts}
 use Rattle.boxlist_print.proofs.Listed.{run_is_listed, only_nine_in_rows}
@@ -23,8 +23,11 @@ returns c =
       layers_are_kept = layers_are_kept;
       finished_is_drawn = finished_is_drawn;
       placement_reads_no_layer = placement_reads_no_layer;
+      finished_is_touched = finished_is_touched;
+      runs_are_seen_alike = runs_are_seen_alike;
       quarters_have_edges = quarters_have_edges;
       quarters_are_answered = quarters_are_answered;
+      quarters_are_touched = quarters_are_touched;
       run_is_listed = run_is_listed;
       only_nine_in_rows = only_nine_in_rows;
     }
