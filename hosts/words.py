@@ -49,6 +49,7 @@ RECORD, DECODE = "style_record/specs/Record.antt", "style_record/specs/Decode.an
 CANDIDATE, LAYOUT = "tree_record/specs/Candidate.antt", "tree_record/specs/Layout.antt"
 STATE, ANSWER = "oof_c_words/specs/StateWords.antt", "oof_c_words/specs/AnswerWords.antt"
 PIXELS, REACH, FOUND = "pixels/specs/Told.antt", "reach/specs/Told.antt", "oof_c_words/specs/CheckWords.antt"
+TOUCH = "touch/specs/Touch.antt"
 SIDES = ["LEFT", "RIGHT", "TOP", "BOTTOM"]
 AT = r"(\w+|\([^()]*\))"  # a word's number, as it is written
 known = {"layer_word": number(CANDIDATE, "layer_word")}
@@ -196,6 +197,16 @@ def pixels():
     return {"PIXEL_" + side.removeprefix("p.").upper(): k for k, side in enumerate(sides)} | {"PIXEL_EDGES": len(sides)}
 
 
+def touch():
+    """A box's words by their turn in the list that `five_words` puts together: the node, then the edges as `edges_in` has them."""
+    (arguments, right), = body(TOUCH, "five_words")
+    node, edges = arguments.split()
+    assert right == f"{node} ∷ map (cast_unsigned w32) (edges_in {edges})", right
+    sides = {name.removeprefix("PIXEL_"): 1 + k for name, k in pixels().items() if name != "PIXEL_EDGES"}
+    assert number(TOUCH, "touch_width") == 1 + len(sides), sides
+    return {"TOUCH_" + name: k for name, k in ({"NODE": 0} | sides).items()} | {"TOUCH_WORDS": 1 + len(sides)}
+
+
 def reach():
     """The verdict's words by their turn in the lists of a clause for `(Ok (Some o))`, of offsets o, and of one for `(Ok None)`."""
     o, seen = re.search(r"\(Ok \(Some (\w+)\)\).*?= .*?((?:[\w.]+ ∷ )+)\[\]", text(REACH)).groups()
@@ -227,7 +238,7 @@ def tags():
 
 
 def wanted():
-    out = style() | length() | candidate() | layout() | state() | answer() | pixels() | reach() | bad_word() | tags()
+    out = style() | length() | candidate() | layout() | state() | answer() | pixels() | reach() | touch() | bad_word() | tags()
     out |= {"STYLE_WORDS": known["style_words"], "LENGTH_WORDS": known["length_words"]}
     out |= {"CANDIDATE_WORDS": number(CANDIDATE, "candidate_width"), "LAYOUT_WORDS": number(LAYOUT, "layout_width")}
     out |= {"STATE_WORDS": count("state_words"), "ANSWER_WORDS": count("finish_words")}
@@ -261,7 +272,7 @@ def rust_names():
     out |= {n.replace("TAG_", "tag::", 1): n for n in tags() if n != "TAG_PX"} | {"tag::LENGTH": "TAG_PX"}
     return out | {"STYLE": "STYLE_WORDS", "LENGTH": "LENGTH_WORDS", "VALUE": "LENGTH_VALUE", "SECOND": "LENGTH_SECOND", "CANDIDATE": "CANDIDATE_WORDS",
                   "LAYER": "CANDIDATE_LAYER", "LAYOUT": "LAYOUT_WORDS", "STATE": "STATE_WORDS", "ANSWER": "ANSWER_WORDS", "EDGES": "PIXEL_EDGES",
-                  "VERDICT": "REACH_WORDS", "FOUND": "FOUND_WORDS"}
+                  "VERDICT": "REACH_WORDS", "TOUCH": "TOUCH_WORDS", "FOUND": "FOUND_WORDS"}
 
 
 def rust_numbers():

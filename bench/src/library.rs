@@ -56,8 +56,15 @@ impl Words {
     }
     /// Of a finished run
     pub fn drawing_order(&self, order: &mut [u32]) -> u32 {
+        ffi::drawing_order(self.finished(), order)
+    }
+    /// Of a finished run
+    pub fn touch(&self, words: &mut [u32]) -> u32 {
+        ffi::touch(self.finished(), words)
+    }
+    fn finished(&self) -> Finished<'_> {
         let Words { styles, layouts, working, state, .. } = self;
-        ffi::drawing_order(Finished { styles, layouts, working, unclaimed: &[], state }, order)
+        Finished { styles, layouts, working, unclaimed: &[], state }
     }
     /// The reply to the open question; none after the finish
     pub fn next(&self) -> Option<Reply> {

@@ -1,5 +1,5 @@
 //! Times the same runs through the published Rust and through the library, in one process; then the library's calls as the table grows,
-//! good and with a bad word, and the drawing order as more layers are in use.
+//! good and with a bad word, the drawing order as more layers are in use, and what a touch driver reads.
 //!
 //!     bench [ROUNDS]
 //!     bench profile rust|library ITEMS BOXES RUNS      # one side alone on 64 tables in turn, for a profiler
@@ -11,8 +11,8 @@ mod rust;
 mod scene;
 
 use library::Words;
-use oof::ffi::Reply;
-use oof::words::{CANDIDATE, LAYER, STYLE};
+use oof::ffi::{self, state, Reply};
+use oof::words::{CANDIDATE, LAYER, LAYOUT, STYLE};
 use oof::{first_bad_word, BadWord};
 use oracle::set::{has_size_keyword, on_the_set};
 use rust::Tree;
@@ -235,6 +235,66 @@ fn drawing(rounds: usize, items: usize, boxes: usize, layers: u32) {
     );
 }
 
+/// A finished run of so many boxes, on two layers. They and the area stand on whole eighths
+fn in_eighths(items: usize, boxes: usize) -> Words {
+    let mut words = on_layers(items, boxes, 2);
+    let mut eighths = (0u32..).map(|k| ((k.wrapping_mul(0x9E37_79B1) >> 19) as f32 - 4096.0) / 8.0);
+    let mut next = || eighths.next().expect("there is no end").to_bits();
+    for layout in words.layouts.chunks_exact_mut(LAYOUT) {
+        // width, height, x, y
+        for word in [1, 2, 9, 10] {
+            layout[word] = next();
+        }
+    }
+    words.state[state::AREA + 2..state::AREA + 4].fill_with(next);
+    words
+}
+
+/// Every word of the layouts of the boxes, in hoisted order
+fn sum_of_layouts(words: &Words) -> u32 {
+    words
+        .working
+        .chunks_exact(CANDIDATE)
+        .fold(0, |sum, record| sum.wrapping_add(sum_of(&words.layouts[LAYOUT * record[0] as usize..][..LAYOUT])))
+}
+
+/// Each box's node and its edges, by a call of `oof_pixels` for each
+fn touch_by_box(words: &Words, told: &mut [u32]) {
+    let [x, y] = [2, 3].map(|word| f32::from_bits(words.state[state::AREA + word]));
+    for (record, five) in words.working.chunks_exact(CANDIDATE).zip(told.chunks_exact_mut(ffi::TOUCH)) {
+        let layout = words.layouts[LAYOUT * record[0] as usize..][..LAYOUT].try_into().expect("as long");
+        let mut edges = [0; ffi::EDGES];
+        assert_eq!(ffi::pixels(layout, x, y, &mut edges), 0);
+        five[0] = record[0];
+        five[1..].copy_from_slice(&edges.map(i32::cast_unsigned));
+    }
+}
+
+/// What a touch driver reads, beside one read of the boxes' layouts, the same by a call for each box, and the drawing order
+fn touching(rounds: usize, items: usize, boxes: usize) {
+    let words = in_eighths(items, boxes);
+    let (mut told, mut by_box, mut order) = (vec![0; ffi::TOUCH * boxes], vec![0; ffi::TOUCH * boxes], vec![0; boxes]);
+    assert_eq!(words.touch(&mut told), 0);
+    touch_by_box(&words, &mut by_box);
+    assert_eq!(told, by_box);
+    let mut sum = || {
+        black_box(sum_of_layouts(black_box(&words)));
+    };
+    let mut touch = || assert_eq!(black_box(black_box(&words).touch(&mut told)), 0);
+    let mut each = || touch_by_box(black_box(&words), black_box(&mut by_box));
+    let mut draw = || assert_eq!(black_box(black_box(&words).drawing_order(&mut order)), 0);
+    let [sum, each, touch, draw] = medians(rounds, [&mut sum, &mut each, &mut touch, &mut draw]);
+    println!(
+        "| {boxes} | {items} | {} | {} | {} | {} | {:.1} | {:.2} ns |",
+        shown(sum),
+        shown(each),
+        shown(draw),
+        shown(touch),
+        touch / sum,
+        touch / boxes as f64 * 1e9
+    );
+}
+
 /// So many runs of one side, for a profiler: `rust` or `library`, items, boxes, runs
 fn profile(args: &[String]) {
     let [items, boxes, runs] = [1, 2, 3].map(|i| args[i].parse::<usize>().expect("a number"));
@@ -246,6 +306,22 @@ fn profile(args: &[String]) {
             "rust" => drop(black_box(trees[at % 64].run())),
             _ => assert_eq!(words[at % 64].run(), 0),
         }
+    }
+}
+
+/// The tables of entries that read a finished run
+fn finished_runs(rounds: usize) {
+    println!("| boxes | layers in use | one sum of the list | the drawing order | a stable sort | order / sum | order, a box and layer |");
+    println!("|---|---|---|---|---|---|---|");
+    drawing(rounds, 100, 100, 2);
+    for layers in [1, 2, 16, 256] {
+        drawing(rounds, 1, 4096, layers);
+    }
+    println!();
+    println!("| boxes | items | one sum of layouts | pixels by box | the drawing order | driver's words | words / sum | words, a box |");
+    println!("|---|---|---|---|---|---|---|---|");
+    for (items, boxes) in [(1, 1), (100, 100), (1, 4096), (1024, 4096)] {
+        touching(rounds, items, boxes);
     }
 }
 
@@ -277,10 +353,5 @@ fn main() {
         bad_words(rounds, items);
     }
     println!();
-    println!("| boxes | layers in use | one sum of the list | the drawing order | a stable sort | order / sum | order, a box and layer |");
-    println!("|---|---|---|---|---|---|---|");
-    drawing(rounds, 100, 100, 2);
-    for layers in [1, 2, 16, 256] {
-        drawing(rounds, 1, 4096, layers);
-    }
+    finished_runs(rounds);
 }

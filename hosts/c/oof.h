@@ -2,9 +2,10 @@
  *
  * A host opens a run with oof_open, reads the question that stands in the answer's words, and replies with the entry of
  * that question's kind, until the answer is a finish. Then the layouts hold each placed box, and the tally has for each item
- * how many questions were answered. oof_reach says of each box whether scrolling can bring it into view, and oof_drawing_order
- * in which order to draw them. oof_pixels rounds a layout to whole pixels, and oof_first_bad_word says which word of a table
- * of styles breaks a code rule; they belong to no run.
+ * how many questions were answered. oof_reach says of each box whether scrolling can bring it into view, oof_drawing_order
+ * in which order to draw them, and oof_touch writes what a touch driver reads of them: of each its node and its pixel edges.
+ * oof_pixels rounds a layout to whole pixels, and oof_first_bad_word says which word of a table of styles breaks a code rule;
+ * they belong to no run.
  *
  *     result = oof_open(.., state, answer);
  *     while (result == 0 && answer[OOF_ANSWER_KIND] != OOF_FINISH)
@@ -15,13 +16,15 @@
  *         result = oof_reach(place, .., state, verdict);
  *     if (result == 0)
  *         result = oof_drawing_order(.., state, order, state[OOF_STATE_WORKING]);
+ *     if (result == 0)
+ *         result = oof_touch(.., state, words, OOF_TOUCH_WORDS * state[OOF_STATE_WORKING]);
  *
  * RESULT. That of oof_first_bad_word is 1 or 0 and no refusal: item and word are written, or nothing is. Of every other
  * entry 0: the call was accepted, and the answer's words say what comes next (of oof_pixels: the edges are written; of
- * oof_reach: the verdict; of oof_drawing_order: the order). 1 to 6, and 9, of oof_pixels and oof_reach alone: it was refused,
- * for the reason of that number (enum oof_refusal), and NO LENT WORD WAS WRITTEN: layouts, lists, tally, answer, edges, verdict
- * and order keep every bit. 7 and 8 are refusals of parts that have no entry here. What stands in the state's words after a
- * refusal:
+ * oof_reach: the verdict; of oof_drawing_order: the order; of oof_touch: the driver's words). 1 to 6, and 9, of oof_pixels,
+ * oof_reach and oof_touch alone: it was refused, for the reason of that number (enum oof_refusal), and NO LENT WORD WAS WRITTEN:
+ * layouts, lists, tally, answer, edges, verdict, order and the driver's words keep every bit. 7 and 8 are refusals of parts that
+ * have no entry here. What stands in the state's words after a refusal:
  *   - after a refused reply, what stood there before, bit for bit, so the reply can be mended and made again;
  *   - after a refused opening, a finished run with all counts 0, so that no reply is taken until an opening is accepted.
  *     A run that stood in these words before is given up by any opening.
@@ -38,7 +41,8 @@
  * in any order, and in different threads. README.md beside this file says for which platform the library is, what it
  * needs from its program, and how much stack a call takes.
  *
- * NUMBERS. Floats stand in words by their bits (oof_word, oof_float). Every NaN written is 7FC00000 hex. */
+ * NUMBERS. Floats stand in words by their bits (oof_word, oof_float), and so do the pixel edges that a touch driver reads, signed
+ * numbers in two's complement (oof_signed). Every NaN written is 7FC00000 hex. */
 #ifndef OOF_H
 #define OOF_H
 
@@ -61,6 +65,7 @@ enum {
     OOF_ANSWER_WORDS = 10,
     OOF_PIXEL_EDGES = 4,
     OOF_REACH_WORDS = 3,
+    OOF_TOUCH_WORDS = 5,
     OOF_FOUND_WORDS = 2,
     OOF_MOST_ITEMS = 1024,   /* of a table of styles */
     OOF_MOST_RECORDS = 4096, /* of a working or an unclaimed list */
@@ -74,16 +79,16 @@ enum oof_refusal {
     OOF_BAD_AREA = 1,      /* an opening's direction, claims or overflow code is outside its list */
     OOF_BAD_EXTENT = 2,    /* a slice isn't whole records, is too long, or has another length than at the opening; the tally
                               isn't one word an item; or, of oof_reach, no box has that place; of oof_drawing_order, the
-                              order isn't one word a box */
+                              order isn't one word a box; of oof_touch, the driver's words aren't five a box */
     OOF_BAD_STYLE = 3,     /* a tag or code that its field doesn't take, in any item of the table; oof_first_bad_word says
                               which */
     OOF_BAD_CANDIDATE = 4, /* a node outside the table, a code outside its list, or a layer above OOF_MOST_LAYER */
     OOF_LIST_FULL = 5,     /* the claimed or the unclaimed records would exceed their list */
     OOF_WRONG_REPLY = 6,   /* not the open question's kind, no question open, a state whose counts don't fit, or a word of the
-                              tally above the run's count of questions answered; of oof_reach and oof_drawing_order, a
-                              question open, or such counts */
-    OOF_NOT_IN_EIGHTHS = 9 /* of oof_pixels and oof_reach: a number that isn't a whole eighth, or is above 9,999,999 eighths
-                              in size */
+                              tally above the run's count of questions answered; of oof_reach, oof_drawing_order and
+                              oof_touch, a question open, or such counts */
+    OOF_NOT_IN_EIGHTHS = 9 /* of oof_pixels, oof_reach and oof_touch: a number that isn't a whole eighth, or is above 9,999,999
+                              eighths in size */
 };
 
 static inline const char *oof_refusal_name(uint32_t result)
@@ -101,7 +106,7 @@ static inline const char *oof_refusal_name(uint32_t result)
     }
 }
 
-/* ---- floats by their bits */
+/* ---- floats and signed numbers by their bits */
 
 static inline uint32_t oof_word(float value)
 {
@@ -113,6 +118,14 @@ static inline uint32_t oof_word(float value)
 static inline float oof_float(uint32_t word)
 {
     float value;
+    memcpy(&value, &word, sizeof value);
+    return value;
+}
+
+/* A signed number that stands in a word. -1 is FFFFFFFF hex, and a cast of that to int32_t is the compiler's to define. */
+static inline int32_t oof_signed(uint32_t word)
+{
+    int32_t value;
     memcpy(&value, &word, sizeof value);
     return value;
 }
@@ -170,7 +183,7 @@ enum {
  *     stretch size where no width is known.
  *   - Before request #106 the stretch size was the area less its insets, auto ones as 0, less the margins: 100 in both examples, and
  *     min-content with its y anchor at 40 in 100 was asked for in a height of 100, now in 60. A host links the new library; none of
- *     its code changes. Such boxes have other sizes, and so other places, overflow rectangles and verdicts of oof_reach: layouts
+ *     its code changes. Such boxes have other sizes, and so other locations, overflow rectangles and verdicts of oof_reach: layouts
  *     that are stored or expected of them are made anew. A max or an inset that was set to keep such a label in the area still
  *     counts.
  * OOF_TAG_SUM is the sum of a percentage and a length: basis * value, rounded, plus the second value, rounded; the two float
@@ -339,6 +352,16 @@ enum { OOF_PIXEL_LEFT = 0, OOF_PIXEL_RIGHT = 1, OOF_PIXEL_TOP = 2, OOF_PIXEL_BOT
 
 enum { OOF_REACH_KIND = 0, OOF_REACH_X = 1, OOF_REACH_Y = 2 };
 enum { OOF_UNSEEN = 0, OOF_SEEN = 1 };
+
+/* ---- what a touch driver reads of a box, 5 words: the node, then the pixel edges, each a signed number (oof_signed) */
+
+enum {
+    OOF_TOUCH_NODE = 0,
+    OOF_TOUCH_LEFT = 1,
+    OOF_TOUCH_RIGHT = 2,
+    OOF_TOUCH_TOP = 3,
+    OOF_TOUCH_BOTTOM = 4
+};
 
 /* ---- where a word that breaks a rule was found, 2 words: which item of the table, and which word of its style, from 0 */
 
@@ -572,8 +595,8 @@ uint32_t oof_reach(size_t place,
  *       lend the state as it came. Its counts of boxes begun and questions answered aren't looked at.
  *   4   A filled record of the working list has a node outside the table, a code outside its list or a layer above
  *       OOF_MOST_LAYER. The run left none such: somebody else wrote there. Records of the unclaimed list aren't looked at.
- * It reads no float: boxes that oof_pixels and oof_reach refuse with 9 are drawn in their turn too. The words are read as they
- * are: a layer that somebody wrote into the working list after the finish counts.
+ * It reads no float: boxes that oof_pixels, oof_reach and oof_touch refuse with 9 are drawn in their turn too. The words are
+ * read as they are: a layer that somebody wrote into the working list after the finish counts.
  * What it doesn't promise: that a box hides what it is drawn over, or that two boxes overlap at all.
  * Its time grows with the boxes times the layers in use, however high these are. */
 uint32_t oof_drawing_order(const uint32_t *styles, size_t styles_len,
@@ -581,6 +604,55 @@ uint32_t oof_drawing_order(const uint32_t *styles, size_t styles_len,
                            const uint32_t *working, size_t working_len,
                            const uint32_t *unclaimed, size_t unclaimed_len,
                            const uint32_t *state, uint32_t *order, size_t order_len);
+
+/* ---- what a touch driver reads */
+
+/* The boxes of a finished run as a touch driver reads them: five words a box, in hoisted order.
+ *   styles, layouts, working, unclaimed, state   as the run's last call left them; only read. Of styles the length counts, of
+ *               unclaimed the length and how many records are filled, of a box's layout x, y, width and height
+ *   words       five words a box: words_len must be OOF_TOUCH_WORDS * state[OOF_STATE_WORKING]. Written on 0 only
+ * The words of the box at place k begin at word OOF_TOUCH_WORDS * k: its node, then the pixel edges of its layout, left, right,
+ * top and bottom. They are those of oof_pixels, counted from the left and top edge of the run's area, each as a word: -1 is
+ * FFFFFFFF hex. A box of 8 by 8 eighths at -5, 0 eighths from that corner has the words node, FFFFFFFF, 0, 0, 1.
+ * A box covers the pixel x, y, counted from there too, where left <= x < right and top <= y < bottom; it covers none where its
+ * width or height is 0 or negative. Of the boxes that cover a pixel, the one that is drawn last is touched:
+ *
+ *     static uint32_t words[OOF_TOUCH_WORDS * OOF_MOST_RECORDS], order[OOF_MOST_RECORDS]; // as many as there can be
+ *     size_t boxes = state[OOF_STATE_WORKING];
+ *     if (oof_touch(styles, styles_len, .., state, words, OOF_TOUCH_WORDS * boxes) == OOF_ACCEPTED &&
+ *         oof_drawing_order(styles, styles_len, .., state, order, boxes) == OOF_ACCEPTED)
+ *         for (size_t k = boxes; k > 0; k--) {
+ *             const uint32_t *box = words + OOF_TOUCH_WORDS * order[k - 1];
+ *             if (covers(box, x, y)) // of edges as oof_signed reads them
+ *                 return box[OOF_TOUCH_NODE];
+ *         }
+ *
+ * A node that was claimed twice stands there twice, at each of its places, both times with its one layout, the last. A run without
+ * boxes, and the state of a refused opening, have 0 words, and nothing is written. The pointer isn't null there either.
+ * A driver can't tell apart two runs whose areas have the same x and y, with the same hoisted order and, at each of its nodes, the
+ * same x, y, width and height (0 and -0 are the same): the words are identical, or both are refused with 9. Padding, border,
+ * margins, scrollbars, child overflow and order of their layouts may be any, the area's size and direction, layers, styles and the
+ * layouts of other nodes too.
+ * Refuses with 2, 6, 4, 9, tested in this order:
+ *   2   A slice is one that a reply refuses: not whole records, too long, or of another length than at the opening. Or
+ *       words_len isn't five for each of the state[OOF_STATE_WORKING] boxes, also where 6 would come next. Lend the run's own
+ *       slices, and that many words.
+ *   6   The run isn't finished, or the state counts more filled records than a list has. Answer the open question first, and
+ *       lend the state as it came. Its counts of boxes begun and questions answered aren't looked at.
+ *   4   A filled record of the working list has a node outside the table, a code outside its list or a layer above
+ *       OOF_MOST_LAYER. The run left none such: somebody else wrote there. Records of the unclaimed list aren't looked at.
+ *   9   A number isn't one that oof_pixels accepts: some box's x, y, width or height, or the area's x or y. One such box refuses
+ *       the whole list, and no word is written of any other: oof_pixels says which box it is, and gives the others' edges; for a bad
+ *       x or y of the area it refuses each box. Auto margins that share an odd count of eighths put their box on a sixteenth (see
+ *       oof_pixels), and then there are no words for the driver at all. A finished run of whole quarter pixels, as oof_pixels asks
+ *       for them, isn't refused. The area's width and height aren't read, nor are layouts of nodes without a box; where there is no
+ *       box at all, x and y may be any.
+ * The words are read as they are: a layout that somebody wrote after the finish counts. Edges are not mirrored (see oof_pixels). */
+uint32_t oof_touch(const uint32_t *styles, size_t styles_len,
+                   const uint32_t *layouts, size_t layouts_len,
+                   const uint32_t *working, size_t working_len,
+                   const uint32_t *unclaimed, size_t unclaimed_len,
+                   const uint32_t *state, uint32_t *words, size_t words_len);
 
 /* ---- whole pixels */
 

@@ -1,7 +1,7 @@
 /* Replays stored runs through the entries. Standard input has openings and replies, damaged ones among them; what is answered
- * and written is printed, and run.sh holds it to replay.stdout: what the published Rust answered or, where request #106 doesn't
- * compare with the Rust, the second implementation, or the refusal that document 01 names. Exits with 1 where a call, refused
- * or not, wrote a word that it must keep, or where the input is no such runs.
+ * and written is printed, and at the end what a touch driver reads. run.sh holds it to replay.stdout: what the published Rust
+ * answered or, where request #106 doesn't compare with the Rust, the second implementation, or the refusal that document 01
+ * names. Exits with 1 where a call, refused or not, wrote a word that it must keep, or where the input is no such runs.
  *
  * replay.stdin, in hexadecimal words (tools/samples/replays.py writes it, and replay.stdout): the number of openings, each with
  * its replies, and of each
@@ -35,6 +35,7 @@ typedef struct {
 } lent;
 
 #define SLICE(s) (s).words, (s).length
+#define FINISHED(w) SLICE((w)->styles), SLICE((w)->layouts), SLICE((w)->working), SLICE((w)->unclaimed), (w)->state
 #define WRITTEN(w) SLICE((w)->layouts), SLICE((w)->working), SLICE((w)->unclaimed), SLICE((w)->tally), (w)->state, (w)->answer
 
 static uint32_t opening_number;
@@ -261,6 +262,26 @@ static void play_reply(lent *w)
     }
 }
 
+/* The run is finished, or the opening was refused. */
+static void print_touch(const lent *w)
+{
+    lent before = *w;
+    slice words, noise;
+    memset(&words, NOISE, sizeof words);
+    words.length = OOF_TOUCH_WORDS * w->state[OOF_STATE_WORKING];
+    must(words.length <= ROOM, "there are more boxes than room for a touch driver's words");
+    noise = words;
+    uint32_t result = oof_touch(FINISHED(w), SLICE(words));
+    if (result == OOF_ACCEPTED)
+        print_words("touch", &words);
+    else
+        printf("touch refused %" PRIu32 "\n", result);
+    must(same(&before, w), "a call for a touch driver wrote a word that it may only read");
+    if (result == OOF_ACCEPTED)
+        take_words(&noise, &words);
+    must(memcmp(&noise, &words, sizeof words) == 0, "a call for a touch driver wrote beyond its words, or though it was refused");
+}
+
 /* An opening and its replies. Layouts and lists begin as zeros; tally, state, answer and what lies beyond as noise. */
 static void play_run(void)
 {
@@ -281,6 +302,7 @@ static void play_run(void)
     print_words("working", &w.working);
     print_words("unclaimed", &w.unclaimed);
     print_words("tally", &w.tally);
+    print_touch(&w);
 }
 
 int main(void)

@@ -1,8 +1,9 @@
 #!/bin/sh
 # Builds the C programs against an installed copy of the proved library, outside the repository, and runs them: the tests, the
-# stored runs, whose output is held to replay.stdout, the measurement of the stack, and the example, whose output is held to
-# example.stdout. Before that, the header's numbers are held to the definitions, and the library to what README.md says that it
-# needs. README.md must have the size of the code as measured, and that of the stack as measured by the compiler that it names.
+# stored runs, whose output is held to replay.stdout, the measurement of the stack, and the examples, whose output is held to
+# example.stdout and touch.stdout. Before that, the header's numbers are held to the definitions, and the library to what README.md
+# says that it needs. README.md must have the size of the code as measured, and that of the stack as measured by the compiler that
+# it names.
 #
 #     tools/staticlib && hosts/c/run.sh
 #
@@ -40,7 +41,7 @@ build() { # NAME, then options
     # shellcheck disable=SC2086
     "${CC:-cc}" -std=c11 -Wall -Wextra -Werror -O2 $flags "$@" -o "$work/$name" "$work/$name.c" $libs
 }
-cp "$here/test.c" "$here/replay.c" "$here/example.c" "$here/stack.c" "$work"
+cp "$here/test.c" "$here/replay.c" "$here/example.c" "$here/touch.c" "$here/stack.c" "$work"
 cd "$work"
 build test
 ./test
@@ -50,7 +51,7 @@ diff "$here/replay.stdout" stdout > differences || { head -n 20 differences; exi
 # what an opening answered is the first line, or follows the last line of the opening before
 awk '!inside { inside = 1; if ($1 == "refused") refused++; else runs++ }
     $1 == "counts" { calls++ }
-    $1 == "tally" { inside = 0 }
+    $1 == "touch" { inside = 0 }
     END { printf "hosts/c: %d stored runs, %d refused openings, %d calls", runs, refused, calls
           print ", as the Rust or the second implementation answered or document 01 refuses" }' stdout
 build stack -D_POSIX_C_SOURCE=200809L -pthread
@@ -62,12 +63,15 @@ open=$(sed -n 's/.*: open \([0-9]*\), .*/\1/p' stdout)
 reply=$(sed -n 's/.*, both \([^;]*\);.*/\1/p' stdout | grep -o '[0-9]\{1,\}' | sort -n | tail -n 1)
 reach=$(sed -n 's/.*; reach \([0-9]*\);.*/\1/p' stdout)
 drawing=$(sed -n 's/.*; drawing order \([0-9]*\);.*/\1/p' stdout)
+touch=$(sed -n 's/.*; touch \([0-9]*\);.*/\1/p' stdout)
 pixels=$(sed -n 's/.*; pixels \([0-9]*\);.*/\1/p' stdout)
 first=$(sed -n 's/.*; first bad word //p' stdout)
 case $("${CC:-cc}" -dumpversion) in
-12 | 12.*) must_say "| $(thousands "$open") bytes for \`oof_open\`, $(thousands "$reply") for a reply, $(thousands "$reach") for \`oof_reach\`, $(thousands "$drawing") for \`oof_drawing_order\`, $(thousands "$pixels") for \`oof_pixels\`, $(thousands "$first") for \`oof_first_bad_word\`" ;;
+12 | 12.*) must_say "| $(thousands "$open") bytes for \`oof_open\`, $(thousands "$reply") for a reply, $(thousands "$reach") for \`oof_reach\`, $(thousands "$drawing") for \`oof_drawing_order\`, $(thousands "$touch") for \`oof_touch\`, $(thousands "$pixels") for \`oof_pixels\`, $(thousands "$first") for \`oof_first_bad_word\`" ;;
 esac
-build example
-./example > stdout
-diff "$here/example.stdout" stdout
-echo "hosts/c: the example's output is as it must be"
+for example in example touch; do
+    build "$example"
+    "./$example" > stdout
+    diff "$here/$example.stdout" stdout
+done
+echo "hosts/c: the examples' output is as it must be"

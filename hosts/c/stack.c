@@ -119,6 +119,17 @@ static uint32_t do_drawing_order(void *context)
     return result == OOF_ACCEPTED && order[0] == 1 && order[1] == 0 ? OOF_ACCEPTED : OOF_BAD_EXTENT;
 }
 
+/* of the same run: both boxes are of the last item, which is laid out */
+static uint32_t do_touch(void *context)
+{
+    uint32_t words[2 * OOF_TOUCH_WORDS];
+    (void)context;
+    uint32_t result = oof_touch(styles, items * OOF_STYLE_WORDS, layouts, items * OOF_LAYOUT_WORDS, working,
+                                4 * OOF_CANDIDATE_WORDS, unclaimed, 4 * OOF_CANDIDATE_WORDS, state, words,
+                                state[OOF_STATE_WORKING] * OOF_TOUCH_WORDS);
+    return result == OOF_ACCEPTED && words[OOF_TOUCH_WORDS + OOF_TOUCH_NODE] == items - 1 ? OOF_ACCEPTED : OOF_BAD_EXTENT;
+}
+
 /* the whole table: no word of it breaks a rule; then its last one does */
 static uint32_t do_first_bad_word(void *context)
 {
@@ -155,7 +166,7 @@ static void fill(size_t count, uint32_t width, uint32_t height)
     }
 }
 
-enum { ENTRIES = 9 };
+enum { ENTRIES = 10 };
 
 static size_t most[ENTRIES];
 static int accepted;
@@ -190,14 +201,15 @@ int main(void)
             state[OOF_STATE_OVERFLOW_X] = state[OOF_STATE_OVERFLOW_Y] = OOF_OVERFLOW_SCROLL;
             measure(5, do_reach, without);
             measure(8, do_drawing_order, without);
+            measure(9, do_touch, without);
             measure(7, do_first_bad_word, without);
         }
     measure(6, do_pixels, without);
     printf("hosts/c: bytes of stack, %d calls accepted: open %zu, both %zu, width %zu, height %zu, laid out %zu; reach %zu; "
-           "drawing order %zu; pixels %zu; first bad word %zu\n",
-           accepted, most[0], most[1], most[2], most[3], most[4], most[5], most[8], most[6], most[7]);
+           "drawing order %zu; touch %zu; pixels %zu; first bad word %zu\n",
+           accepted, most[0], most[1], most[2], most[3], most[4], most[5], most[8], most[9], most[6], most[7]);
     for (int entry = 0; entry < ENTRIES; entry++)
         if (most[entry] > LIMIT || most[entry] == 0)
             return EXIT_FAILURE;
-    return accepted == 49 ? EXIT_SUCCESS : EXIT_FAILURE;
+    return accepted == 57 ? EXIT_SUCCESS : EXIT_FAILURE;
 }

@@ -1,6 +1,6 @@
 /* What the header says of offsets, of layers, of refused calls, of pixels, of boxes that no scrolling brings up, of the drawing
- * order, of words that break a rule, of sums, of size keywords and of the tally, tried. Prints one line; exits with 1 at the first
- * that isn't so. */
+ * order, of what a touch driver reads, of words that break a rule, of sums, of size keywords and of the tally, tried. Prints one
+ * line; exits with 1 at the first that isn't so. */
 #include <stdio.h>
 #include <stdlib.h>
 #include "oof.h"
@@ -951,13 +951,13 @@ static void random_words(void)
     MUST(told[OOF_NOT_IN_EIGHTHS] > 1000 && told[SEEN] > 1000 && told[SCROLLED] > 1000 && told[UNSEEN] > 1000);
 }
 
-/* ---- the drawing order */
+/* ---- a finished run's boxes, of each of which an entry writes so many words: the drawing order, and what a touch driver reads */
 
 #define LIST(...) ((const uint32_t[]){__VA_ARGS__})
 
 /* a finished run of boxes with these nodes and layers, over six items and lists of four records. Every word that isn't to be read
  * is noise: no style, no number, and a bad record behind the filled ones and in the unclaimed list. */
-static ended drawing(uint32_t boxes, const uint32_t *nodes, const uint32_t *layers)
+static ended hoisted(uint32_t boxes, const uint32_t *nodes, const uint32_t *layers)
 {
     ended e;
     memset(&e, 0xFF, sizeof e);
@@ -974,45 +974,188 @@ static ended drawing(uint32_t boxes, const uint32_t *nodes, const uint32_t *laye
     return e;
 }
 
-/* its order is 1, 2, 0 */
 static ended three_boxes(void)
 {
-    return drawing(3, LIST(5, 5, 2), LIST(1, 0, 0));
+    return hoisted(3, LIST(5, 5, 2), LIST(1, 0, 0));
 }
 
-enum { ORDER_ROOM = 6 };
+/* the layout of a node, in eighths from the area's left and top edge; its other words stay noise */
+static void stand(ended *e, uint32_t node, int x, int y, int width, int height)
+{
+    const axis across = {0, x, width, 0, 0}, down = {0, y, height, 0, 0};
+    put_box(e, (int)node, &across, &down);
+}
 
-/* the call's result over an order of so many words, or WROTE if it wrote a word that it may only read, a word beside the order, or
- * one of the order though it was refused */
-static uint32_t draw(const ended *e, size_t words, uint32_t *order)
+/* the same three boxes, whose nodes have layouts; of the area the offset */
+static ended three_standing(void)
+{
+    ended e = three_boxes();
+    e.state[OOF_STATE_AREA + 2] = eighths(AREA_X), e.state[OOF_STATE_AREA + 3] = eighths(AREA_Y);
+    stand(&e, 5, -5, 0, 8, 8);
+    stand(&e, 2, 12, -13, 25, 12);
+    return e;
+}
+
+/* so many boxes' words are lent at most */
+enum { BOX_ROOM = 6, WORD_ROOM = BOX_ROOM * OOF_TOUCH_WORDS };
+
+typedef struct {
+    uint32_t (*call)(const uint32_t *styles, size_t styles_len, const uint32_t *layouts, size_t layouts_len,
+                     const uint32_t *working, size_t working_len, const uint32_t *unclaimed, size_t unclaimed_len,
+                     const uint32_t *state, uint32_t *words, size_t words_len);
+    uint32_t each; /* words a box */
+    ended (*three)(void);
+    const uint32_t *of[4]; /* what is written of the first none, one, two and three of these boxes */
+} part;
+
+static const uint32_t three_touched[] = {5, 0xFFFFFFFF, 0, 0, 1, 5, 0xFFFFFFFF, 0, 0, 1, 2, 2, 5, 0xFFFFFFFE, 0};
+static const uint32_t one_drawn[] = {0}, two_drawn[] = {1, 0}, three_drawn[] = {1, 2, 0};
+
+static const part drawing = {oof_drawing_order, 1, three_boxes, {one_drawn, one_drawn, two_drawn, three_drawn}};
+static const part touching = {
+    oof_touch, OOF_TOUCH_WORDS, three_standing, {three_touched, three_touched, three_touched, three_touched}};
+
+/* the call's result over so many words, or WROTE if it wrote a word that it may only read, a word beside those, or one of them
+ * though it was refused */
+static uint32_t fill(const part *p, const ended *e, size_t words, uint32_t *into)
 {
     const ended before = *e;
-    uint32_t noise[ORDER_ROOM + 2], lent[ORDER_ROOM + 2];
-    for (uint32_t k = 0; k < ORDER_ROOM + 2; k++)
+    uint32_t noise[WORD_ROOM + 2], lent[WORD_ROOM + 2];
+    for (uint32_t k = 0; k < WORD_ROOM + 2; k++)
         lent[k] = noise[k] = 0x5A5A5A5A + 0x01234567 * k;
-    uint32_t result = oof_drawing_order(ENDED(e), lent + 1, words);
-    memcpy(order, lent + 1, ORDER_ROOM * sizeof *order);
+    uint32_t result = p->call(ENDED(e), lent + 1, words);
+    memcpy(into, lent + 1, WORD_ROOM * sizeof *into);
     if (result == OOF_ACCEPTED)
         memcpy(lent + 1, noise + 1, words * sizeof *lent);
     return memcmp(&before, e, sizeof before) || memcmp(lent, noise, sizeof noise) ? WROTE : result;
 }
 
+static int fills(const part *p, const ended *e, size_t words, const uint32_t *expected)
+{
+    uint32_t into[WORD_ROOM];
+    return fill(p, e, words, into) == OOF_ACCEPTED && memcmp(into, expected, words * sizeof *into) == 0;
+}
+
+static int results(const part *p, const ended *e, size_t words, uint32_t number)
+{
+    uint32_t into[WORD_ROOM];
+    return fill(p, e, words, into) == number;
+}
+
+/* whether these are the first so many of the part's three boxes */
+static int is_first_of_three(const part *p, const ended *e, size_t boxes)
+{
+    return fills(p, e, boxes * p->each, p->of[boxes]);
+}
+
+/* other words than the boxes have, before all other tests; and the slices, as everywhere */
+static void filled_extents(const part *p)
+{
+    const size_t three = 3 * p->each;
+    ended e;
+    for (size_t words = 0; words < BOX_ROOM * p->each; words++) {
+        e = p->three();
+        MUST(words == three ? is_first_of_three(p, &e, 3) : results(p, &e, words, OOF_BAD_EXTENT));
+        e.working[OOF_CANDIDATE_LAYER] = 256;
+        MUST(results(p, &e, words, words == three ? OOF_BAD_CANDIDATE : OOF_BAD_EXTENT));
+        e.state[OOF_STATE_PROGRESS] = 5;
+        MUST(results(p, &e, words, words == three ? OOF_WRONG_REPLY : OOF_BAD_EXTENT));
+    }
+    e = p->three();
+    for (int slice = 0; slice < 4; slice++) {
+        const uint32_t all = e.lengths[slice];
+        e.lengths[slice] = 0; /* another length than at the opening */
+        MUST(results(p, &e, three, OOF_BAD_EXTENT));
+        e.lengths[slice] = all, e.state[OOF_STATE_LENGTHS + slice]++;
+        MUST(results(p, &e, three, OOF_BAD_EXTENT));
+        lend(&e, slice, all - 1); /* not whole records, at the opening too */
+        MUST(results(p, &e, three, OOF_BAD_EXTENT));
+        lend(&e, slice, all);
+        MUST(is_first_of_three(p, &e, 3));
+    }
+    lend(&e, LAYOUTS, (ITEM_ROOM - 1) * OOF_LAYOUT_WORDS);
+    MUST(results(p, &e, three, OOF_BAD_EXTENT));
+    lend(&e, STYLES, (ITEM_ROOM - 1) * OOF_STYLE_WORDS);
+    MUST(results(p, &e, three, OOF_BAD_CANDIDATE)); /* node 5 of five items */
+    lend(&e, WORKING, 3 * 13);
+    MUST(results(p, &e, three, OOF_BAD_EXTENT)); /* three records as they were before layers */
+}
+
+/* an unfinished run, or counts above the lists; no other count is looked at */
+static void filled_states(const part *p)
+{
+    const size_t two = 2 * p->each, three = 3 * p->each;
+    ended e = p->three();
+    for (uint32_t progress = 1; progress <= 5; progress++) {
+        e.state[OOF_STATE_PROGRESS] = progress;
+        MUST(results(p, &e, three, OOF_WRONG_REPLY) && results(p, &e, two, OOF_BAD_EXTENT));
+    }
+    e.state[OOF_STATE_PROGRESS] = 6; /* above the list is finished */
+    MUST(is_first_of_three(p, &e, 3));
+    lend(&e, WORKING, 2 * OOF_CANDIDATE_WORDS); /* two records, of which three are filled */
+    MUST(results(p, &e, three, OOF_WRONG_REPLY) && results(p, &e, two, OOF_BAD_EXTENT));
+    e.state[OOF_STATE_WORKING] = 2;
+    MUST(is_first_of_three(p, &e, 2) && results(p, &e, three, OOF_BAD_EXTENT));
+
+    e = p->three();
+    e.state[OOF_STATE_UNCLAIMED] = RECORD_ROOM;
+    MUST(is_first_of_three(p, &e, 3));
+    e.state[OOF_STATE_UNCLAIMED] = RECORD_ROOM + 1;
+    MUST(results(p, &e, three, OOF_WRONG_REPLY) && results(p, &e, three + p->each, OOF_BAD_EXTENT));
+    e.working[OOF_CANDIDATE_POSITION] = 5;
+    MUST(results(p, &e, three, OOF_WRONG_REPLY));
+    e.state[OOF_STATE_UNCLAIMED] = 0;
+    MUST(results(p, &e, three, OOF_BAD_CANDIDATE));
+
+    e = p->three();
+    e.state[OOF_STATE_BEGUN] = 0, e.state[OOF_STATE_ANSWERED] = 99;
+    e.state[OOF_STATE_LENGTHS + 4] = 99; /* of the tally, which isn't lent */
+    MUST(is_first_of_three(p, &e, 3));
+    e.state[OOF_STATE_WORKING] = 0xFFFFFFFF;
+    MUST(results(p, &e, three, OOF_BAD_EXTENT));
+}
+
+/* any filled working record, and no other */
+static void filled_records(const part *p)
+{
+    const uint32_t high[5] = {257, 0x01000000, 0x7FC00001, 0x80000000, 0xFFFFFFFF};
+    const size_t three = 3 * p->each;
+    for (uint32_t k = 0; k < 3; k++) {
+        ended e = p->three();
+        uint32_t *record = e.working + k * OOF_CANDIDATE_WORDS;
+        for (int code = 0; code < CODES; code++) { /* the layer is the last */
+            record[codes[code].word] = codes[code].most + 1;
+            MUST(results(p, &e, three, OOF_BAD_CANDIDATE));
+            record[codes[code].word] = codes[code].most;
+            MUST(results(p, &e, three, OOF_ACCEPTED));
+        }
+        for (int at = 0; at < 5; at++) {
+            record[OOF_CANDIDATE_LAYER] = high[at];
+            MUST(results(p, &e, three, OOF_BAD_CANDIDATE));
+        }
+        record[OOF_CANDIDATE_LAYER] = 0, record[OOF_CANDIDATE_NODE] = ITEM_ROOM;
+        MUST(results(p, &e, three, OOF_BAD_CANDIDATE));
+        e.state[OOF_STATE_WORKING] = k; /* it isn't filled any more */
+        MUST(is_first_of_three(p, &e, k));
+    }
+}
+
+/* ---- the drawing order */
+
 static int drawn(const ended *e, size_t words, const uint32_t *places)
 {
-    uint32_t order[ORDER_ROOM];
-    return draw(e, words, order) == OOF_ACCEPTED && memcmp(order, places, words * sizeof *order) == 0;
+    return fills(&drawing, e, words, places);
 }
 
 static int gives(const ended *e, size_t words, uint32_t number)
 {
-    uint32_t order[ORDER_ROOM];
-    return draw(e, words, order) == number;
+    return results(&drawing, e, words, number);
 }
 
 /* four boxes of one node with these layers */
 static int on_layers(const uint32_t *layers, const uint32_t *places)
 {
-    ended e = drawing(4, LIST(2, 2, 2, 2), layers);
+    ended e = hoisted(4, LIST(2, 2, 2, 2), layers);
     return drawn(&e, 4, places);
 }
 
@@ -1020,16 +1163,16 @@ static void drawing_orders(void)
 {
     ended e = three_boxes();
     MUST(drawn(&e, 3, LIST(1, 2, 0))); /* places, not nodes; within a layer the hoisted order */
-    e = drawing(4, LIST(3, 0, 5, 1), LIST(9, 9, 9, 9));
+    e = hoisted(4, LIST(3, 0, 5, 1), LIST(9, 9, 9, 9));
     MUST(drawn(&e, 4, LIST(0, 1, 2, 3))); /* nodes have no say */
     MUST(on_layers(LIST(0, 0, 0, 0), LIST(0, 1, 2, 3)) && on_layers(LIST(255, 255, 255, 255), LIST(0, 1, 2, 3)));
     MUST(on_layers(LIST(0, 1, 2, 255), LIST(0, 1, 2, 3)) && on_layers(LIST(255, 254, 1, 0), LIST(3, 2, 1, 0)));
     MUST(on_layers(LIST(4, 128, 4, 128), LIST(0, 2, 1, 3)) && on_layers(LIST(0, 255, 127, 255), LIST(0, 2, 1, 3)));
     MUST(on_layers(LIST(128, 127, 128, 127), LIST(1, 3, 0, 2)) && on_layers(LIST(9, 10, 8, 9), LIST(2, 0, 3, 1)));
 
-    e = drawing(1, LIST(5), LIST(255));
+    e = hoisted(1, LIST(5), LIST(255));
     MUST(drawn(&e, 1, LIST(0)));
-    e = drawing(0, NULL, NULL);
+    e = hoisted(0, NULL, NULL);
     MUST(drawn(&e, 0, LIST(0)) && gives(&e, 1, OOF_BAD_EXTENT));
     memset(&e, 0, sizeof e); /* zeros are a finished run over no words */
     MUST(drawn(&e, 0, LIST(0)) && gives(&e, 1, OOF_BAD_EXTENT));
@@ -1037,94 +1180,6 @@ static void drawing_orders(void)
     e = three_boxes();
     e.working[OOF_CANDIDATE_LAYER] = 0; /* a layer that somebody wrote after the finish counts */
     MUST(drawn(&e, 3, LIST(0, 1, 2)));
-}
-
-/* an order of other words than there are boxes, before all other tests; and the slices, as everywhere */
-static void undrawn_extents(void)
-{
-    ended e;
-    for (size_t words = 0; words < ORDER_ROOM; words++) {
-        e = three_boxes();
-        MUST(words == 3 ? drawn(&e, 3, LIST(1, 2, 0)) : gives(&e, words, OOF_BAD_EXTENT));
-        e.working[OOF_CANDIDATE_LAYER] = 256;
-        MUST(gives(&e, words, words == 3 ? OOF_BAD_CANDIDATE : OOF_BAD_EXTENT));
-        e.state[OOF_STATE_PROGRESS] = 5;
-        MUST(gives(&e, words, words == 3 ? OOF_WRONG_REPLY : OOF_BAD_EXTENT));
-    }
-    e = three_boxes();
-    for (int slice = 0; slice < 4; slice++) {
-        const uint32_t all = e.lengths[slice];
-        e.lengths[slice] = 0; /* another length than at the opening */
-        MUST(gives(&e, 3, OOF_BAD_EXTENT));
-        e.lengths[slice] = all, e.state[OOF_STATE_LENGTHS + slice]++;
-        MUST(gives(&e, 3, OOF_BAD_EXTENT));
-        lend(&e, slice, all - 1); /* not whole records, at the opening too */
-        MUST(gives(&e, 3, OOF_BAD_EXTENT));
-        lend(&e, slice, all);
-        MUST(drawn(&e, 3, LIST(1, 2, 0)));
-    }
-    lend(&e, LAYOUTS, (ITEM_ROOM - 1) * OOF_LAYOUT_WORDS);
-    MUST(gives(&e, 3, OOF_BAD_EXTENT));
-    lend(&e, STYLES, (ITEM_ROOM - 1) * OOF_STYLE_WORDS);
-    MUST(gives(&e, 3, OOF_BAD_CANDIDATE)); /* node 5 of five items */
-    lend(&e, WORKING, 3 * 13);
-    MUST(gives(&e, 3, OOF_BAD_EXTENT)); /* three records as they were before layers */
-}
-
-/* an unfinished run, or counts above the lists; no other count is looked at */
-static void undrawn_states(void)
-{
-    ended e = three_boxes();
-    for (uint32_t progress = 1; progress <= 5; progress++) {
-        e.state[OOF_STATE_PROGRESS] = progress;
-        MUST(gives(&e, 3, OOF_WRONG_REPLY) && gives(&e, 2, OOF_BAD_EXTENT));
-    }
-    e.state[OOF_STATE_PROGRESS] = 6; /* above the list is finished */
-    MUST(drawn(&e, 3, LIST(1, 2, 0)));
-    lend(&e, WORKING, 2 * OOF_CANDIDATE_WORDS); /* two records, of which three are filled */
-    MUST(gives(&e, 3, OOF_WRONG_REPLY) && gives(&e, 2, OOF_BAD_EXTENT));
-    e.state[OOF_STATE_WORKING] = 2;
-    MUST(drawn(&e, 2, LIST(1, 0)) && gives(&e, 3, OOF_BAD_EXTENT));
-
-    e = three_boxes();
-    e.state[OOF_STATE_UNCLAIMED] = RECORD_ROOM;
-    MUST(drawn(&e, 3, LIST(1, 2, 0)));
-    e.state[OOF_STATE_UNCLAIMED] = RECORD_ROOM + 1;
-    MUST(gives(&e, 3, OOF_WRONG_REPLY) && gives(&e, 4, OOF_BAD_EXTENT));
-    e.working[OOF_CANDIDATE_POSITION] = 5;
-    MUST(gives(&e, 3, OOF_WRONG_REPLY));
-    e.state[OOF_STATE_UNCLAIMED] = 0;
-    MUST(gives(&e, 3, OOF_BAD_CANDIDATE));
-
-    e = three_boxes();
-    e.state[OOF_STATE_BEGUN] = 0, e.state[OOF_STATE_ANSWERED] = 99;
-    MUST(drawn(&e, 3, LIST(1, 2, 0)));
-    e.state[OOF_STATE_WORKING] = 0xFFFFFFFF;
-    MUST(gives(&e, 3, OOF_BAD_EXTENT));
-}
-
-/* any filled working record, and no other */
-static void undrawn_records(void)
-{
-    const uint32_t high[5] = {257, 0x01000000, 0x7FC00001, 0x80000000, 0xFFFFFFFF};
-    for (uint32_t k = 0; k < 3; k++) {
-        ended e = three_boxes();
-        uint32_t *record = e.working + k * OOF_CANDIDATE_WORDS;
-        for (int code = 0; code < CODES; code++) { /* the layer is the last */
-            record[codes[code].word] = codes[code].most + 1;
-            MUST(gives(&e, 3, OOF_BAD_CANDIDATE));
-            record[codes[code].word] = codes[code].most;
-            MUST(gives(&e, 3, OOF_ACCEPTED));
-        }
-        for (int at = 0; at < 5; at++) {
-            record[OOF_CANDIDATE_LAYER] = high[at];
-            MUST(gives(&e, 3, OOF_BAD_CANDIDATE));
-        }
-        record[OOF_CANDIDATE_LAYER] = 0, record[OOF_CANDIDATE_NODE] = ITEM_ROOM;
-        MUST(gives(&e, 3, OOF_BAD_CANDIDATE));
-        e.state[OOF_STATE_WORKING] = k; /* it isn't filled any more */
-        MUST(k < 2 ? drawn(&e, k, LIST(0)) : drawn(&e, 2, LIST(1, 0)));
-    }
 }
 
 /* as long as lists may be, and a record longer: 4,096 boxes, layers 255 to 0 in turn. A list of 4,096 records is 57,344 words. */
@@ -1251,7 +1306,7 @@ static uint32_t modelled_order(const ended *e, size_t words, uint32_t *order)
 }
 
 /* one word, or one length, to be refused or not to matter */
-static void damage_drawing(ended *e)
+static void damage_boxes(ended *e)
 {
     int slice = (int)below(4);
     const uint32_t all = e->lengths[slice];
@@ -1274,13 +1329,13 @@ static void random_drawings(void)
         const uint32_t of = below(3) ? 1 + below(3) : 256;
         for (int k = 0; k < RECORD_ROOM; k++)
             nodes[k] = below(ITEM_ROOM), layers[k] = below(2) ? below(of) : 255 - below(of);
-        ended e = drawing(boxes, nodes, layers);
+        ended e = hoisted(boxes, nodes, layers);
         for (uint32_t k = below(4); k > 1; k--) /* none in half of the calls */
-            damage_drawing(&e);
-        size_t words = below(16) ? boxes : below(ORDER_ROOM);
-        uint32_t expected[ORDER_ROOM] = {0}, order[ORDER_ROOM];
+            damage_boxes(&e);
+        size_t words = below(16) ? boxes : below(BOX_ROOM);
+        uint32_t expected[WORD_ROOM] = {0}, order[WORD_ROOM];
         uint32_t result = modelled_order(&e, words, expected), moved = 0;
-        if (draw(&e, words, order) != result || (result == OOF_ACCEPTED && memcmp(expected, order, words * sizeof *order)))
+        if (fill(&drawing, &e, words, order) != result || (result == OOF_ACCEPTED && memcmp(expected, order, words * sizeof *order)))
             wrong++;
         for (uint32_t k = 0; k < words; k++)
             moved += expected[k] != k;
@@ -1289,6 +1344,414 @@ static void random_drawings(void)
     MUST(wrong == 0);
     MUST(told[OOF_BAD_EXTENT] > 1000 && told[OOF_WRONG_REPLY] > 1000 && told[OOF_BAD_CANDIDATE] > 1000);
     MUST(told[LEVEL] > 1000 && told[RAISED] > 1000);
+}
+
+/* ---- what a touch driver reads */
+
+static int touched(const ended *e, size_t boxes, const uint32_t *expected)
+{
+    return fills(&touching, e, boxes * OOF_TOUCH_WORDS, expected);
+}
+
+static int touch_refused(const ended *e, size_t boxes, uint32_t number)
+{
+    return results(&touching, e, boxes * OOF_TOUCH_WORDS, number);
+}
+
+/* node 3 alone, in eighths from the area's left and top edge */
+static ended one_standing(int x, int y, int width, int height)
+{
+    ended e = hoisted(1, LIST(3), LIST(0));
+    e.state[OOF_STATE_AREA + 2] = eighths(AREA_X), e.state[OOF_STATE_AREA + 3] = eighths(AREA_Y);
+    stand(&e, 3, x, y, width, height);
+    return e;
+}
+
+static void touch_words(void)
+{
+    ended e = one_standing(-5, 0, 8, 8);
+    MUST(touched(&e, 1, LIST(3, 0xFFFFFFFF, 0, 0, 1)));
+    e = one_standing(0, -5, 8, 8); /* left, right, top, bottom */
+    MUST(touched(&e, 1, LIST(3, 0, 1, 0xFFFFFFFF, 0)));
+    e = one_standing(-4, 3, 0, -8);
+    MUST(touched(&e, 1, LIST(3, 0, 0, 0, 0xFFFFFFFF)));
+    e = one_standing(3, 4, 3, 7); /* no size is rounded by itself */
+    MUST(touched(&e, 1, LIST(3, 0, 1, 1, 1)));
+
+    e = one_standing(0, 0, 0, 0); /* as large as they can be */
+    uint32_t *layout = e.layouts + 3 * OOF_LAYOUT_WORDS, *area_x = e.state + OOF_STATE_AREA + 2;
+    layout[OOF_LAYOUT_X] = layout[OOF_LAYOUT_WIDTH] = eighths(LARGEST), *area_x = eighths(-LARGEST);
+    MUST(touched(&e, 1, LIST(3, 2500000, 3750000, 0, 0)));
+    layout[OOF_LAYOUT_X] = layout[OOF_LAYOUT_WIDTH] = eighths(-LARGEST), *area_x = eighths(LARGEST);
+    MUST(touched(&e, 1, LIST(3, 0xFFD9DA60, 0xFFC6C790, 0, 0)));
+
+    MUST(oof_signed(0) == 0 && oof_signed(1) == 1 && oof_signed(0x7FFFFFFF) == INT32_MAX);
+    MUST(oof_signed(0xFFFFFFFF) == -1 && oof_signed(0xFFC6C790) == -3750000 && oof_signed(0x80000000) == INT32_MIN);
+}
+
+/* in hoisted order, each by the layout at its node's place; a node that was claimed twice has its one layout at both its places */
+static void touch_boxes(void)
+{
+    ended e = hoisted(4, LIST(4, 0, 5, 0), LIST(9, 3, 0, 1));
+    e.state[OOF_STATE_AREA + 2] = eighths(AREA_X), e.state[OOF_STATE_AREA + 3] = eighths(AREA_Y);
+    stand(&e, 0, 8, 24, 32, 80), stand(&e, 4, 0, -64, 8, 8), stand(&e, 5, -40, 160, 16, 24);
+    MUST(touched(&e, 4, LIST(4, 0, 1, 0xFFFFFFF8, 0xFFFFFFF9, 0, 1, 5, 3, 13, 5, 0xFFFFFFFB, 0xFFFFFFFD, 20, 23, 0, 1, 5, 3, 13)));
+    stand(&e, 0, 16, 24, 32, 80); /* a layout that somebody wrote after the finish counts */
+    MUST(touched(&e, 4, LIST(4, 0, 1, 0xFFFFFFF8, 0xFFFFFFF9, 0, 2, 6, 3, 13, 5, 0xFFFFFFFB, 0xFFFFFFFD, 20, 23, 0, 2, 6, 3, 13)));
+
+    e = hoisted(0, NULL, NULL); /* without boxes: the offset, a NaN here, isn't looked at */
+    MUST(touched(&e, 0, LIST(0)) && touch_refused(&e, 1, OOF_BAD_EXTENT) && results(&touching, &e, 1, OOF_BAD_EXTENT));
+    memset(&e, 0, sizeof e); /* zeros are a finished run over no words */
+    MUST(touched(&e, 0, LIST(0)) && touch_refused(&e, 1, OOF_BAD_EXTENT));
+
+    e = three_standing();
+    e.state[OOF_STATE_WORKING] = 858993460; /* five times as many are 4, modulo 2^32 */
+    MUST(results(&touching, &e, 4, OOF_BAD_EXTENT));
+}
+
+/* the numbers that are read: of each box four, of the area two; and one box refuses all */
+static void touch_eighths(void)
+{
+    const uint32_t bad[8] = {oof_word(0.0625f), oof_word(-0.1f), oof_word(1250000), oof_word(-1250000), 1, 0x7F800000,
+                             0xFF800000, 0xFFC00000};
+    const uint32_t good[4] = {eighths(LARGEST), eighths(-LARGEST), eighths(1), 0x80000000};
+    for (int number = 0; number < 2 + 2 * 4; number++) {
+        const int of_box[4] = {OOF_LAYOUT_X, OOF_LAYOUT_Y, OOF_LAYOUT_WIDTH, OOF_LAYOUT_HEIGHT};
+        ended e = three_standing();
+        uint32_t *word = number < 2 ? &e.state[OOF_STATE_AREA + 2 + number]
+                                    : &e.layouts[(number % 2 ? 2 : 5) * OOF_LAYOUT_WORDS + of_box[number / 2 - 1]];
+        for (int k = 0; k < 8; k++) {
+            *word = bad[k];
+            MUST(touch_refused(&e, 3, OOF_NOT_IN_EIGHTHS));
+        }
+        for (int k = 0; k < 4; k++) {
+            *word = good[k];
+            MUST(touch_refused(&e, 3, OOF_ACCEPTED));
+        }
+    }
+    ended e = one_standing(0, 0, 8, 0), zeros = e;
+    e.state[OOF_STATE_AREA + 2] = e.layouts[3 * OOF_LAYOUT_WORDS + OOF_LAYOUT_X] = 0x80000000; /* -0 is 0 */
+    e.layouts[3 * OOF_LAYOUT_WORDS + OOF_LAYOUT_HEIGHT] = 0x80000000;
+    MUST(touched(&e, 1, LIST(3, 0, 1, 0, 0)) && touched(&zeros, 1, LIST(3, 0, 1, 0, 0)));
+}
+
+/* 2 before 6 before 4 before 9 */
+static void touch_tested_in_order(void)
+{
+    ended e = three_standing();
+    e.layouts[2 * OOF_LAYOUT_WORDS + OOF_LAYOUT_WIDTH] = e.state[OOF_STATE_AREA + 2] = 0x7FC00000;
+    MUST(touch_refused(&e, 3, OOF_NOT_IN_EIGHTHS));
+    e.working[2 * OOF_CANDIDATE_WORDS + OOF_CANDIDATE_POSITION] = 5;
+    MUST(touch_refused(&e, 3, OOF_BAD_CANDIDATE));
+    e.state[OOF_STATE_PROGRESS] = 4;
+    MUST(touch_refused(&e, 3, OOF_WRONG_REPLY));
+    e.state[OOF_STATE_PROGRESS] = 0, e.state[OOF_STATE_UNCLAIMED] = RECORD_ROOM + 1;
+    MUST(touch_refused(&e, 3, OOF_WRONG_REPLY));
+    MUST(touch_refused(&e, 2, OOF_BAD_EXTENT) && touch_refused(&e, 4, OOF_BAD_EXTENT));
+    e.lengths[UNCLAIMED] = 0;
+    MUST(touch_refused(&e, 3, OOF_BAD_EXTENT));
+}
+
+/* as long as slices may be, and a record longer; the last box of 4,096, the only one of its node, refuses all */
+static void longest_touch(void)
+{
+    enum { MOST = OOF_MOST_RECORDS, LIST_ROOM = (MOST + 1) * OOF_CANDIDATE_WORDS, WORDS = MOST * OOF_TOUCH_WORDS };
+    enum { LAST = OOF_MOST_ITEMS - 1 };
+    static uint32_t styles[OOF_MOST_ITEMS * OOF_STYLE_WORDS], layouts[OOF_MOST_ITEMS * OOF_LAYOUT_WORDS], lists[2][LIST_ROOM];
+    static uint32_t words[WORDS + 2], noise[WORDS + 2], expected[WORDS + 2];
+    ended e = three_standing();
+    memset(words, 0x5A, sizeof words), memset(noise, 0x5A, sizeof noise), memset(expected, 0x5A, sizeof expected);
+    for (uint32_t node = 0; node < OOF_MOST_ITEMS; node++) {
+        memcpy(layouts + node * OOF_LAYOUT_WORDS, e.layouts + 5 * OOF_LAYOUT_WORDS, OOF_LAYOUT_WORDS * sizeof *layouts);
+        layouts[node * OOF_LAYOUT_WORDS + OOF_LAYOUT_X] = eighths(AREA_X + 8 * (int)node);
+    }
+    for (uint32_t k = 0; k < MOST; k++) {
+        const uint32_t node = k == MOST - 1 ? LAST : (5 * k + 3) % LAST, five[OOF_TOUCH_WORDS] = {node, node, node + 1, 0, 1};
+        lists[0][k * OOF_CANDIDATE_WORDS + OOF_CANDIDATE_NODE] = node;
+        memcpy(expected + 1 + k * OOF_TOUCH_WORDS, five, sizeof five);
+    }
+    lend(&e, STYLES, OOF_MOST_ITEMS * OOF_STYLE_WORDS), lend(&e, LAYOUTS, OOF_MOST_ITEMS * OOF_LAYOUT_WORDS);
+    e.state[OOF_STATE_WORKING] = MOST;
+    uint32_t *last = layouts + LAST * OOF_LAYOUT_WORDS + OOF_LAYOUT_HEIGHT;
+    const uint32_t height = *last;
+    for (int bad = 3; bad >= 0; bad--) { /* the last box, the unclaimed list, the working list, nothing */
+        *last = bad == 3 ? oof_word(0.0625f) : height;
+        lend(&e, WORKING, (MOST + (bad == 1)) * OOF_CANDIDATE_WORDS);
+        lend(&e, UNCLAIMED, (MOST + (bad == 2)) * OOF_CANDIDATE_WORDS);
+        uint32_t result = oof_touch(styles, e.lengths[STYLES], layouts, e.lengths[LAYOUTS], lists[0], e.lengths[WORKING], lists[1],
+                                    e.lengths[UNCLAIMED], e.state, words + 1, WORDS);
+        MUST(result == (bad == 3 ? OOF_NOT_IN_EIGHTHS : bad ? OOF_BAD_EXTENT : OOF_ACCEPTED));
+        MUST(memcmp(words, bad ? noise : expected, sizeof words) == 0);
+    }
+}
+
+/* ---- what a driver reads of runs */
+
+/* the label and the note, in a panel that stands at 100, 40 */
+static void touch_incident(void)
+{
+    uint32_t answer[OOF_ANSWER_WORDS], candidates[2 * OOF_CANDIDATE_WORDS];
+    for (uint32_t direction = OOF_DIRECTION_LTR; direction <= OOF_DIRECTION_RTL; direction++) {
+        const uint32_t ltr[] = {1, 0xFFFFFEB8, 0xFFFFFFF8, 200, 296, 0, 24, 184, 16, 40}; /* -328 and -8 */
+        const uint32_t rtl[] = {1, 808, 1128, 200, 296, 0, 616, 776, 16, 40};
+        ended e = incident(direction);
+        put_candidate(candidates, 0, 1, 1), put_candidate(candidates, 1, 0, 0);
+        MUST(run_opened(&e, direction, OOF_CLAIMS_ABSOLUTE, OOF_OVERFLOW_SCROLL, candidates, answer) == OOF_ACCEPTED);
+        MUST(touch_refused(&e, 2, OOF_WRONG_REPLY) && touch_refused(&e, 1, OOF_BAD_EXTENT)); /* unfinished */
+        MUST(run_finished(&e, answer));
+        MUST(touched(&e, 2, direction == OOF_DIRECTION_LTR ? ltr : rtl));
+        e.styles[OOF_STYLE_PADDING_LEFT] = 2; /* no tag: a finished run's styles aren't read */
+        MUST(touched(&e, 2, direction == OOF_DIRECTION_LTR ? ltr : rtl));
+    }
+}
+
+/* a node that is claimed twice, a box on a sixteenth, and openings that leave no box */
+static void odd_touches(void)
+{
+    uint32_t answer[OOF_ANSWER_WORDS], candidates[2 * OOF_CANDIDATE_WORDS];
+    int32_t edges[OOF_PIXEL_EDGES];
+    ended e = incident(OOF_DIRECTION_LTR);
+    box_style(&e, 0, 160, 24); /* without insets */
+    for (int k = 0; k < 2; k++) {
+        uint32_t *candidate = put_candidate(candidates, k, 0, 0);
+        candidate[OOF_CANDIDATE_X_START] = candidate[OOF_CANDIDATE_X_END] = oof_word(k ? 1000 : 100);
+        candidate[OOF_CANDIDATE_Y_START] = candidate[OOF_CANDIDATE_Y_END] = oof_word(40);
+    }
+    MUST(run_opened(&e, OOF_DIRECTION_LTR, OOF_CLAIMS_ABSOLUTE, OOF_OVERFLOW_SCROLL, candidates, answer) == OOF_ACCEPTED);
+    MUST(run_finished(&e, answer) && touched(&e, 2, LIST(0, 900, 1060, 0, 24, 0, 900, 1060, 0, 24)));
+
+    uint32_t *centered = box_style(&e, 1, 100.125f, 24); /* 699.875 are shared by its margins */
+    for (size_t at = OOF_STYLE_INSET_LEFT; at <= OOF_STYLE_INSET_RIGHT; at += OOF_LENGTH_WORDS) {
+        oof_set_length(centered, at, OOF_TAG_PX, 0);
+        oof_set_length(centered, at + OOF_STYLE_MARGIN_LEFT, OOF_TAG_AUTO, 0);
+    }
+    candidates[OOF_CANDIDATE_WORDS + OOF_CANDIDATE_NODE] = 1;
+    MUST(run_opened(&e, OOF_DIRECTION_LTR, OOF_CLAIMS_ABSOLUTE, OOF_OVERFLOW_SCROLL, candidates, answer) == OOF_ACCEPTED);
+    MUST(run_finished(&e, answer) && touch_refused(&e, 2, OOF_NOT_IN_EIGHTHS));
+    MUST(oof_float(e.layouts[OOF_LAYOUT_WORDS + OOF_LAYOUT_X]) == 100 + 349.9375f);
+    MUST(oof_pixels(e.layouts, 100, 40, edges) == OOF_ACCEPTED); /* the other box has edges */
+    oof_set_length(centered, OOF_STYLE_WIDTH, OOF_TAG_PX, 100.25f);
+    MUST(run_opened(&e, OOF_DIRECTION_LTR, OOF_CLAIMS_ABSOLUTE, OOF_OVERFLOW_SCROLL, candidates, answer) == OOF_ACCEPTED);
+    MUST(run_finished(&e, answer) && touched(&e, 2, LIST(0, 0, 160, 0, 24, 1, 350, 450, 0, 24)));
+
+    MUST(run_opened(&e, OOF_DIRECTION_LTR, 0, OOF_OVERFLOW_SCROLL, candidates, answer) == OOF_ACCEPTED);
+    MUST(answer[OOF_ANSWER_KIND] == OOF_FINISH && e.state[OOF_STATE_UNCLAIMED] == 2);
+    MUST(touched(&e, 0, LIST(0)) && touch_refused(&e, 1, OOF_BAD_EXTENT));
+    MUST(run_opened(&e, 2, OOF_CLAIMS_ABSOLUTE, OOF_OVERFLOW_SCROLL, candidates, answer) == OOF_BAD_AREA);
+    MUST(touched(&e, 0, LIST(0)) && touch_refused(&e, 1, OOF_BAD_EXTENT));
+}
+
+/* whether a node's two layouts differ in some of so many words, from this one on */
+static int differ(const ended *runs, int node, size_t from, size_t count)
+{
+    const size_t at = (size_t)node * OOF_LAYOUT_WORDS + from;
+    return memcmp(runs[0].layouts + at, runs[1].layouts + at, count * sizeof *runs[0].layouts) != 0;
+}
+
+/* two runs whose boxes differ in padding, border, margins, scrollbars, child overflow and order; what a margin adds, an inset
+ * takes off */
+static void only_location_and_size_are_seen(void)
+{
+    const uint32_t none[1] = {0};
+    uint32_t answer[OOF_ANSWER_WORDS], candidates[2 * OOF_CANDIDATE_WORDS], words[2][WORD_ROOM];
+    ended runs[2];
+    for (uint32_t k = 0; k < 2; k++) {
+        runs[k] = incident(OOF_DIRECTION_LTR);
+        for (int node = 0; node < ITEMS; node++) {
+            const float margin = 2 * (float)k;
+            uint32_t *style = box_style(&runs[k], node, 160 + 80 * (float)node, 48);
+            oof_set_length(style, OOF_STYLE_INSET_LEFT, OOF_TAG_PX, 24 + 100.5f * (float)node - margin);
+            oof_set_length(style, OOF_STYLE_INSET_TOP, OOF_TAG_PX, 16 + margin);
+            oof_set_length(style, OOF_STYLE_MARGIN_LEFT, OOF_TAG_PX, margin);
+            oof_set_length(style, OOF_STYLE_MARGIN_TOP, OOF_TAG_PX, -margin);
+            oof_set_length(style, OOF_STYLE_PADDING_RIGHT, OOF_TAG_PX, 8 * (float)k);
+            oof_set_length(style, OOF_STYLE_BORDER_BOTTOM, OOF_TAG_PX, (float)k);
+            style[OOF_STYLE_OVERFLOW_X] = style[OOF_STYLE_OVERFLOW_Y] = k ? OOF_OVERFLOW_SCROLL : OOF_OVERFLOW_VISIBLE;
+            style[OOF_STYLE_SCROLLBAR_WIDTH] = oof_word(15);
+            put_candidate(candidates, node, 1 - (uint32_t)node, 0)[OOF_CANDIDATE_ORDER] = 7 * k;
+        }
+        ended *e = &runs[k];
+        MUST(run_opened(e, OOF_DIRECTION_LTR, OOF_CLAIMS_ABSOLUTE, OOF_OVERFLOW_SCROLL, candidates, answer) == OOF_ACCEPTED);
+        for (int node = 0; node < ITEMS; node++)
+            MUST(oof_reply_laid_out(0, 300 * (float)k, 0, 200, none, 0, RUNNING(e), answer) == OOF_ACCEPTED);
+        MUST(answer[OOF_ANSWER_KIND] == OOF_FINISH && fill(&touching, e, 2 * OOF_TOUCH_WORDS, words[k]) == OOF_ACCEPTED);
+    }
+    for (int node = 0; node < ITEMS; node++) {
+        MUST(differ(runs, node, OOF_LAYOUT_ORDER, 1) && differ(runs, node, OOF_LAYOUT_OVERFLOW, 4));
+        MUST(differ(runs, node, OOF_LAYOUT_SCROLLBAR_WIDTH, 2) && differ(runs, node, OOF_LAYOUT_PADDING, 4));
+        MUST(differ(runs, node, OOF_LAYOUT_BORDER, 4) && differ(runs, node, OOF_LAYOUT_MARGIN, 4));
+    }
+    MUST(memcmp(words[0], words[1], sizeof words[0]) == 0);
+    MUST(touched(&runs[1], 2, LIST(1, 125, 365, 16, 64, 0, 24, 184, 16, 64))); /* 124.5 to 364.5 */
+}
+
+/* ---- random words, beside the nearest pixel edges */
+
+/* the pixel edge nearest to so many eighths, by distance; of two that are as near, the right one */
+static int nearest(int n)
+{
+    int best = n / 8 - 1;
+    for (int edge = n / 8; edge <= n / 8 + 1; edge++)
+        if (abs(8 * edge - n) <= abs(8 * best - n))
+            best = edge;
+    return best;
+}
+
+static uint32_t modelled_touch(const ended *e, size_t words, uint32_t *into)
+{
+    const uint32_t boxes = e->state[OOF_STATE_WORKING];
+    uint32_t refusal = modelled_tests(e, words != (uint64_t)boxes * 5);
+    for (uint32_t k = 0; refusal == OOF_ACCEPTED && k < boxes; k++) {
+        const uint32_t node = e->working[k * OOF_CANDIDATE_WORDS], *layout = e->layouts + node * OOF_LAYOUT_WORDS;
+        int x, y, at[4];
+        if (!in_eighths(e->state[OOF_STATE_AREA + 2], &x) || !in_eighths(e->state[OOF_STATE_AREA + 3], &y) ||
+            !in_eighths(layout[OOF_LAYOUT_X], &at[0]) || !in_eighths(layout[OOF_LAYOUT_WIDTH], &at[1]) ||
+            !in_eighths(layout[OOF_LAYOUT_Y], &at[2]) || !in_eighths(layout[OOF_LAYOUT_HEIGHT], &at[3]))
+            refusal = OOF_NOT_IN_EIGHTHS;
+        else {
+            const int64_t edges[4] = {nearest(at[0] - x), nearest(at[0] - x + at[1]), nearest(at[2] - y),
+                                      nearest(at[2] - y + at[3])};
+            into[5 * k] = node;
+            for (int edge = 0; edge < 4; edge++)
+                into[5 * k + 1 + (uint32_t)edge] = (uint32_t)(edges[edge] < 0 ? 4294967296 + edges[edge] : edges[edge]);
+        }
+    }
+    return refusal;
+}
+
+/* small ones more often than others, as large as they may be, and a little larger */
+static int some_eighths(void)
+{
+    if (below(8))
+        return between(-40, 40);
+    const int most = LARGEST + (int)below(2);
+    return below(2) ? between(-most, most) : below(2) ? most : -most;
+}
+
+static ended any_standing(void)
+{
+    uint32_t nodes[RECORD_ROOM], layers[RECORD_ROOM];
+    for (int k = 0; k < RECORD_ROOM; k++)
+        nodes[k] = below(ITEM_ROOM), layers[k] = below(256);
+    ended e = hoisted(below(RECORD_ROOM + 1), nodes, layers);
+    e.state[OOF_STATE_AREA + 2] = eighths(some_eighths()), e.state[OOF_STATE_AREA + 3] = eighths(some_eighths());
+    for (uint32_t node = 0; node < ITEM_ROOM; node++) {
+        uint32_t *layout = e.layouts + node * OOF_LAYOUT_WORDS;
+        layout[OOF_LAYOUT_X] = eighths(some_eighths()), layout[OOF_LAYOUT_WIDTH] = eighths(some_eighths());
+        layout[OOF_LAYOUT_Y] = eighths(some_eighths()), layout[OOF_LAYOUT_HEIGHT] = eighths(some_eighths());
+    }
+    if (!below(8))
+        e.layouts[below(ITEM_ROOM * OOF_LAYOUT_WORDS)] = oof_word(0.0625f * (float)between(-3, 3));
+    if (!below(8))
+        e.state[OOF_STATE_AREA + below(4)] = oof_word(0.0625f * (float)between(-3, 3));
+    return e;
+}
+
+/* draws words anew: half of them small, as codes and counts are, the others any upper halves of floats */
+static void redraw(uint32_t *words, size_t count)
+{
+    for (size_t k = 0; k < count; k++) {
+        const uint32_t drawn = below(2 * 65536);
+        words[k] = drawn < 65536 ? drawn % 9 : drawn << 16;
+    }
+}
+
+/* what is tested and not told: any that passes, for one that does */
+static uint32_t as_good(uint32_t word, uint32_t most)
+{
+    return word <= most ? below(most + 1) : word;
+}
+
+/* a number that is told; a zero has either sign */
+static uint32_t as_told(uint32_t word)
+{
+    return word << 1 == 0 ? below(2) << 31 : word;
+}
+
+/* puts back what a driver sees of a box: its node and its layout's x, y, width and height. Codes stay good or bad. */
+static void keep_box(ended *other, const ended *e, uint32_t place)
+{
+    const uint32_t *record = e->working + place * OOF_CANDIDATE_WORDS, node = record[OOF_CANDIDATE_NODE];
+    uint32_t *redrawn = other->working + place * OOF_CANDIDATE_WORDS;
+    redrawn[OOF_CANDIDATE_NODE] = node;
+    for (int code = 0; code < CODES; code++)
+        redrawn[codes[code].word] = as_good(record[codes[code].word], codes[code].most);
+    for (int k = 0; k < 4 && node < ITEM_ROOM; k++) {
+        const uint32_t told[4] = {OOF_LAYOUT_X, OOF_LAYOUT_Y, OOF_LAYOUT_WIDTH, OOF_LAYOUT_HEIGHT};
+        const size_t at = node * OOF_LAYOUT_WORDS + told[k];
+        other->layouts[at] = as_told(e->layouts[at]);
+    }
+}
+
+/* another state with as many boxes and the same lengths, at the same offset if there is a box; finished or not, as it was */
+static void keep_state(ended *other, const ended *e)
+{
+    const uint32_t *s = e->state, progress = s[OOF_STATE_PROGRESS];
+    uint32_t *redrawn = other->state;
+    redraw(redrawn, OOF_STATE_WORDS);
+    if (progress >= 1 && progress <= 5)
+        redrawn[OOF_STATE_PROGRESS] = progress;
+    else if (redrawn[OOF_STATE_PROGRESS] <= 5)
+        redrawn[OOF_STATE_PROGRESS] = 0;
+    redrawn[OOF_STATE_WORKING] = s[OOF_STATE_WORKING];
+    redrawn[OOF_STATE_UNCLAIMED] = as_good(s[OOF_STATE_UNCLAIMED], e->lengths[UNCLAIMED] / OOF_CANDIDATE_WORDS);
+    for (int k = OOF_STATE_AREA + 2; k < OOF_STATE_AREA + 4 && s[OOF_STATE_WORKING] > 0; k++)
+        redrawn[k] = as_told(s[k]);
+    redrawn[OOF_STATE_DIRECTION] = below(2);
+    memcpy(redrawn + OOF_STATE_LENGTHS, s + OOF_STATE_LENGTHS, 4 * sizeof *s); /* not that of the tally */
+}
+
+/* the same run to a driver: every word that it doesn't see is drawn anew, and so are the signs of zeros that it does */
+static ended seen_alike(const ended *e)
+{
+    ended other = *e;
+    redraw(other.styles, ITEM_ROOM * OOF_STYLE_WORDS), redraw(other.layouts, ITEM_ROOM * OOF_LAYOUT_WORDS);
+    redraw(other.working, RECORD_ROOM * OOF_CANDIDATE_WORDS), redraw(other.unclaimed, RECORD_ROOM * OOF_CANDIDATE_WORDS);
+    for (uint32_t place = 0; place < RECORD_ROOM && place < e->state[OOF_STATE_WORKING]; place++)
+        keep_box(&other, e, place);
+    keep_state(&other, e);
+    return other;
+}
+
+/* whether oof_pixels says the same of each box */
+static int as_pixels(const ended *e, const uint32_t *words)
+{
+    const float x = oof_float(e->state[OOF_STATE_AREA + 2]), y = oof_float(e->state[OOF_STATE_AREA + 3]);
+    int wrong = 0;
+    for (uint32_t k = 0; k < e->state[OOF_STATE_WORKING]; k++) {
+        const uint32_t *five = words + k * OOF_TOUCH_WORDS;
+        int32_t edges[OOF_PIXEL_EDGES];
+        wrong |= oof_pixels(e->layouts + five[OOF_TOUCH_NODE] * OOF_LAYOUT_WORDS, x, y, edges) != OOF_ACCEPTED;
+        for (int edge = 0; edge < OOF_PIXEL_EDGES; edge++)
+            wrong |= oof_signed(five[OOF_TOUCH_LEFT + edge]) != edges[edge];
+    }
+    return !wrong;
+}
+
+static void random_touches(void)
+{
+    enum { CALLS = 200000, EMPTY = 10, BELOW = 11, ABOVE = 12, KINDS = 13 };
+    int wrong = 0, told[KINDS] = {0};
+    for (int call = 0; call < CALLS; call++) {
+        ended e = any_standing();
+        for (uint32_t k = below(4); k > 1; k--) /* none in half of the calls */
+            damage_boxes(&e);
+        size_t words = below(16) ? (e.state[OOF_STATE_WORKING] % (BOX_ROOM + 1)) * OOF_TOUCH_WORDS : below(WORD_ROOM);
+        uint32_t expected[WORD_ROOM], into[WORD_ROOM], again[WORD_ROOM], negative = 0;
+        uint32_t result = modelled_touch(&e, words, expected);
+        const ended other = seen_alike(&e);
+        wrong += fill(&touching, &e, words, into) != result || fill(&touching, &other, words, again) != result;
+        if (result == OOF_ACCEPTED) {
+            wrong += memcmp(into, expected, words * sizeof *into) != 0 || !as_pixels(&e, into);
+            wrong += memcmp(again, expected, words * sizeof *again) != 0;
+            for (size_t k = 0; k < words; k++)
+                negative |= into[k] >> 31;
+        }
+        told[result != OOF_ACCEPTED ? (int)result : words == 0 ? EMPTY : negative ? BELOW : ABOVE]++;
+    }
+    MUST(wrong == 0);
+    MUST(told[OOF_BAD_EXTENT] > 1000 && told[OOF_WRONG_REPLY] > 1000 && told[OOF_BAD_CANDIDATE] > 1000);
+    MUST(told[OOF_NOT_IN_EIGHTHS] > 1000 && told[EMPTY] > 1000 && told[BELOW] > 1000 && told[ABOVE] > 1000);
 }
 
 /* ---- the first word that breaks a rule */
@@ -2087,17 +2550,49 @@ static void of_tallies(void)
     random_tallies();
 }
 
+static void of_reach(void)
+{
+    one_axis();
+    both_axes();
+    largest();
+    bad_extents();
+    longest();
+    wrong_states();
+    bad_records();
+    not_accepted();
+    tested_in_order();
+    boxes_of_runs();
+    odd_runs();
+    random_words();
+}
+
 static void of_drawings(void)
 {
     drawing_orders();
-    undrawn_extents();
-    undrawn_states();
-    undrawn_records();
+    filled_extents(&drawing);
+    filled_states(&drawing);
+    filled_records(&drawing);
     longest_drawing();
     note_over_label();
     odd_drawings();
     placement_reads_no_layer();
     random_drawings();
+}
+
+static void of_touches(void)
+{
+    touch_words();
+    touch_boxes();
+    filled_extents(&touching);
+    filled_states(&touching);
+    filled_records(&touching);
+    touch_eighths();
+    touch_tested_in_order();
+    longest_touch();
+    touch_incident();
+    odd_touches();
+    only_location_and_size_are_seen();
+    random_touches();
 }
 
 int main(void)
@@ -2113,19 +2608,9 @@ int main(void)
     whole_pixels();
     centered();
     not_quarters();
-    one_axis();
-    both_axes();
-    largest();
-    bad_extents();
-    longest();
-    wrong_states();
-    bad_records();
-    not_accepted();
-    tested_in_order();
-    boxes_of_runs();
-    odd_runs();
-    random_words();
+    of_reach();
     of_drawings();
+    of_touches();
     first_bad_words();
     long_tables();
     every_word();

@@ -12,10 +12,13 @@ layers of the candidates and surfaced records that went there, in turn. The tall
 where nothing of it was forged. What a damaged call must answer is worked out here from document
 01's table of refusals. A damaged call changes nothing, so that the run goes on after it as if it had not been made. Now and then the count
 of answered questions is forged within its bound, or a word of the tally within that count: that call is accepted, and the finish has the
-forged count.
+forged count. What a touch driver reads at the end of each run is worked out here from its layouts, in fractions.
 """
+import math
 import pathlib
+import struct
 import sys
+from fractions import Fraction
 
 sys.dont_write_bytecode = True
 import answers
@@ -88,9 +91,13 @@ def full(records, claims, filled, places):
     return filled[0] + more > places[0] or filled[1] + rest > places[1]
 
 
-def extents_bad(run):
+def slices_bad(run):
     n = run["s"] // STYLE
-    return (run["s"] % STYLE != 0 or n > 1024 or run["l"] != LAYOUT * n or run["t"] != n or any(run[k] % CANDIDATE or run[k] > CANDIDATE * 4096 for k in "wu"))
+    return run["s"] % STYLE != 0 or n > 1024 or run["l"] != LAYOUT * n or any(run[k] % CANDIDATE or run[k] > CANDIDATE * 4096 for k in "wu")
+
+
+def extents_bad(run):
+    return slices_bad(run) or run["t"] != run["s"] // STYLE
 
 
 def opening_refusal(area, styles, candidates, run):
@@ -127,6 +134,37 @@ def reply_refusal(state, kind, surfaced, styles, working, tally, run):
     if full(surfaced, state["claims"], filled, (run["w"] // CANDIDATE, run["u"] // CANDIDATE)):
         return 5
     return 0
+
+
+# ---- what a touch driver reads
+
+
+def in_pixels(word):
+    """A float by its bits, exactly; None where it isn't a whole eighth of at most 9,999,999 in size."""
+    value, = struct.unpack(">f", word.to_bytes(4, "big"))
+    eighths = 8 * Fraction(value) if math.isfinite(value) else None
+    return eighths / 8 if eighths is not None and eighths.denominator == 1 and abs(eighths) <= 9999999 else None
+
+
+def nearest(edge):
+    """The pixel edge nearest to that, of two the greater, in two's complement."""
+    below = math.floor(edge)
+    return (below + (edge - below >= Fraction(1, 2))) % 2**32
+
+
+def touched(area, run, layouts, nodes):
+    """Of the nodes that a finished run hoisted: the number of the refusal, or five words of each."""
+    if slices_bad(run):
+        return 2, []
+    told = []
+    for node in nodes:
+        at = LAYOUT * node
+        numbers = [in_pixels(word) for word in (*area[2:4], layouts[at + 9], layouts[at + 10], layouts[at + 1], layouts[at + 2])]
+        if None in numbers:
+            return 9, []
+        left, top, x, y, width, height = numbers
+        told += [node, *map(nearest, (x - left, x - left + width, y - top, y - top + height))]
+    return 0, told
 
 
 # ---- states: the counts are filled working and unclaimed records, boxes begun, questions answered
@@ -185,10 +223,12 @@ class Script:
 
     def __init__(self):
         self.runs, self.input, self.output = 0, [], []
+        # by the result of what a touch driver reads: how many boxes
+        self.touched = {}
 
     def open(self, area, styles, candidates, run):
         self.runs += 1
-        self.calls = []
+        self.calls, self.area, self.run = [], area, run
         self.head = [run["s"], len(candidates), run["l"], run["w"], run["u"], run["t"], *area, *styles, *candidates]
 
     def reply(self, kind, values, surfaced, forgery=(0, 0), style=(NOWHERE, 0), listed=(NOWHERE, 0), tallied=(NOWHERE, 0)):
@@ -199,12 +239,15 @@ class Script:
         self.output.append(line)
         self.output.append(" ".join(["counts", *map(str, counts)]))
 
-    def close(self, layouts, working, unclaimed, tally):
+    def close(self, layouts, working, unclaimed, tally, boxes):
         self.input.append(" ".join(f"{w:x}" for w in self.head))
         self.input.append(f"{len(self.calls):x}")
         self.input.extend(" ".join(f"{w:x}" for w in call) for call in self.calls)
         for name, list_ in (("layouts", layouts), ("working", working), ("unclaimed", unclaimed), ("tally", tally)):
             self.output.append(" ".join([name, *map(shown, list_)]))
+        result, told = touched(self.area, self.run, layouts, working[:CANDIDATE * boxes:CANDIDATE])
+        self.output.append(" ".join(["touch", *(map(shown, told) if result == 0 else ("refused", str(result)))]))
+        self.touched.setdefault(result, []).append(boxes)
 
 
 def layered(area, candidates, answer):
@@ -317,7 +360,7 @@ def replay(script, draw, of_tally, case, answer):
         if f[0] == "layout":
             at = LAYOUT * int(f[1])
             layouts[at:at + LAYOUT] = words(f[2:])
-    script.close(layouts, *(final[k] + [0] * (run[s] - len(final[k])) for k, s in (("working", "w"), ("unclaimed", "u"))), tally)
+    script.close(layouts, *(final[k] + [0] * (run[s] - len(final[k])) for k, s in (("working", "w"), ("unclaimed", "u"))), tally, counts[0])
 
 
 def refuse_opening(script, draw, of_tally, case):
@@ -360,7 +403,7 @@ def refuse_opening(script, draw, of_tally, case):
     script.reply(kind, [0] * 4, candidates, forge)
     tally = [NOISE] * run["t"]
     script.say(f"refused {reply_refusal(lent, kind, candidates, styles, [], tally, run)}", lent["counts"])
-    script.close([0] * run["l"], [0] * run["w"], [0] * run["u"], tally)
+    script.close([0] * run["l"], [0] * run["w"], [0] * run["u"], tally, 0)
 
 
 def main():
@@ -380,6 +423,8 @@ def main():
             compared += "second" not in set().union(*boxes)
     tally.hold("replays", answers.ALL_COMPARED | {answers.UNLIKE})
     print(f"{compared} of {3 * runs} runs by the Rust")
+    for result, boxes in sorted(script.touched.items()):
+        print(f"touch driver, {f'refused {result}' if result else 'words'}: {len(boxes)} openings, {sum(boxes)} boxes")
     (HERE / "replay.stdin").write_text("\n".join([f"{script.runs:x}", *script.input]) + "\n")
     (HERE / "replay.stdout").write_text("\n".join(script.output) + "\n")
 

@@ -1,7 +1,8 @@
 //! The panel of the incident and its Arabic mirror image, in whole pixels: a label, and the note that said why a restore was refused.
 //! The note was to end 8 pixels before what it speaks of, and that stands in the panel's first column. The panel scrolls, and stands at
 //! 100, 40 of its window; the edges are counted from the panel's corner. Under each box: whether scrolling can bring it into view. The
-//! note is hoisted first, and drawn over the label, since its layer is higher.
+//! note is hoisted first, and drawn over the label, since its layer is higher. Then which box a touch of some pixels hits; the touch
+//! driver reads no layout.
 use oof::*;
 
 /// By item
@@ -40,7 +41,19 @@ fn styles(direction: Direction) -> [Style; 2] {
     [label, note]
 }
 
-/// A panel's lines: of each box its pixel edges and the verdict; the hoisted order; the drawing order
+/// Pixels of the English panel, from its corner
+const TOUCHES: [Point<i32>; 3] = [Point { x: 24, y: 16 }, Point { x: 183, y: 39 }, Point { x: 184, y: 40 }];
+
+/// What a touch of a pixel, or of its mirror image, hits: of the boxes that cover it the one that is drawn last
+fn touched(placed: &Placed, direction: Direction, Point { x, y }: Point<i32>) -> String {
+    let pixel = Point { x: sides(direction, x, 799 - x).0, y };
+    let boxes = placed.touch().expect("all boxes are in eighths");
+    let mut from_above = placed.drawing_order().into_iter().rev().map(|place| boxes[place]);
+    let hit = from_above.find(|touch_box| touch_box.covers(pixel)).map(|touch_box| NAMES[touch_box.node as usize]);
+    format!("{}, {y} hits {}", pixel.x, hit.unwrap_or("nothing"))
+}
+
+/// A panel's lines: of each box its pixel edges and the verdict; the hoisted order; the drawing order; touches
 fn place(direction: Direction) -> Vec<String> {
     let (size, offset) = (Size { width: 800.0, height: 480.0 }, Point { x: 100.0, y: 40.0 });
     let overflow = Point { x: Overflow::Scroll, y: Overflow::Scroll };
@@ -60,13 +73,14 @@ fn place(direction: Direction) -> Vec<String> {
     };
     let hoisted = placed.hoisted.iter().map(|&node| NAMES[node as usize]).collect::<Vec<_>>();
     let drawn = placed.drawing_order().into_iter().map(|place| hoisted[place]).collect::<Vec<_>>();
-    [said(0).as_slice(), &said(1), &[hoisted.join(", "), drawn.join(", ")]].concat()
+    let touches = TOUCHES.map(|pixel| touched(&placed, direction, pixel));
+    [said(0).as_slice(), &said(1), &[hoisted.join(", "), drawn.join(", ")], &touches].concat()
 }
 
 fn main() {
     let [english, arabic] = [Direction::Ltr, Direction::Rtl].map(place);
     println!("{:<8}  {:<24}  Arabic panel", "", "English panel");
-    for (k, name) in [NAMES[0], "", NAMES[1], "", "hoisted", "drawn"].into_iter().enumerate() {
+    for (k, name) in [NAMES[0], "", NAMES[1], "", "hoisted", "drawn", "touched", "", ""].into_iter().enumerate() {
         println!("{name:<8}  {:<24}  {}", english[k], arabic[k]);
     }
 }

@@ -1,4 +1,4 @@
-//! The nine entries of the static library liboof_c.a, over words. This is the only module with `unsafe`.
+//! The ten entries of the static library liboof_c.a, over words. This is the only module with `unsafe`.
 //!
 //! Every entry takes any words in any number, and a call that it refuses writes no lent word; [`first_bad_word`] refuses none. So the
 //! functions here are safe: the slices are Rust's, and two of which one may be written don't overlap.
@@ -16,6 +16,8 @@ pub const ANSWER: usize = 10;
 pub const EDGES: usize = 4;
 /// Words of a verdict: 1 seen or 0 unseen, then the offsets x and y in eighths of a pixel, 0 if unseen
 pub const VERDICT: usize = 3;
+/// Words of a box that a touch driver reads: the node, then the pixel edges left, right, top and bottom, each in two's complement
+pub const TOUCH: usize = 5;
 /// Where a word that breaks a rule was found: which item of the table, and which word of its style, from 0
 pub const FOUND: usize = 2;
 
@@ -211,6 +213,19 @@ mod c {
             order: *mut u32,
             order_len: usize,
         ) -> u32;
+        pub fn oof_touch(
+            styles: *const u32,
+            styles_len: usize,
+            layouts: *const u32,
+            layouts_len: usize,
+            working: *const u32,
+            working_len: usize,
+            unclaimed: *const u32,
+            unclaimed_len: usize,
+            state: *const u32,
+            words: *mut u32,
+            words_len: usize,
+        ) -> u32;
         pub fn oof_pixels(layout: *const u32, x: f32, y: f32, edges: *mut i32) -> u32;
         pub fn oof_first_bad_word(styles: *const u32, styles_len: usize, found: *mut u32) -> u32;
     }
@@ -275,48 +290,45 @@ pub fn reply(reply: Reply, surfaced: &[u32], lent: &mut Lent) -> u32 {
     }
 }
 
+/// The slices and the state of a finished run as arguments of an entry, after the arguments before them and before what it writes
+macro_rules! read {
+    ($entry:ident, $run:expr, [$($before:expr),*], [$($written:expr),*]) => {
+        // SAFETY: pointers and lengths come from Rust slices that live through the call; the entry only reads them and the state's
+        // 28 words, and writes what comes last, as many words as the entry is told or as its type has, which are borrowed uniquely.
+        unsafe {
+            c::$entry(
+                $($before,)*
+                $run.styles.as_ptr(),
+                $run.styles.len(),
+                $run.layouts.as_ptr(),
+                $run.layouts.len(),
+                $run.working.as_ptr(),
+                $run.working.len(),
+                $run.unclaimed.as_ptr(),
+                $run.unclaimed.len(),
+                $run.state.as_ptr(),
+                $($written),*
+            )
+        }
+    };
+}
+
 /// Whether scrolling can bring the box at a place of the hoisted order into view. The verdict is written when the call is accepted.
 /// The result is 0, or the number of a refusal.
 pub fn reach(place: usize, run: Finished, verdict: &mut [u32; VERDICT]) -> u32 {
-    // SAFETY: pointers and lengths come from Rust slices that live through the call; the entry only reads them and the state's 28
-    // words, and writes the verdict's 3, which are borrowed uniquely
-    unsafe {
-        c::oof_reach(
-            place,
-            run.styles.as_ptr(),
-            run.styles.len(),
-            run.layouts.as_ptr(),
-            run.layouts.len(),
-            run.working.as_ptr(),
-            run.working.len(),
-            run.unclaimed.as_ptr(),
-            run.unclaimed.len(),
-            run.state.as_ptr(),
-            verdict.as_mut_ptr(),
-        )
-    }
+    read!(oof_reach, run, [place], [verdict.as_mut_ptr()])
 }
 
 /// The order in which the boxes of a finished run are drawn, as places in the hoisted order: lower layers first, and within one layer the
 /// hoisted order. `order` has one word a box; it is written when the call is accepted. The result is 0, or the number of a refusal.
 pub fn drawing_order(run: Finished, order: &mut [u32]) -> u32 {
-    // SAFETY: pointers and lengths come from Rust slices that live through the call; the entry only reads them and the state's 28
-    // words, and writes the words of `order`, which are borrowed uniquely
-    unsafe {
-        c::oof_drawing_order(
-            run.styles.as_ptr(),
-            run.styles.len(),
-            run.layouts.as_ptr(),
-            run.layouts.len(),
-            run.working.as_ptr(),
-            run.working.len(),
-            run.unclaimed.as_ptr(),
-            run.unclaimed.len(),
-            run.state.as_ptr(),
-            order.as_mut_ptr(),
-            order.len(),
-        )
-    }
+    read!(oof_drawing_order, run, [], [order.as_mut_ptr(), order.len()])
+}
+
+/// What a touch driver reads of the boxes of a finished run, in hoisted order. `words` has five words a box ([`TOUCH`]); they are written
+/// when the call is accepted. The result is 0, or the number of a refusal.
+pub fn touch(run: Finished, words: &mut [u32]) -> u32 {
+    read!(oof_touch, run, [], [words.as_mut_ptr(), words.len()])
 }
 
 /// The pixel edges of the box of a layout's words, relative to an area at x, y. Written when the call is accepted. The result is

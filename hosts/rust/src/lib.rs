@@ -2,10 +2,11 @@
 //!
 //! [`compute_oof_layout_for_area`] reads like the function of that name in taffy 0.15.1: it takes an area, a table of styles
 //! and a list of candidates, calls the [`Host`] back to measure and to lay out, and returns where the boxes stand. Under it is
-//! the library's dialogue of questions and replies over lent words; [`ffi`] has its nine entries, with slices checked by
+//! the library's dialogue of questions and replies over lent words; [`ffi`] has its ten entries, with slices checked by
 //! Rust. [`Placed::tally`] says how many questions each item took, [`Placed::reach`] whether scrolling can bring a box into view,
-//! and [`Placed::drawing_order`] in which order the boxes are drawn. [`Layout::pixels`] rounds a box to whole pixels.
-//! [`first_bad_word`] says which word of a table of styles, held as words and perhaps half typed, breaks a code rule.
+//! [`Placed::drawing_order`] in which order the boxes are drawn, and [`Placed::touch`] has what a touch driver reads of them.
+//! [`Layout::pixels`] rounds a box to whole pixels. [`first_bad_word`] says which word of a table of styles, held as words and
+//! perhaps half typed, breaks a code rule.
 //!
 //! ```
 //! use oof::*;
@@ -41,6 +42,7 @@ mod reach;
 mod refusal;
 mod run;
 mod style;
+mod touch;
 mod tree;
 pub mod words;
 
@@ -53,6 +55,7 @@ pub use style::{
     AlignSelf, AlignmentKeyword, AlignmentSafety, BoxSizing, Contain, Dimension, Direction, LengthPercentage,
     LengthPercentageAuto, Overflow, Style,
 };
+pub use touch::TouchBox;
 pub use tree::{
     Area, AvailableSpace, AxisStaticAlign, AxisStaticEdge, AxisStaticPosition, Candidate, Claims, Layout, NodeId,
     Position,

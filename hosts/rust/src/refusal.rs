@@ -5,15 +5,15 @@ use std::fmt;
 ///
 /// From [`compute_oof_layout_for_area`](crate::compute_oof_layout_for_area) come only `BadExtent`, `BadCandidate` and
 /// `ListFull`: its types have no bad codes, and it replies what it was asked. From [`Placed::reach`](crate::Placed::reach) come
-/// only `BadExtent`, for a place without a box, and `NotInEighths`, which [`Layout::pixels`](crate::Layout::pixels) has too. 7 and 8
-/// are refusals of parts that the library hasn't.
+/// only `BadExtent`, for a place without a box, and `NotInEighths`, which is the only one of [`Layout::pixels`](crate::Layout::pixels)
+/// and of [`Placed::touch`](crate::Placed::touch). 7 and 8 are refusals of parts that the library hasn't.
 #[derive(Copy, Clone, Debug, PartialEq, Eq, Hash)]
 #[non_exhaustive]
 pub enum Refusal {
     /// A code of direction, claims or overflow is outside its list
     BadArea = 1,
     /// A slice isn't whole records, is too long, or (after the opening) has another length than at the opening; or no box has the
-    /// place that is asked for; or a drawing order isn't one word a box
+    /// place that is asked for; or a drawing order isn't one word a box, or what a touch driver reads isn't five
     BadExtent = 2,
     /// A code or tag isn't allowed in its field of a style: [`first_bad_word`](crate::first_bad_word) says which
     BadStyle = 3,

@@ -46,9 +46,9 @@ pub trait Host {
     }
 }
 
-/// What a placement came to. It keeps the words of its run, for [`reach`](Placed::reach) and [`drawing_order`](Placed::drawing_order): a
-/// field that is changed afterwards changes nothing there. Two are equal if their fields are, the size, offset, direction and overflow of
-/// their areas, and the layers of their boxes.
+/// What a placement came to. It keeps the words of its run, for [`reach`](Placed::reach), [`drawing_order`](Placed::drawing_order) and
+/// [`touch`](Placed::touch): a field that is changed afterwards changes nothing there. Two are equal if their fields are, the size, offset,
+/// direction and overflow of their areas, and the layers of their boxes.
 #[derive(Clone, Debug, PartialEq)]
 pub struct Placed {
     /// By item; nothing for those that weren't placed. An item that was claimed twice has its last layout.

@@ -1,8 +1,10 @@
 //! Which box is drawn over which: boxes of runs, and every refusal by its name.
 mod common;
+#[path = "common/filled.rs"]
+mod filled;
 use common::Words;
-use oof::ffi::{self, state, Finished, Lent, Reply};
-use oof::words::{style, CANDIDATE, LAYER, LAYOUT};
+use oof::ffi::{self, state, Lent, Reply};
+use oof::words::{style, CANDIDATE, LAYER};
 use oof::*;
 
 /// Surfaces these candidates from the first box that it lays out
@@ -159,18 +161,8 @@ impl Words {
     fn call(&mut self, call: impl FnOnce(&mut Lent) -> u32) -> u32 {
         call(&mut self.lent())
     }
-    /// The order, or the refusal, which writes none; never a word beside it
     fn drawing_order(&self, words: usize) -> Result<Vec<u32>, Refusal> {
-        let Words { styles, layouts, working, unclaimed, state, .. } = self;
-        let mut room = [0xDEAD_0004; 8];
-        let number =
-            ffi::drawing_order(Finished { styles, layouts, working, unclaimed, state }, &mut room[1..][..words]);
-        let order = room[1..][..words].to_vec();
-        if number == 0 {
-            room[1..][..words].fill(0xDEAD_0004);
-        }
-        assert_eq!(room, [0xDEAD_0004; 8]);
-        Refusal::from_number(number).map_or(Ok(order), Err)
+        self.filled(ffi::drawing_order, words)
     }
 }
 

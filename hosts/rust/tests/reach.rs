@@ -2,7 +2,7 @@
 mod common;
 use common::Words;
 use oof::ffi::{self, state, Finished, Lent, Reply};
-use oof::words::{style, CANDIDATE, LAYER, LAYOUT};
+use oof::words::{style, CANDIDATE, LAYER};
 use oof::*;
 
 /// Every box's size is given, so that there is nothing to measure

@@ -2,7 +2,7 @@
 mod common;
 use common::Words;
 use oof::ffi::{self, state, Reply};
-use oof::words::{style, CANDIDATE, LAYOUT};
+use oof::words::style;
 use oof::*;
 
 const FONT: Size<f32> = Size { width: 120.0, height: 18.0 };
