@@ -3,10 +3,16 @@
 //! The model takes a float apart by its bits, and shares no code with the entry. Where taffy's util/sys.rs is at hand, its `round` says
 //! what pixel a count of eighths is. Before the entry, wrong ones are tried: each must be found out.
 
+#[path = "../eighths.rs"]
+mod eighths;
 #[path = "../random.rs"]
 mod random;
+#[path = "../trial.rs"]
+mod trial;
 
+use eighths::{bits, edges, pixel, wrong_edges, Counts, LARGEST, LOCATION_AND_SIZE, ROWS};
 use random::Random;
+use trial::{find_out, report};
 
 mod c {
     extern "C" {
@@ -14,13 +20,12 @@ mod c {
     }
 }
 
-type Entry = fn(&[u32; 23], f32, f32, &mut [i32; 4]) -> u32;
+type Entry = dyn Fn(&[u32; 23], f32, f32, &mut [i32; 4]) -> u32;
 
-const PROVED: Entry = |layout, x, y, edges| unsafe { c::oof_pixels(layout.as_ptr(), x, y, edges.as_mut_ptr()) };
+fn proved(layout: &[u32; 23], x: f32, y: f32, edges: &mut [i32; 4]) -> u32 {
+    unsafe { c::oof_pixels(layout.as_ptr(), x, y, edges.as_mut_ptr()) }
+}
 
-/// Where a layout's words have x, y, width and height.
-const PLACES: [usize; 4] = [9, 10, 1, 2];
-const LARGEST: i64 = 9_999_999;
 const REFUSED: u32 = 9;
 
 /// The six numbers that are read, by their bits: x, y, width, height, offset x and y.
@@ -47,20 +52,6 @@ fn count(word: u32) -> Option<i64> {
     Some(if word >> 31 == 1 { -n } else { n })
 }
 
-/// The floor of (n + 4) / 8: the integer p with 8 p <= n + 4 < 8 p + 8.
-fn pixel(n: i64) -> i64 {
-    let p = (n + 4) / 8 - i64::from((n + 4) % 8 < 0);
-    assert!(8 * p <= n + 4 && n + 4 < 8 * p + 8);
-    p
-}
-
-type Counts = [i64; 6];
-
-/// Left, right, top, bottom, by exact sums.
-fn edges([x, y, w, h, ox, oy]: Counts, pixel: fn(i64) -> i64) -> [i64; 4] {
-    [pixel(x - ox), pixel(x + w - ox), pixel(y - oy), pixel(y + h - oy)]
-}
-
 fn all(c: [Option<i64>; 6]) -> Option<Counts> {
     c.iter().all(Option::is_some).then(|| c.map(Option::unwrap))
 }
@@ -71,140 +62,67 @@ fn model(case: &Case) -> Option<[i64; 4]> {
 
 // ---- wrong entries
 
+type Named = (&'static str, Box<Entry>);
+
 /// An entry over counts, of which some may be none.
-fn over(layout: &[u32; 23], x: f32, y: f32, out: &mut [i32; 4], of: fn([Option<i64>; 6]) -> Option<[i64; 4]>) -> u32 {
-    let [at, down, width, height] = PLACES.map(|k| layout[k]);
-    match of([at, down, width, height, x.to_bits(), y.to_bits()].map(count)) {
-        None => REFUSED,
-        Some(e) => {
-            *out = e.map(|n| n as i32);
-            0
-        }
-    }
+fn any(name: &'static str, of: impl Fn([Option<i64>; 6]) -> Option<[i64; 4]> + 'static) -> Named {
+    let entry: Box<Entry> = Box::new(move |layout, x, y, out| {
+        let [at, down, width, height] = LOCATION_AND_SIZE.map(|k| layout[k]);
+        let Some(e) = of([at, down, width, height, x.to_bits(), y.to_bits()].map(count)) else { return REFUSED };
+        *out = e.map(|n| n as i32);
+        0
+    });
+    (name, entry)
 }
 
 /// The entry, with x, y, width and height changed before.
-fn after(layout: &[u32; 23], x: f32, y: f32, out: &mut [i32; 4], change: fn(u32) -> u32) -> u32 {
-    let mut other = *layout;
-    PLACES.map(|k| other[k] = change(layout[k]));
-    PROVED(&other, x, y, out)
-}
-
-/// A wrong entry by counts that are all accepted
-macro_rules! of {
-    ($name:expr, $of:expr) => {
-        ($name, (|layout, x, y, out| over(layout, x, y, out, |c| all(c).map($of))) as Entry)
-    };
-}
-
-/// By any
-macro_rules! any {
-    ($name:expr, $of:expr) => {
-        ($name, (|layout, x, y, out| over(layout, x, y, out, $of)) as Entry)
-    };
-}
-
-/// The entry, with what it reads changed
-macro_rules! changed {
-    ($name:expr, $change:expr) => {
-        ($name, (|layout, x, y, out| after(layout, x, y, out, $change)) as Entry)
-    };
-}
-
-type Named = (&'static str, Entry);
-
-/// What is rounded, and how
-fn roundings() -> Vec<Named> {
-    vec![
-        of!("division toward zero", |c| edges(c, |n| (n + 4) / 8)),
-        of!("halves away from zero", |c| edges(c, |n| (n.abs() + 4) / 8 * n.signum())),
-        of!("halves down", |c| edges(c, |n| (n + 3).div_euclid(8))),
-        of!("halves to even", |c| edges(c, |n| (n as f64 / 8.0).round_ties_even() as i64)),
-        of!("no rounding", |c| edges(c, |n| n.div_euclid(8))),
-        of!("sizes rounded by themselves", |[x, y, w, h, ox, oy]: Counts| {
-            let (left, top) = (pixel(x - ox), pixel(y - oy));
-            [left, left + pixel(w), top, top + pixel(h)]
-        }),
-        of!("the offset rounded by itself", |[x, y, w, h, ox, oy]: Counts| {
-            let (a, b) = (pixel(ox), pixel(oy));
-            [pixel(x) - a, pixel(x + w) - a, pixel(y) - b, pixel(y + h) - b]
-        }),
-    ]
-}
-
-/// What is added
-fn sums() -> Vec<Named> {
-    vec![
-        of!("sums in f32", |c: Counts| {
-            let [x, y, w, h, ox, oy] = c.map(|n| n as f32);
-            [x - ox, x - ox + w, y - oy, y - oy + h].map(|n| pixel(n as i64))
-        }),
-        of!("sums in f32, the size first", |c: Counts| {
-            let [x, y, w, h, ox, oy] = c.map(|n| n as f32);
-            [x - ox, x + w - ox, y - oy, y + h - oy].map(|n| pixel(n as i64))
-        }),
-        of!("ends without the offset", |[x, y, w, h, ox, oy]| [
-            pixel(x - ox),
-            pixel(x + w),
-            pixel(y - oy),
-            pixel(y + h)
-        ]),
-        of!("the offset added", |[x, y, w, h, ox, oy]: Counts| edges([x, y, w, h, -ox, -oy], pixel)),
-        of!("a negative size is 0", |[x, y, w, h, ox, oy]: Counts| edges([x, y, w.max(0), h.max(0), ox, oy], pixel)),
-    ]
-}
-
-/// Numbers in another one's place
-fn exchanges() -> Vec<Named> {
-    vec![
-        of!("top from x", |[x, _, w, h, ox, oy]| edges([x, x, w, h, ox, oy], pixel)),
-        of!("width for height", |[x, y, w, _, ox, oy]| edges([x, y, w, w, ox, oy], pixel)),
-        of!("left, top, right, bottom", |c| {
-            let [left, right, top, bottom] = edges(c, pixel);
-            [left, top, right, bottom]
-        }),
-        of!("sizes instead of ends", |c| {
-            let [left, right, top, bottom] = edges(c, pixel);
-            [left, right - left, top, bottom - top]
-        }),
-    ]
+fn changed(name: &'static str, change: fn(u32) -> u32) -> Named {
+    let entry: Box<Entry> = Box::new(move |layout, x, y, out| {
+        let mut other = *layout;
+        LOCATION_AND_SIZE.iter().for_each(|&k| other[k] = change(layout[k]));
+        proved(&other, x, y, out)
+    });
+    (name, entry)
 }
 
 /// What is accepted
 fn tests() -> Vec<Named> {
     vec![
-        any!("a negative size is refused", |c| { all(c).filter(|c| c[2] >= 0 && c[3] >= 0).map(|c| edges(c, pixel)) }),
-        any!("9,999,999 eighths are refused", |c| {
+        any("a negative size is refused", |c| all(c).filter(|c| c[2] >= 0 && c[3] >= 0).map(|c| edges(c, pixel))),
+        any("9,999,999 eighths are refused", |c| {
             all(c).filter(|c| c.iter().all(|n| n.abs() < LARGEST)).map(|c| edges(c, pixel))
         }),
-        any!("a bad offset is 0", |[x, y, w, h, ox, oy]| {
+        any("a bad offset is 0", |[x, y, w, h, ox, oy]| {
             all([x, y, w, h, ox.or(Some(0)), oy.or(Some(0))]).map(|c| edges(c, pixel))
         }),
-        any!("offset y isn't tested", |[x, y, w, h, ox, oy]| {
+        any("offset y isn't tested", |[x, y, w, h, ox, oy]| {
             all([x, y, w, h, ox, oy.or(Some(0))]).map(|c| edges(c, pixel))
         }),
-        any!("the height isn't tested", |[x, y, w, h, ox, oy]| {
+        any("the height isn't tested", |[x, y, w, h, ox, oy]| {
             all([x, y, w, h.or(Some(0)), ox, oy]).map(|c| edges(c, pixel))
         }),
-        changed!("10,000,000 eighths are accepted", |w| if w == bits(LARGEST + 1) { bits(LARGEST) } else { w }),
-        changed!("sixteenths are rounded", |w| ((f32::from_bits(w) * 8.0).round() / 8.0).to_bits()),
+        changed("10,000,000 eighths are accepted", |w| if w == bits(LARGEST + 1) { bits(LARGEST) } else { w }),
+        changed("sixteenths are rounded", |w| ((f32::from_bits(w) * 8.0).round() / 8.0).to_bits()),
     ]
 }
 
 /// What else a call may do
 fn calls() -> Vec<Named> {
+    fn call(name: &'static str, entry: fn(&[u32; 23], f32, f32, &mut [i32; 4]) -> u32) -> Named {
+        (name, Box::new(entry))
+    }
     vec![
-        ("another refusal", |layout, x, y, out| PROVED(layout, x, y, out).min(8)),
-        ("padding is read", |layout, x, y, out| {
+        call("another refusal", |layout, x, y, out| proved(layout, x, y, out).min(8)),
+        call("padding is read", |layout, x, y, out| {
             let good = count(layout[11]).is_some();
             if good {
-                PROVED(layout, x, y, out)
+                proved(layout, x, y, out)
             } else {
                 REFUSED
             }
         }),
-        ("a refusal writes", |layout, x, y, out| {
-            let result = PROVED(layout, x, y, out);
+        call("a refusal writes", |layout, x, y, out| {
+            let result = proved(layout, x, y, out);
             out[3] ^= i32::from(result == REFUSED);
             result
         }),
@@ -213,7 +131,8 @@ fn calls() -> Vec<Named> {
 
 /// What the request invites one to write. The comparison is worth nothing if it misses one.
 fn wrong() -> Vec<Named> {
-    [roundings(), sums(), exchanges(), tests(), calls()].concat()
+    let edges = wrong_edges().into_iter().map(|(name, of)| any(name, move |c| all(c).map(of)));
+    edges.chain(tests()).chain(calls()).collect()
 }
 
 // ---- the comparison
@@ -228,16 +147,16 @@ fn show(case: &Case) -> String {
 }
 
 /// One call, with `noise` in the words that aren't read and in the edges before it.
-fn call(entry: Entry, case: &Case, noise: u32) -> (u32, [i32; 4], [i32; 4]) {
+fn call(entry: &Entry, case: &Case, noise: u32) -> (u32, [i32; 4], [i32; 4]) {
     let mut layout: [u32; 23] = std::array::from_fn(|k| noise.rotate_left(k as u32) ^ (k as u32) << 27);
-    (0..4).for_each(|k| layout[PLACES[k]] = case[k]);
+    (0..4).for_each(|k| layout[LOCATION_AND_SIZE[k]] = case[k]);
     let before = [noise as i32, !noise as i32, 7, i32::MIN];
     let mut edges = before;
     (entry(&layout, f32::from_bits(case[4]), f32::from_bits(case[5]), &mut edges), edges, before)
 }
 
 /// Whether the entry does what the model says.
-fn compare(entry: Entry, case: &Case, noise: u32) -> Result<Option<[i64; 4]>, String> {
+fn compare(entry: &Entry, case: &Case, noise: u32) -> Result<Option<[i64; 4]>, String> {
     let (result, edges, before) = call(entry, case, noise);
     let wanted = model(case);
     let same = match wanted {
@@ -246,46 +165,6 @@ fn compare(entry: Entry, case: &Case, noise: u32) -> Result<Option<[i64; 4]>, St
     };
     same.then_some(wanted).ok_or_else(|| format!("{}: {result} {edges:?}, not {wanted:?}", show(case)))
 }
-
-/// The float of a count, exact up to 2 ^ 24.
-fn bits(n: i64) -> u32 {
-    let x = n as f32 / 8.0;
-    assert!(x as f64 * 8.0 == n as f64);
-    x.to_bits()
-}
-
-/// x, width, offset x in eighths, and the edges that they have.
-const ROWS: [(i64, i64, i64, i64, i64); 24] = [
-    (-13, 0, 0, -2, -2),
-    (-12, 0, 0, -1, -1),
-    (-5, 0, 0, -1, -1),
-    (-4, 0, 0, 0, 0),
-    (3, 0, 0, 0, 0),
-    (4, 0, 0, 1, 1),
-    (11, 0, 0, 1, 1),
-    (12, 0, 0, 2, 2),
-    // a float's sum of the first is 16,777,220
-    (9_999_999, 0, -6_777_220, 2_097_152, 2_097_152),
-    (9_999_999, 6_777_220, 0, 1_250_000, 2_097_152),
-    (9_999_999, 6_777_220, -1, 1_250_000, 2_097_153),
-    // a size has no pixels of its own
-    (3, 3, 0, 0, 1),
-    (6, 3, 0, 1, 1),
-    (4, 7, 0, 1, 1),
-    (3, 3, 3, 0, 0),
-    // negative sizes
-    (0, -8, 0, 0, -1),
-    (-4, -1, 0, 0, -1),
-    (12, -16, 8, 1, -1),
-    // the limits
-    (9_999_999, 9_999_999, -9_999_999, 2_500_000, 3_750_000),
-    (-9_999_999, -9_999_999, 9_999_999, -2_500_000, -3_750_000),
-    (9_999_999, -9_999_999, 9_999_999, 0, -1_250_000),
-    (-9_999_999, 9_999_999, -9_999_999, 0, 1_250_000),
-    // the incident: in whole pixels, as it is printed
-    (192, 1280, 0, 24, 184),
-    (-2624, 2560, 0, -328, -8),
-];
 
 /// Both signs of zeros, subnormals, eighths and what lies beside them, ends of ranges, infinities, NaNs.
 fn special() -> Vec<u32> {
@@ -326,7 +205,7 @@ fn special() -> Vec<u32> {
     words.iter().flat_map(|&w| [w, w ^ 1 << 31]).collect()
 }
 
-fn directed(entry: Entry) -> Result<u64, String> {
+fn directed(entry: &Entry) -> Result<u64, String> {
     let mut tried = 0;
     let mut try_case = |case: &Case, noise: u32| {
         tried += 1;
@@ -398,12 +277,12 @@ struct Figures {
 
 fn random(millions: u64, seed: u64) -> Result<Figures, String> {
     let list = special();
-    let mut random = Random(seed.wrapping_mul(0x9E37_79B9_7F4A_7C15) | 1);
+    let mut random = Random::seeded(seed);
     let mut figures = Figures { accepted: 0, refused: 0, touching: 0 };
     for _ in 0..millions * 1_000_000 {
         let strange = if random.word() % 2 == 0 { 40 } else { 8 };
         let case: Case = std::array::from_fn(|_| random.float(&list, strange));
-        let Some(e) = compare(PROVED, &case, random.word())? else {
+        let Some(e) = compare(&proved, &case, random.word())? else {
             figures.refused += 1;
             continue;
         };
@@ -411,7 +290,7 @@ fn random(millions: u64, seed: u64) -> Result<Figures, String> {
         // a box that begins where this one ends, as floats
         let sum = |k: usize| (f32::from_bits(case[k]) + f32::from_bits(case[k + 2])).to_bits();
         let next = [sum(0), sum(1), case[3], case[2], case[4], case[5]];
-        if let Some(f) = compare(PROVED, &next, random.word())? {
+        if let Some(f) = compare(&proved, &next, random.word())? {
             figures.touching += 1;
             if (e[1], e[3]) != (f[0], f[2]) {
                 return Err(format!("{}: the next box doesn't touch", show(&case)));
@@ -429,7 +308,7 @@ fn rounding() -> Result<String, String> {
     let mut other = 0;
     for n in -MOST..=MOST {
         let case = [n / 2, 0, 0, 0, n / 2 - n, 0].map(bits);
-        let (result, edges, _) = call(PROVED, &case, 0);
+        let (result, edges, _) = call(&proved, &case, 0);
         let value = f32::from_bits(bits(n));
         let (std, core) = (round_std::round(value), round_core::round(value));
         if result != 0 || f64::from(edges[0]) != f64::from(std) {
@@ -452,12 +331,8 @@ fn rounding() -> Result<String, String> {
 
 fn run(millions: u64, seed: u64) -> Result<String, String> {
     let wrong = wrong();
-    for (name, entry) in &wrong {
-        if directed(*entry).is_ok() {
-            return Err(format!("not found out: {name}"));
-        }
-    }
-    let tried = directed(PROVED)?;
+    find_out(&wrong, |entry| directed(entry.as_ref()).map(|_| ()))?;
+    let tried = directed(&proved)?;
     let f = random(millions, seed)?;
     Ok(format!(
         "seed {seed}: {tried} directed cases, {} random ones ({} refused), {} boxes that touch: no difference; {}; {} wrong entries found out",
@@ -470,12 +345,5 @@ fn run(millions: u64, seed: u64) -> Result<String, String> {
 }
 
 fn main() {
-    let mut words = std::env::args().skip(1).map(|n| n.parse().expect("a number"));
-    match run(words.next().unwrap_or(2), words.next().unwrap_or(1)) {
-        Ok(figures) => println!("diff/pixels: {figures}"),
-        Err(place) => {
-            println!("diff/pixels: DIFFERENCE {place}");
-            std::process::exit(1);
-        }
-    }
+    report("pixels", 2, run);
 }

@@ -3,69 +3,41 @@
 //! The model is request #102 as it is worded: it moves the view over the panel, offset by offset, and looks whether box and view share a
 //! patch. It shares no code with the entry, which has a closed form. Before the entry, wrong ones are tried: each must be found out.
 
+#[path = "../eighths.rs"]
+mod eighths;
 #[path = "../finished.rs"]
 mod finished;
 #[path = "../random.rs"]
 mod random;
+#[path = "../trial.rs"]
+mod trial;
 
-use finished::{other_lengths, other_lengths_recorded, other_tallies, too_many, Finished, Kind};
+use eighths::{bits, count, try_counts, COUNTS, LARGEST, LOCATION_AND_SIZE, STRANGE};
+use finished::{above, bad_record, bad_slices, each_change, entry, of_a_run, unfinished, Kind, Run};
+use finished::{other_lengths, other_lengths_recorded, other_tallies, too_many};
 use finished::{
-    ANSWERED, BEGUN, CANDIDATE, CODES, FILLED, LAYER, LAYOUT, LAYOUTS, LENGTHS, PROGRESS, STATE, STYLE, STYLES, TALLY,
-    UNCLAIMED, WIDTHS, WORKING,
+    ANSWERED, AREA, BEGUN, CANDIDATE, CODES, DIRECTION, FILLED, LAYER, LAYOUTS, LENGTHS, OVERFLOW, PROGRESS, RECTANGLE,
+    REFUSALS, STATE, STYLE, STYLES, TALLY, UNCLAIMED, WIDTHS, WORKING,
 };
 use random::Random;
-
-mod c {
-    extern "C" {
-        pub fn oof_reach(
-            place: usize,
-            styles: *const u32,
-            styles_len: usize,
-            layouts: *const u32,
-            layouts_len: usize,
-            working: *const u32,
-            working_len: usize,
-            unclaimed: *const u32,
-            unclaimed_len: usize,
-            state: *const u32,
-            verdict: *mut u32,
-        ) -> u32;
-    }
-}
+use trial::{find_out, report};
 
 // ---- a call
-
-/// Words of the state, beside those that every part tests.
-const RECTANGLE: usize = 11;
-const AREA: usize = 15;
-const DIRECTION: usize = 19;
-const OVERFLOW: usize = 21;
 
 /// Layers that are none: the first one, one whose low byte is 1, 2 ^ 31, a NaN, the highest word.
 const BAD_LAYERS: [u32; 5] = [256, 257, 1 << 31, 0x7FC0_0001, u32::MAX];
 
-/// Where a layout has x, y, width and height.
-const PLACES: [usize; 4] = [9, 10, 1, 2];
 const PADDING: usize = 11;
-
-const LARGEST: i64 = 9_999_999;
 
 #[derive(Clone, PartialEq)]
 struct Call {
     place: usize,
-    slices: [Vec<u32>; 4],
-    state: [u32; STATE],
+    run: Run,
 }
 
+of_a_run!(Call);
+
 impl Call {
-    fn records(&self, slice: usize) -> usize {
-        self.slices[slice].len() / WIDTHS[slice]
-    }
-
-    fn filled(&self) -> usize {
-        self.state[FILLED] as usize
-    }
-
     /// The node of a place, where the list has such a record.
     fn node(&self, place: usize) -> Option<usize> {
         self.slices[WORKING].get(place.checked_mul(CANDIDATE)?).map(|&node| node as usize)
@@ -78,7 +50,7 @@ impl Call {
             0..4 => Some(&mut self.state[AREA + k]),
             4..8 => Some(&mut self.state[RECTANGLE + k - 4]),
             _ => {
-                let at = self.node(self.place)?.checked_mul(23)? + PLACES[k - 8];
+                let at = self.node(self.place)?.checked_mul(23)? + LOCATION_AND_SIZE[k - 8];
                 self.slices[LAYOUTS].get_mut(at)
             }
         }
@@ -89,50 +61,18 @@ impl Call {
         std::array::from_fn(|k| match k {
             0..4 => Some(self.state[AREA + k]),
             4..8 => Some(self.state[RECTANGLE + k - 4]),
-            _ => layout.and_then(|words| words.get(PLACES[k - 8]).copied()),
+            _ => layout.and_then(|words| words.get(LOCATION_AND_SIZE[k - 8]).copied()),
         })
     }
 }
 
 type Entry = fn(&mut Call, &mut [u32; 3]) -> u32;
 
-const PROVED: Entry = |call, verdict| {
-    let [styles, layouts, working, unclaimed] = &call.slices;
-    unsafe {
-        c::oof_reach(
-            call.place,
-            styles.as_ptr(),
-            styles.len(),
-            layouts.as_ptr(),
-            layouts.len(),
-            working.as_ptr(),
-            working.len(),
-            unclaimed.as_ptr(),
-            unclaimed.len(),
-            call.state.as_ptr(),
-            verdict.as_mut_ptr(),
-        )
-    }
-};
+entry!(reach is oof_reach(place: usize; verdict: *mut u32));
+
+const PROVED: Entry = |call, verdict| reach(call, call.place, verdict.as_mut_ptr());
 
 // ---- the model
-
-/// A float as a count of eighths, if it is one: an odd number times a power of two, in integers.
-fn count(word: u32) -> Option<i64> {
-    let (exponent, fraction) = ((word >> 23 & 255) as i32, i64::from(word & 0x7F_FFFF));
-    // the size is m * 2 ^ power eighths
-    let (m, power) = if exponent == 0 { (fraction, -146) } else { (fraction | 1 << 23, exponent - 147) };
-    if m == 0 {
-        return Some(0);
-    }
-    let twos = m.trailing_zeros() as i32;
-    // an odd number of a fraction of an eighth is none; from 2 ^ 24 eighths on, infinities and NaNs included, all are too large
-    let size = match power + twos {
-        0..24 => (m >> twos) << (power + twos),
-        _ => return None,
-    };
-    (size <= LARGEST).then_some(if word >> 31 == 1 { -size } else { size })
-}
 
 /// One axis as the words have it, in eighths. Of a right-to-left container x is reversed.
 #[derive(Clone, Copy)]
@@ -223,32 +163,8 @@ fn search([across, down]: [Axis; 2]) -> Option<(i64, i64)> {
     least
 }
 
-/// The refusals in the order in which they are tested.
-const REFUSALS: [u32; 4] = [2, 6, 4, 9];
-
-fn bad_extent(call: &Call) -> bool {
-    let [styles, layouts, working, unclaimed] = [0, 1, 2, 3].map(|k| call.slices[k].len());
-    let list = |words: usize| words % CANDIDATE != 0 || words > CANDIDATE * 4096;
-    let n = styles / STYLE;
-    let slices = styles % STYLE != 0 || n > 1024 || layouts != LAYOUT * n || list(working) || list(unclaimed);
-    slices || (0..4).any(|k| call.slices[k].len() as u64 != u64::from(call.state[LENGTHS + k]))
-}
-
 fn no_box(call: &Call) -> bool {
     call.place as u64 >= u64::from(call.state[FILLED])
-}
-
-fn unfinished(call: &Call) -> bool {
-    matches!(call.state[PROGRESS], 1..=5)
-}
-
-/// The filled records of a list are more than it has.
-fn above(call: &Call, slice: usize) -> bool {
-    call.state[FILLED + slice - WORKING] as usize > call.records(slice)
-}
-
-fn bad_record(call: &Call, record: &[u32]) -> bool {
-    record[0] as usize >= call.records(STYLES) || CODES.iter().any(|&(k, most)| record[k] > most)
 }
 
 fn not_eighths(word: Option<u32>) -> bool {
@@ -259,7 +175,7 @@ fn not_eighths(word: Option<u32>) -> bool {
 #[inline(never)]
 fn reasons(call: &Call) -> [bool; 4] {
     [
-        bad_extent(call) || no_box(call),
+        bad_slices(call) || no_box(call),
         unfinished(call) || above(call, WORKING) || above(call, UNCLAIMED),
         call.slices[WORKING].chunks_exact(CANDIDATE).take(call.filled()).any(|record| bad_record(call, record)),
         call.twelve().into_iter().any(not_eighths),
@@ -525,7 +441,9 @@ fn readings() -> Vec<Named> {
         seen!("left, top, right, bottom", |[x, y]| both([Axis { far: y.near, ..x }, y], closed)),
         axis!("near and far exchanged", |a| closed(&Axis { far: a.near, ..*a })),
         changed!("the layout of the place", |c| {
-            if let Some(node) = c.slices[WORKING].get_mut(CANDIDATE * c.place.min(9999)).filter(|node| **node < 1024) {
+            if let Some(node) =
+                c.run.slices[WORKING].get_mut(CANDIDATE * c.place.min(9999)).filter(|node| **node < 1024)
+            {
                 *node = c.place as u32;
             }
         }),
@@ -583,17 +501,17 @@ fn ordered<const A: usize, const B: usize>(call: &mut Call, out: &mut [u32; 3]) 
 fn lengths() -> Vec<Named> {
     vec![
         tests!("the place is held against the list's records", |c, [_, b, d, e]| {
-            [bad_extent(c) || c.place >= c.records(WORKING), b, d, e]
+            [bad_slices(c) || c.place >= c.records(WORKING), b, d, e]
         }),
         tests!("the place is held against both", |c, [a, b, d, e]| [a || c.place >= c.records(WORKING), b, d, e]),
-        tests!("the place isn't tested", |c, [_, b, d, e]| [bad_extent(c), b, d, e]),
-        tests!("a place without a box is 6", |c, [_, b, d, e]| [bad_extent(c), b || no_box(c), d, e]),
+        tests!("the place isn't tested", |c, [_, b, d, e]| [bad_slices(c), b, d, e]),
+        tests!("a place without a box is 6", |c, [_, b, d, e]| [bad_slices(c), b || no_box(c), d, e]),
         ("a place without a box is 2 after 6", |call, out| match reasons(call) {
-            [true, true, _, _] if !bad_extent(call) => 6,
+            [true, true, _, _] if !bad_slices(call) => 6,
             _ => PROVED(call, out),
         }),
         ("a place without a box is 2 after 4", |call, out| match reasons(call) {
-            [true, false, true, _] if !bad_extent(call) => 4,
+            [true, false, true, _] if !bad_slices(call) => 4,
             _ => PROVED(call, out),
         }),
         changed!("the place after the last has a box", |c| {
@@ -735,7 +653,8 @@ fn words() -> Vec<Named> {
                 .chunks_exact(CANDIDATE)
                 .take(c.filled())
                 .filter_map(|record| c.slices[LAYOUTS].get(23 * record[0] as usize..)?.get(..23));
-            [a, b, d, e || all.flat_map(|layout| PLACES.map(|k| layout[k])).any(|word| not_eighths(Some(word)))]
+            let mut numbers = all.flat_map(|layout| LOCATION_AND_SIZE.map(|k| layout[k]));
+            [a, b, d, e || numbers.any(|word| not_eighths(Some(word)))]
         }),
         tests!("the far edge isn't tested where nothing scrolls", |c, [a, b, d, _]| {
             let (words, axes) = (c.twelve(), axes(c));
@@ -871,53 +790,6 @@ fn compare(entry: Entry, call: &Call, noise: u32) -> Result<Verdict, String> {
     Ok(wanted)
 }
 
-/// The float of a count of less than 2 ^ 24 eighths: sign, exponent and fraction.
-fn bits(n: i64) -> u32 {
-    let size = n.unsigned_abs() as u32;
-    assert!(size < 1 << 24);
-    match size.checked_ilog2() {
-        None => 0,
-        Some(top) => u32::from(n < 0) << 31 | (top + 124) << 23 | size << (23 - top) & 0x7F_FFFF,
-    }
-}
-
-/// What isn't a count: halves and less of an eighth, neighbours of counts, more than the limit, infinities, NaNs.
-const STRANGE: [u32; 20] = [
-    0x3D80_0000, // 0.0625
-    0xBDCC_CCCD, // -0.1
-    0x3DFF_FFFF,
-    0x3E00_0001,
-    0x43AE_F800, // 349.9375
-    0x4900_0001, // 524,288.03125
-    0x4998_9680, // 1,250,000: 10,000,000 eighths
-    0xC998_9680,
-    0x49FF_FFFF,
-    0x4A00_0000,
-    0x0000_0001,
-    0x8000_0001,
-    0x007F_FFFF,
-    0x0080_0000,
-    0x7F7F_FFFF,
-    0x7F80_0000,
-    0xFF80_0000,
-    0x7F80_0001,
-    0x7FC0_0000,
-    0xFFFF_FFFF,
-];
-
-/// Words and the counts that they are.
-const COUNTS: [(u32, i64); 9] = [
-    (0, 0),
-    (1 << 31, 0),
-    (0x3E00_0000, 1),
-    (0xBE00_0000, -1),
-    (0x3F80_0000, 8),
-    (0x43AF_0000, 2800),
-    (0x4980_0000, 8_388_608),
-    (0x4998_967F, LARGEST),
-    (0xC998_967F, -LARGEST),
-];
-
 /// An axis from the start edge: the area's size, the box's start and size, the far edge, the overflow code; and the least offset, if any.
 type Row = (i64, i64, i64, i64, u32, Option<i64>);
 
@@ -980,8 +852,10 @@ const OFFSETS: [(u32, (i64, i64)); 6] =
 /// A run of two boxes, hoisted nodes 1 and 0, of which the first is asked; the other's numbers are no counts. None if x or y isn't one.
 fn plain(across: Row, down: Row, direction: u32, offset: (i64, i64)) -> Option<Call> {
     let mut slices = [2, 2, 3, 1].iter().zip(WIDTHS).map(|(n, width)| vec![0x7FC0_0001; n * width]);
-    let mut call =
-        Call { place: 0, slices: std::array::from_fn(|_| slices.next().unwrap_or_default()), state: [0; STATE] };
+    let mut call = Call {
+        place: 0,
+        run: Run { slices: std::array::from_fn(|_| slices.next().unwrap_or_default()), state: [0; STATE] },
+    };
     [1, 0].iter().zip(call.slices[WORKING].chunks_exact_mut(CANDIDATE)).for_each(|(&node, record)| {
         record[0] = node;
         CODES.iter().for_each(|&(k, most)| record[k] = most);
@@ -1024,15 +898,6 @@ fn two(direction: u32, area: [i64; 4], far: [i64; 2], codes: [u32; 2], boxes: [P
 // ---- changes of a call
 
 type Change = finished::Change<Call>;
-
-impl Finished for Call {
-    fn slices(&mut self) -> &mut [Vec<u32>; 4] {
-        &mut self.slices
-    }
-    fn state(&mut self) -> &mut [u32; STATE] {
-        &mut self.state
-    }
-}
 
 /// In the order in which they are tested.
 fn kinds() -> [Kind<Call>; 5] {
@@ -1141,7 +1006,7 @@ fn harmless() -> Vec<Change> {
         }),
         ("any replies and claims", |c, r| c.state[r.pick(&[1, 2, 3, 4, 5, 6, 20])] = r.word()),
         ("any other words of the layout", |c, r| {
-            let other = (0..23).filter(|k| !PLACES.contains(k)).nth(r.below(19)).unwrap_or(0);
+            let other = (0..23).filter(|k| !LOCATION_AND_SIZE.contains(k)).nth(r.below(19)).unwrap_or(0);
             let at = c.node(c.place).map_or(0, |node| 23 * node.min(9999) + other);
             if let Some(word) = c.slices[LAYOUTS].get_mut(at) {
                 *word = r.pick(&STRANGE)
@@ -1150,7 +1015,7 @@ fn harmless() -> Vec<Change> {
         ("any other layouts", |c, r| {
             let node = c.node(c.place).unwrap_or(0);
             let others = c.slices[LAYOUTS].chunks_exact_mut(23).enumerate().filter(|(k, _)| *k != node);
-            others.for_each(|(_, layout)| layout[PLACES[r.below(4)]] = r.pick(&STRANGE));
+            others.for_each(|(_, layout)| layout[LOCATION_AND_SIZE[r.below(4)]] = r.pick(&STRANGE));
         }),
         ("records that aren't filled", |c, r| {
             let behind = CANDIDATE * c.filled();
@@ -1175,11 +1040,8 @@ fn harmless() -> Vec<Change> {
                 *word = bits(LARGEST) | r.word() << 31
             }
         }),
-        ("a record more, recorded so", |c, r| {
-            let k = 2 + r.below(2);
-            c.resize(k, c.records(k) + 1)
-        }),
-        ("a full list", |c, _| c.resize(WORKING, c.filled())),
+        ("a record more, recorded so", |c, r| c.lengthen(2 + r.below(2))),
+        ("a full list", |c, _| c.fit()),
         ("1,024 items, of which the last is asked", |c, _| {
             let (at, node) = (CANDIDATE * c.place, c.node(c.place).unwrap_or(0));
             c.resize(STYLES, 1024);
@@ -1202,11 +1064,6 @@ fn harmless() -> Vec<Change> {
 // ---- random calls
 
 impl Random {
-    /// From -most to most.
-    fn small(&mut self, most: i64) -> i64 {
-        i64::from(self.word()) % (2 * most + 1) - most
-    }
-
     /// An axis from its start edge, near a place where the verdict turns as often as not.
     fn row(&mut self) -> [i64; 4] {
         let most = self.pick(&[4, 4, 4, 4, 8, 8, 16, 100, 5000, LARGEST]);
@@ -1232,19 +1089,13 @@ impl Random {
         [area, turn + self.small(1), size, far].map(|n| n.clamp(-LARGEST, LARGEST))
     }
 
-    /// Words of the pool: any bits.
-    fn noise(&mut self, pool: &[u32], words: usize) -> Vec<u32> {
-        let at = self.below((pool.len() - words) as u32);
-        pool[at..at + words].to_vec()
-    }
-
     /// A call that is accepted. Only the words that are read are drawn; the others are any.
     fn call(&mut self, pool: &[u32]) -> Call {
         let n = 1 + self.below(4);
         let filled = 1 + self.below(4);
         let records = [n, n, filled + self.below(3), self.below(3)];
         let slices = std::array::from_fn(|k| self.noise(pool, records[k] * WIDTHS[k]));
-        let mut call = Call { place: self.below(filled as u32), slices, state: [0; STATE] };
+        let mut call = Call { place: self.below(filled as u32), run: Run { slices, state: [0; STATE] } };
         call.state.copy_from_slice(&self.noise(pool, STATE));
         // nodes in some order, each once if there are enough of them, or any
         let (turn, any) = (self.below(n as u32), self.below(2) == 0);
@@ -1254,7 +1105,7 @@ impl Random {
         }
         if self.below(2) == 0 {
             for layout in call.slices[LAYOUTS].chunks_exact_mut(23) {
-                PLACES.iter().for_each(|&k| layout[k] = bits(self.small(9)));
+                LOCATION_AND_SIZE.iter().for_each(|&k| layout[k] = bits(self.small(9)));
             }
         }
         let rows = [self.row(), self.row()];
@@ -1276,36 +1127,6 @@ impl Random {
         call.state[OVERFLOW + 1] %= 4;
         call.record_lengths();
         call
-    }
-
-    /// Changes of a call, one of each of some kinds. What is tested first is changed last, so that no other change undoes it: it says with
-    /// what the call is refused.
-    fn change(&mut self, call: &mut Call, kinds: &[Kind<Call>; 5], chosen: usize) -> u32 {
-        let mut refused = 0;
-        for (_, kind) in kinds.iter().enumerate().rev().filter(|(k, _)| chosen >> k & 1 == 1) {
-            let big = if self.below(256) == 0 { kind.big } else { 0 };
-            let all = kind.changes.len() - kind.big + big;
-            kind.changes[self.below(all as u32)].1(call, self);
-            refused = kind.refused;
-        }
-        refused
-    }
-
-    /// Any words in the state: a few of them, or all, with lengths and counts that are right as often as not.
-    fn state(&mut self, call: &mut Call) {
-        let good = call.state;
-        if self.below(2) == 0 {
-            for _ in 0..=self.below(3) {
-                call.state[self.below(STATE as u32)] = if self.below(2) == 0 { self.word() } else { self.word() % 8 };
-            }
-            return;
-        }
-        call.state.fill_with(|| self.word());
-        [PROGRESS..BEGUN, RECTANGLE..DIRECTION, LENGTHS..TALLY].into_iter().for_each(|words| {
-            if self.below(2) == 0 {
-                call.state[words.clone()].copy_from_slice(&good[words]);
-            }
-        });
     }
 }
 
@@ -1490,37 +1311,16 @@ fn directed(entry: Entry, figures: &mut Figures) -> Result<(), String> {
     grid(entry, figures)
 }
 
-/// Each change by itself, each two of different kinds, and some of each set of kinds.
 fn changed(entry: Entry, figures: &mut Figures) -> Result<(), String> {
-    let kinds = kinds();
     let mut random = Random(102);
-    let pool: Vec<u32> = (0..4096).map(|_| random.word()).collect();
-    let all: Vec<(u32, Change)> =
-        kinds.iter().flat_map(|kind| kind.changes.iter().map(|&change| (kind.refused, change))).collect();
-    for (number, (name, change)) in &all {
-        for _ in 0..12 {
-            let mut call = random.call(&pool);
-            change(&mut call, &mut random);
-            let verdict = check(entry, &call, random.word(), figures)?;
-            expected(&call, verdict, *number, name);
-        }
-    }
-    for (k, (first, (name, change))) in all.iter().enumerate() {
-        for (_, (_, other)) in all[k..].iter().filter(|(second, _)| second != first) {
-            let mut call = random.call(&pool);
-            other(&mut call, &mut random);
-            change(&mut call, &mut random);
-            let verdict = check(entry, &call, random.word(), figures)?;
-            expected(&call, verdict, *first, name);
-        }
-    }
-    for chosen in (1..32).cycle().take(31 * 24) {
+    let pool = random.pool(4096);
+    each_change(&kinds(), [12, 24], |change, name| {
         let mut call = random.call(&pool);
-        let refused = random.change(&mut call, &kinds, chosen);
+        let refused = change(&mut call, &mut random);
         let verdict = check(entry, &call, random.word(), figures)?;
-        expected(&call, verdict, refused, "some changes");
-    }
-    Ok(())
+        expected(&call, verdict, refused, name);
+        Ok(())
+    })
 }
 
 /// Every axis of a few eighths, beside one that is seen.
@@ -1536,8 +1336,8 @@ fn grid(entry: Entry, figures: &mut Figures) -> Result<(), String> {
 }
 
 fn random(entry: Entry, calls: u64, seed: u64, figures: &mut Figures) -> Result<(), String> {
-    let mut random = Random(seed.wrapping_mul(0x9E37_79B9_7F4A_7C15) | 1);
-    let pool: Vec<u32> = (0..4096).map(|_| random.word()).collect();
+    let mut random = Random::seeded(seed);
+    let pool = random.pool(4096);
     let kinds = kinds();
     for _ in 0..calls {
         let mut call = random.call(&pool);
@@ -1546,7 +1346,7 @@ fn random(entry: Entry, calls: u64, seed: u64, figures: &mut Figures) -> Result<
             10..14 => 1 + random.below(31),
             14 => 16,
             _ => {
-                random.state(&mut call);
+                call.forge(&mut random, &[PROGRESS..BEGUN, RECTANGLE..DIRECTION, LENGTHS..TALLY]);
                 check(entry, &call, random.word(), figures)?;
                 continue;
             }
@@ -1567,17 +1367,11 @@ fn hunt(entry: Entry) -> Result<(), String> {
 }
 
 fn run(thousands: u64, seed: u64) -> Result<String, String> {
-    COUNTS.iter().for_each(|&(word, n)| assert_eq!(count(word), Some(n)));
-    STRANGE.iter().for_each(|&word| assert_eq!(count(word), None));
-    (-LARGEST..=LARGEST).step_by(997).for_each(|n| assert_eq!(count(bits(n)), Some(n)));
+    try_counts();
     // the closed form that the wrong ones are made from isn't wrong
     hunt(axis!("", closed).1).map_err(|place| format!("closed form: {place}"))?;
     let wrong = wrong();
-    for (name, entry) in &wrong {
-        if hunt(*entry).is_ok() {
-            return Err(format!("not found out: {name}"));
-        }
-    }
+    find_out(&wrong, |entry| hunt(*entry))?;
     let mut f = Figures::default();
     directed(PROVED, &mut f)?;
     let tried = f.calls;
@@ -1599,12 +1393,5 @@ fn run(thousands: u64, seed: u64) -> Result<String, String> {
 }
 
 fn main() {
-    let mut words = std::env::args().skip(1).map(|n| n.parse().expect("a number"));
-    match run(words.next().unwrap_or(400), words.next().unwrap_or(1)) {
-        Ok(figures) => println!("diff/reach: {figures}"),
-        Err(place) => {
-            println!("diff/reach: DIFFERENCE {place}");
-            std::process::exit(1);
-        }
-    }
+    report("reach", 400, run);
 }

@@ -9,6 +9,8 @@
 
 #[path = "../random.rs"]
 mod random;
+#[path = "../trial.rs"]
+mod trial;
 
 use random::Random;
 use std::ops::Range;
@@ -725,8 +727,7 @@ struct Trial<'a> {
 
 impl Trial<'_> {
     fn new(entry: &Entry, seed: u64) -> Trial<'_> {
-        let random = Random(seed.wrapping_mul(0x9E37_79B9_7F4A_7C15) | 1);
-        Trial { entry, random, figures: Figures::new() }
+        Trial { entry, random: Random::seeded(seed), figures: Figures::new() }
     }
 
     /// A table and its opening; and, where a word is named, that the words behind it have no say, and that none is named without its item's
@@ -919,11 +920,7 @@ fn hunt(entry: &Entry) -> Result<(), String> {
 
 fn run(thousands: u64, seed: u64) -> Result<String, String> {
     let wrong = wrong();
-    for (name, entry) in &wrong {
-        if hunt(entry).is_ok() {
-            return Err(format!("not found out: {name}"));
-        }
-    }
+    trial::find_out(&wrong, hunt)?;
     let entry: Entry = Box::new(proved);
     let mut trial = Trial::new(&entry, seed);
     trial.directed()?;

@@ -5,14 +5,15 @@
 //! CASES (20,000 unless said) are run of each profile, CALLS (as many as CASES) are damaged in each family, and 50 large cases
 //! are run. Then one bit of what the library says is flipped in each of 2,000 runs of each profile, and in 200 refused calls of
 //! each family: all must be noticed. The first difference is printed with its case, and the exit status is 1; so it is if no sum
-//! stood in some length, if too few boxes with a size keyword were compared with the Rust, if no item had several boxes, or if a family of
-//! the tally didn't answer all that it is there for. With --library-alone the second
+//! stood in some length, if too few boxes with a size keyword were compared with the Rust, if no item had several boxes, if no run or every
+//! one was refused to the touch driver, or if a family of the tally didn't answer all that it is there for. With --library-alone the second
 //! implementation isn't held to the Rust (diff/mutants changes one of them). With --figures the counts of each part are printed.
 mod answers;
 mod damage;
 mod model;
 mod rng;
 mod side;
+mod touched;
 mod typed;
 mod words;
 
@@ -206,6 +207,7 @@ fn show(name: &str, seen: &Counted) {
     println!("    {words} words compared, {nans} NaNs in layouts, {signs} zeros of another sign; openings refused {:?} (1 to 4)", &refused[1..5]);
     let Counted { items, shared, .. } = seen;
     println!("    {items} items with questions, {shared} of them with several boxes");
+    println!("    {} runs read by the touch driver, {} refused to it", seen.touched[0], seen.touched[1]);
     let Counted { with_sums, styles, styles_with_sums, sums, .. } = seen;
     println!("    {with_sums} runs by sums: {styles_with_sums} of {styles} styles, in each length {sums:?}");
     let Keywords { compared, closed, alone, other, runs_by_rust, runs_by_second } = seen.keywords;
@@ -333,6 +335,14 @@ fn some_items_had_several_boxes(o: &Options, seen: &Counted) {
     }
 }
 
+/// The touch driver read some runs, and some were refused to it
+fn some_runs_were_touched(o: &Options, seen: &Counted) {
+    if o.cases >= LONG_ENOUGH && seen.touched.contains(&0) {
+        println!("NO RUN, or every one, was refused to the touch driver: {:?}", seen.touched);
+        exit(1);
+    }
+}
+
 /// A sum stood in every length of a style that a box was placed by
 fn every_length_held_a_sum(o: &Options, seen: &Counted) {
     let none: Vec<usize> = (0..LENGTHS).filter(|&length| seen.sums[length] == 0).collect();
@@ -347,11 +357,12 @@ fn main() {
     let seen = all_profiles(&o);
     every_length_held_a_sum(&o, &seen);
     some_items_had_several_boxes(&o, &seen);
+    some_runs_were_touched(&o, &seen);
     let calls = damaged(&o);
     let flips = sabotage(&o);
     let Keywords { compared, alone, runs_by_rust, runs_by_second, .. } = seen.keywords;
     println!(
-        "diff/runs: seed {}: {} runs agree, {runs_by_rust} with the Rust, {runs_by_second} with the second implementation ({} boxes, {} questions; with a size keyword {compared} boxes with the Rust, {alone} with the second implementation; {} styles with sums, {} sums or more in each length; {} items with questions, {} of them with several boxes), {calls} damaged calls with document 01's table; {flips} flipped bits, all noticed",
+        "diff/runs: seed {}: {} runs agree, {runs_by_rust} with the Rust, {runs_by_second} with the second implementation ({} boxes, {} questions; with a size keyword {compared} boxes with the Rust, {alone} with the second implementation; {} styles with sums, {} sums or more in each length; {} items with questions, {} of them with several boxes; {} runs read by the touch driver, {} refused to it), {calls} damaged calls with document 01's table; {flips} flipped bits, all noticed",
         o.seed,
         seen.cases,
         seen.boxes,
@@ -360,5 +371,7 @@ fn main() {
         seen.sums.iter().min().unwrap(),
         seen.items,
         seen.shared,
+        seen.touched[0],
+        seen.touched[1],
     );
 }

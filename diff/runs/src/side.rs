@@ -25,6 +25,8 @@ pub struct Counted {
     /// Items with a question, and those of them that had several boxes
     pub items: u64,
     pub shared: u64,
+    /// Runs with boxes that the touch driver reads, and those that are refused to it
+    pub touched: [u64; 2],
     /// Words compared, those of them that are NaN, and zeros of another sign
     pub words: u64,
     pub nans: u64,
@@ -64,6 +66,7 @@ impl AddAssign<&Counted> for Counted {
         self.unclaimed += o.unclaimed;
         self.items += o.items;
         self.shared += o.shared;
+        (0..2).for_each(|i| self.touched[i] += o.touched[i]);
         self.words += o.words;
         self.nans += o.nans;
         self.signs += o.signs;
@@ -147,7 +150,11 @@ pub fn compare(
     if library.saboteur.is_some() {
         return Ok(());
     }
-    typed::compare(case, setting, run, &side.layers)
+    let touched = typed::compare(case, setting, run, &side.layers)?;
+    if !run.hoisted.is_empty() {
+        seen.touched[usize::from(!touched)] += 1;
+    }
+    Ok(())
 }
 
 fn held(call: &str, wanted: u32, result: u32) -> Result<(), Difference> {

@@ -1,5 +1,6 @@
 //! The same case through the Rust host (`hosts/rust`): its types, its encoding of records, its callbacks.
 use crate::side::{Difference, Setting};
+use crate::touched;
 use oof::{
     compute_oof_layout_with, words, Area, AvailableSpace, Candidate, Claims, Direction, LaidOut, NodeId, Overflow,
     Placed, Point, Rect, Room, Size, Style,
@@ -68,8 +69,9 @@ fn area(w: &[u32; 8]) -> Area {
     }
 }
 
-/// Places a good case through the Rust host, and holds what it says to the wanted run and to the layers of its lists
-pub fn compare(case: &Case, setting: &Setting, run: &Transcript, layers: &[Vec<u32>; 2]) -> Result<(), Difference> {
+/// Places a good case through the Rust host, and holds what it says to the wanted run and to the layers of its lists. Answers whether there
+/// is something for the touch driver, or its refusal.
+pub fn compare(case: &Case, setting: &Setting, run: &Transcript, layers: &[Vec<u32>; 2]) -> Result<bool, Difference> {
     let styles: Vec<Style> = case.styles.iter().map(|w| Style::from_words(w).expect("a good style")).collect();
     let candidates: Vec<Candidate> = case.candidates.iter().map(|w| candidate(w)).collect();
     let mut host = Behind { random: setting.host(case), asked: vec![] };
@@ -78,6 +80,8 @@ pub fn compare(case: &Case, setting: &Setting, run: &Transcript, layers: &[Vec<u
     let placed = compute_oof_layout_with(&mut host, &area(&case.area), &styles, &candidates, room);
     let placed = placed.map_err(|refusal| format!("the Rust host is refused: {refusal}"))?;
     hold("drawing order", placed.drawing_order() == drawing_order(&layers[0]))?;
+    let touched = touched::of(case, run);
+    hold("what the touch driver reads", placed.touch() == touched)?;
     let Placed { layouts, hoisted, unclaimed, overflow: o, questions, tally, .. } = placed;
 
     let same = same::all(&layouts, &run.layouts, |a, b| match (a, b) {
@@ -92,7 +96,8 @@ pub fn compare(case: &Case, setting: &Setting, run: &Transcript, layers: &[Vec<u
     hold("overflow", same::floats(&[o.left, o.right, o.top, o.bottom].map(f32::to_bits), &run.overflow))?;
     let records: Vec<_> = unclaimed.iter().map(Candidate::to_words).collect();
     hold("unclaimed", same::all(&records, &run.unclaimed, |a, b| same::record(&a[..UNLAYERED], b)))?;
-    hold("an unclaimed layer", records.iter().map(|record| record[LAYER]).eq(layers[1].iter().copied()))
+    hold("an unclaimed layer", records.iter().map(|record| record[LAYER]).eq(layers[1].iter().copied()))?;
+    Ok(touched.is_ok())
 }
 
 /// Lower layers first, and within one layer the hoisted order: a sort that keeps equals as they stand
