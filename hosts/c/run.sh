@@ -2,8 +2,8 @@
 # Builds the C programs against an installed copy of the proved library, outside the repository, and runs them: the tests, the
 # stored runs, whose output is held to replay.stdout, the measurement of the stack, and the examples, whose output is held to
 # example.stdout and touch.stdout. Before that, the header's numbers are held to the definitions, and the library to what README.md
-# says that it needs. README.md must have the size of the code as measured, and that of the stack as measured by the compiler that
-# it names.
+# says that it needs. README.md must have the size of the code as measured, that of the stack as measured by the compiler that it
+# names, and the map that touch.c prints.
 #
 #     tools/staticlib && hosts/c/run.sh
 #
@@ -74,4 +74,6 @@ for example in example touch; do
     "./$example" > stdout
     diff "$here/$example.stdout" stdout
 done
+# README shows the map that was printed last
+head -n 13 stdout | while IFS= read -r line; do must_say "    $line"; done
 echo "hosts/c: the examples' output is as it must be"
