@@ -1,6 +1,6 @@
 //! Compares a part that fills a lent slice from a finished run, WORDS words for each box, with a model of it. Here is what such parts share:
 //! calls of them, what they refuse, wrong entries, and changes of a call. What a program has of its own is taken from it by name.
-use crate::finished::{self, other_lengths, other_lengths_recorded, other_tallies};
+use crate::finished::{self, bad_nodes_and_codes, other_lengths, other_lengths_recorded, other_tallies, OneFilled};
 use crate::finished::{above, bad_record, bad_slices, each_change, of_a_run, unfinished, Run, REFUSALS};
 use crate::finished::{
     ANSWERED, BEGUN, CANDIDATE, CODES, FILLED, LAYER, LAYOUT, LAYOUTS, LENGTHS, NODE, ORDER, PROGRESS, STATE, STYLE,
@@ -790,47 +790,34 @@ pub fn one_box(c: &mut Call) -> usize {
     c.filled()
 }
 
-/// A filled record; if there is none, one is filled
-fn one_filled<'a>(c: &'a mut Call, r: &mut Random) -> &'a mut [u32] {
-    let boxes = one_box(c);
-    let k = r.below(boxes as u32);
-    c.filled_record(k)
+/// If there is none, one is filled.
+impl OneFilled for Call {
+    fn one_filled(&mut self, random: &mut Random) -> &mut [u32] {
+        let boxes = one_box(self);
+        let k = random.below(boxes as u32);
+        self.filled_record(k)
+    }
 }
 
 /// With 4
 pub fn other_records() -> Vec<Change> {
-    let nodes: Vec<Change> = vec![
-        ("node n", |c, r| one_filled(c, r)[NODE] = c.records(STYLES) as u32),
-        ("a node above n", |c, r| {
-            let n = c.records(STYLES) as u32;
-            one_filled(c, r)[NODE] = r.pick(&[n + 1, n + 2, n + 1024, 1 << 31, u32::MAX])
-        }),
-        ("a code one above its list", |c, r| {
-            let (k, most) = r.pick(&CODES);
-            one_filled(c, r)[k] = most + 1;
-        }),
-        ("a code above its list", |c, r| {
-            let (k, most) = r.pick(&CODES);
-            one_filled(c, r)[k] = most + 1 + r.word() / 2;
-        }),
-    ];
     let no_items: Vec<Change> = vec![("no items", |c, _| {
         one_box(c);
         c.resize(STYLES, 0);
         c.resize(LAYOUTS, 0);
     })];
-    [nodes, high_layers(), other_ends(), no_items].concat()
+    [bad_nodes_and_codes(), high_layers(), other_ends(), no_items].concat()
 }
 
 fn high_layers() -> Vec<Change> {
     vec![
-        ("layer 256", |c, r| one_filled(c, r)[LAYER] = 256),
+        ("layer 256", |c, r| c.one_filled(r)[LAYER] = 256),
         ("a layer whose low byte is good", |c, r| {
-            let layer = &mut one_filled(c, r)[LAYER];
+            let layer = &mut c.one_filled(r)[LAYER];
             *layer = *layer & 0xFF | 1 << (8 + r.below(24));
         }),
-        ("any layer above 255", |c, r| one_filled(c, r)[LAYER] = r.word().max(256)),
-        ("no layer at all", |c, r| one_filled(c, r)[LAYER] = r.pick(&[0x7FC0_0000, 0x7FC0_0001, 1 << 31, u32::MAX])),
+        ("any layer above 255", |c, r| c.one_filled(r)[LAYER] = r.word().max(256)),
+        ("no layer at all", |c, r| c.one_filled(r)[LAYER] = r.pick(&[0x7FC0_0000, 0x7FC0_0001, 1 << 31, u32::MAX])),
     ]
 }
 

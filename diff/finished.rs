@@ -334,3 +334,28 @@ pub fn too_many<C: DerefMut<Target = Run>>() -> Vec<Change<C>> {
         ("4,097 records", |c, r| c.resize(WORKING + r.below(2), 4097)),
     ]
 }
+
+/// A call of which a filled record can be damaged
+pub trait OneFilled: DerefMut<Target = Run> {
+    /// Any of them
+    fn one_filled(&mut self, random: &mut Random) -> &mut [u32];
+}
+
+/// With 4
+pub fn bad_nodes_and_codes<C: OneFilled>() -> Vec<Change<C>> {
+    vec![
+        ("node n", |c, r| c.one_filled(r)[NODE] = c.records(STYLES) as u32),
+        ("a node above n", |c, r| {
+            let n = c.records(STYLES) as u32;
+            c.one_filled(r)[NODE] = r.pick(&[n + 1, n + 2, n + 1024, 1 << 31, u32::MAX])
+        }),
+        ("a code one above its list", |c, r| {
+            let (k, most) = r.pick(&CODES);
+            c.one_filled(r)[k] = most + 1;
+        }),
+        ("a code above its list", |c, r| {
+            let (k, most) = r.pick(&CODES);
+            c.one_filled(r)[k] = most + 1 + r.word() / 2;
+        }),
+    ]
+}

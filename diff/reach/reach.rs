@@ -14,7 +14,7 @@ mod trial;
 
 use eighths::{bits, count, try_counts, COUNTS, LARGEST, LOCATION_AND_SIZE, STRANGE};
 use finished::{above, bad_record, bad_slices, each_change, entry, of_a_run, unfinished, Kind, Run};
-use finished::{other_lengths, other_lengths_recorded, other_tallies, too_many};
+use finished::{bad_nodes_and_codes, other_lengths, other_lengths_recorded, other_tallies, too_many, OneFilled};
 use finished::{
     ANSWERED, AREA, BEGUN, CANDIDATE, CODES, DIRECTION, FILLED, LAYER, LAYOUTS, LENGTHS, OVERFLOW, PROGRESS, RECTANGLE,
     REFUSALS, STATE, STYLE, STYLES, TALLY, UNCLAIMED, WIDTHS, WORKING,
@@ -940,26 +940,16 @@ fn counts() -> Vec<Change> {
     ]
 }
 
-fn candidates() -> Vec<Change> {
-    fn filled<'a>(c: &'a mut Call, r: &mut Random) -> &'a mut [u32] {
-        let k = r.below(c.filled().min(c.records(WORKING)).max(1) as u32);
-        &mut c.slices[WORKING][CANDIDATE * k..][..CANDIDATE]
+impl OneFilled for Call {
+    fn one_filled(&mut self, random: &mut Random) -> &mut [u32] {
+        let k = random.below(self.filled().min(self.records(WORKING)).max(1) as u32);
+        self.filled_record(k)
     }
-    vec![
-        ("node n", |c, r| filled(c, r)[0] = c.records(STYLES) as u32),
-        ("a node above n", |c, r| {
-            let n = c.records(STYLES) as u32;
-            filled(c, r)[0] = r.pick(&[n + 1, n + 2, n + 1024, 1 << 31, u32::MAX])
-        }),
-        ("a code one above its list", |c, r| {
-            let (k, most) = r.pick(&CODES);
-            filled(c, r)[k] = most + 1;
-        }),
-        ("a code above its list", |c, r| {
-            let (k, most) = r.pick(&CODES);
-            filled(c, r)[k] = most + 1 + r.word() / 2;
-        }),
-        ("a layer above 255", |c, r| filled(c, r)[LAYER] = r.pick(&BAD_LAYERS)),
+}
+
+fn candidates() -> Vec<Change> {
+    let own: Vec<Change> = vec![
+        ("a layer above 255", |c, r| c.one_filled(r)[LAYER] = r.pick(&BAD_LAYERS)),
         ("no items", |c, _| {
             c.resize(STYLES, 0);
             c.resize(LAYOUTS, 0);
@@ -971,7 +961,8 @@ fn candidates() -> Vec<Change> {
                 *word = most + 1
             }
         }),
-    ]
+    ];
+    [bad_nodes_and_codes(), own].concat()
 }
 
 fn numbers() -> Vec<Change> {

@@ -196,16 +196,7 @@ fn refused_by_name() {
     assert_eq!(w.drawing_order(3), Err(Refusal::BadExtent));
 }
 
-/// An open run has boxes, and no order of them; a list of fewer records than are filled; a refused opening has none
 #[test]
 fn unfinished() {
-    let w = Words::opened();
-    assert_eq!((w.drawing_order(3), w.drawing_order(2)), (Err(Refusal::WrongReply), Err(Refusal::BadExtent)));
-    let mut short = Words::finished();
-    short.working.truncate(2 * CANDIDATE);
-    short.state[state::LENGTHS + 2] = 2 * CANDIDATE as u32;
-    assert_eq!((short.drawing_order(3), short.drawing_order(2)), (Err(Refusal::WrongReply), Err(Refusal::BadExtent)));
-    let mut closed = Words::finished();
-    assert_eq!(closed.call(|lent| ffi::open([800.0, 480.0, 0.0, 0.0], [2, 3, 3, 3], &[], lent)), 1);
-    assert_eq!((closed.drawing_order(0), closed.drawing_order(3)), (Ok(vec![]), Err(Refusal::BadExtent)));
+    filled::unfinished(ffi::drawing_order, 1, &Words::opened(), Words::finished());
 }

@@ -283,16 +283,7 @@ fn refused_by_name() {
     assert_eq!(ragged.touch(15), Err(Refusal::BadExtent));
 }
 
-/// An open run has boxes, and no words of them; a list of fewer records than are filled; a refused opening has none
 #[test]
 fn unfinished() {
-    let w = Words::opened();
-    assert_eq!((w.touch(15), w.touch(10)), (Err(Refusal::WrongReply), Err(Refusal::BadExtent)));
-    let mut short = Words::finished();
-    short.working.truncate(2 * CANDIDATE);
-    short.state[state::LENGTHS + 2] = 2 * CANDIDATE as u32;
-    assert_eq!((short.touch(15), short.touch(10)), (Err(Refusal::WrongReply), Err(Refusal::BadExtent)));
-    let mut closed = Words::finished();
-    assert_eq!(ffi::open([800.0, 480.0, 100.0, 40.0], [2, 3, 0, 0], &[], &mut closed.lent()), 1);
-    assert_eq!((closed.touch(0), closed.touch(5)), (Ok(vec![]), Err(Refusal::BadExtent)));
+    filled::unfinished(ffi::touch, ffi::TOUCH, &Words::opened(), Words::finished());
 }
