@@ -1,13 +1,13 @@
 -- What is there where the tests are passed: the filled records, and the record and the layout of the box at a place. Assumes nothing.
 use Prim.Native.Nat.{ℕ, zero, suc, ◌+◌, ◌*◌, ◌/◌, ◌≤◌, ◌<◌}
 use native.Mathlib.Omega.{arith}
-use native.Mathlib.Nat.{add-zero, mul-div-le, mul-le-mul_left, le_trans, not-suc-le-zero, le_of_suc-le-suc}
+use native.Mathlib.Nat.{add-zero, mul-div-le, mul-le-mul_left, le_trans, not-suc-le-zero, le_of_suc-le-suc, suc-add}
 use mathlib.Core.Bool.{Bool, true, false, ◌||◌}
 use mathlib.Core.List.{List, [], ◌∷◌, map}
 use mathlib.Core.Path.{◌≡◌, refl, ap, ◌∙◌}
 use lib.Dec.{leb, ltb, lit<}
 use lib.Seq.{length-take-le}
-use lib.ListN.{length, get_or, take, drop}
+use lib.ListN.{length, get_or, take, drop, drop_of_length-le}
 use borrow.Author.Tests.{leb-false, ltb-false}
 use Rattle.std.specs.Prelude.{is_some}
 use Rattle.std.proofs.lemmas.Bool.{or_parts}
@@ -72,6 +72,17 @@ first_said f k same n ws rs e h = rw e (ap (map (λ (r : List ℕ). get_or r k 0
     by_word : (rs : List (List ℕ)) → map (λ (r : List ℕ). get_or r k 0) rs ≡ map f (map candidate_of rs)
     by_word [] = refl
     by_word (r ∷ rs) = ap (λ (v : ℕ). v ∷ map (λ (r : List ℕ). get_or r k 0) rs) (same r) ∙ ap (λ (l : List ℕ). f (candidate_of r) ∷ l) (by_word rs)
+
+-- ---- what a word of each of some records says, from record i on, as a pass over them goes
+
+pub said_step : (k : ℕ) (rs : List (List ℕ)) (i : ℕ) → i < length rs
+    → drop i (map (λ (r : List ℕ). get_or r k 0) rs) ≡ get_or (get_or rs i []) k 0 ∷ drop (i + 1) (map (λ (r : List ℕ). get_or r k 0) rs)
+said_step k [] i h = absurd (not-suc-le-zero h)
+said_step k (r ∷ rs) zero h = refl
+said_step k (r ∷ rs) (suc i) h = rw (suc-add i 1) (said_step k rs i (le_of_suc-le-suc h))
+
+pub said_end : (k : ℕ) (rs : List (List ℕ)) (i : ℕ) → length rs ≤ i → drop i (map (λ (r : List ℕ). get_or r k 0) rs) ≡ []
+said_end k rs i h = drop_of_length-le (map (λ (r : List ℕ). get_or r k 0) rs) (rw (length-map rs (λ (r : List ℕ). get_or r k 0)) h)
 
 -- ---- where the tests are passed, whatever the part itself calls a bad extent
 

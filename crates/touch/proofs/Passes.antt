@@ -1,10 +1,9 @@
 -- One step of each pass over the boxes' records. Assumes nothing.
-use Prim.Native.Nat.{ℕ, zero, suc, ◌+◌, ◌*◌, ◌<◌, ◌≤◌}
+use Prim.Native.Nat.{ℕ, ◌+◌, ◌*◌, ◌<◌, ◌≤◌}
 use native.Mathlib.Omega.{arith}
-use native.Mathlib.Nat.{not-suc-le-zero, le_of_suc-le-suc, suc-add}
-use mathlib.Core.List.{List, [], ◌∷◌, ◌++◌, append_assoc, append-nil}
+use mathlib.Core.List.{List, [], ◌++◌, append_assoc, append-nil}
 use mathlib.Core.Path.{◌≡◌, refl, sym, ap, ◌∙◌, subst}
-use lib.ListN.{length, get_or, take, drop, drop_of_length-le, length-append}
+use lib.ListN.{length, get_or, take, drop, length-append}
 use lib.Seq.{take_all, take-append-le, length-take-le}
 use Rattle.std.specs.Prelude.{ℤ, Float, Result, Ok, Err, IsOk, All, is_ok}
 use Rattle.std.proofs.lemmas.List.{length-map, get_or-map}
@@ -16,6 +15,7 @@ use Rattle.records.proofs.Laws.{written_length, written_parts}
 use Rattle.tree_record.specs.Layout.{layout_width, layout_of}
 use Rattle.pixels.specs.Pixels.{pixel_edges}
 use Rattle.run.specs.Refusals.{accepted, refused}
+use Rattle.finished.proofs.There.{said_step, said_end}
 use Rattle.touch.specs.Touch.{touch_width, five_words, told, box_words, joined, touch_words}
 use Rattle.touch.specs.Passes.{nodes_by_word, HasLayout, verdict_of}
 
@@ -26,14 +26,6 @@ rest rs i = drop i (nodes_by_word rs)
 
 abbrev pub node_at : List (List ℕ) → ℕ → ℕ
 node_at rs i = get_or (get_or rs i []) 0 0
-
-rest_step : (rs : List (List ℕ)) (i : ℕ) → i < length rs → rest rs i ≡ node_at rs i ∷ rest rs (i + 1)
-rest_step [] i h = absurd (not-suc-le-zero h)
-rest_step (r ∷ rs) zero h = refl
-rest_step (r ∷ rs) (suc i) h = rw (suc-add i 1) (rest_step rs i (le_of_suc-le-suc h))
-
-rest_end : (rs : List (List ℕ)) (i : ℕ) → length rs ≤ i → rest rs i ≡ []
-rest_end rs i h = drop_of_length-le (nodes_by_word rs) (rw (length-map rs (λ r. get_or r 0 0)) h)
 
 pub has_layout : (layouts : List ℕ) (rs : List (List ℕ)) (i : ℕ) → i < length rs → All (HasLayout layouts) (nodes_by_word rs) → HasLayout layouts (node_at rs i)
 has_layout layouts rs i h all =
@@ -75,11 +67,11 @@ module _ (layouts : List ℕ) (offset : Point Float) (rs : List (List ℕ)) wher
 
   from_step : (i : ℕ) → i < length rs → from i ≡ joined (box i) (from (i + 1))
   unfolding touch_words
-  from_step i h = ap (touch_words layouts offset) (rest_step rs i h)
+  from_step i h = ap (touch_words layouts offset) (said_step 0 rs i h)
 
   from_end : (i : ℕ) → length rs ≤ i → from i ≡ Ok []
   unfolding touch_words
-  from_end i h = ap (touch_words layouts offset) (rest_end rs i h)
+  from_end i h = ap (touch_words layouts offset) (said_end 0 rs i h)
 
   -- ---- the first pass: the verdict of all is that of those not yet tested
 
