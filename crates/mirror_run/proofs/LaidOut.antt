@@ -90,7 +90,7 @@ module _ (ws : List ℕ) (n node : ℕ) (long : length ws ≡ layout_width * n) 
 
   -- any other stays
   pub kept_there : (i : ℕ) → (i ≡ node → ⊥) → record_at layout_width (written ws (layout_width * node) (layout_words l)) i ≡ record_at layout_width ws i
-  kept_there i d = others_kept layout_width node i ws (layout_words l) (layout_widths.1 l) room_there d
+  kept_there i d = others_kept layout_width node i ws (layout_words l) (layout_widths.1 l) d
 
 module _ (f : Frame) (c : Counts) (p p' : Own) (lists : Lists f c.filled p p') (begun : 0 < c.begun) (waiting : c.begun ≤ c.filled.working)
     (long : length p.layouts ≡ layout_width * items f.styles) (long' : length p'.layouts ≡ layout_width * items f.styles)

@@ -19,7 +19,7 @@ use Rattle.std.proofs.lemmas.List.Folds.{list_all_more}
 use Rattle.util.proofs.Floats.{is_nan_lem}
 use Rattle.util.proofs.Laws.{word_back}
 use Rattle.records.specs.Records.{record_at, records, room, written, Kind, canonical_word, every, breaks, good, good_records}
-use Rattle.records.specs.Laws.{WrittenLength, WrittenParts, WrittenTwice, RecordOfRecords, WordOfRecord, RearBack, RecordBack, OthersKept, FloatWord, NanWord, EveryIs, GoodIsUnbroken}
+use Rattle.records.specs.Laws.{WrittenLength, WrittenParts, WrittenTwice, WrittenOver, WrittenSame, RecordOfRecords, WordOfRecord, RearBack, RecordBack, OthersKept, FloatWord, NanWord, EveryIs, GoodIsUnbroken}
 
 -- ---- writing
 
@@ -57,6 +57,21 @@ pub drop_written : (n : ℕ) (ws : List ℕ) (at : ℕ) (vs : List ℕ) → at +
 unfolding written
 drop_written n ws at [] h = refl
 drop_written n ws at (v ∷ vs) h = drop_written n (set ws at v) (suc at) vs (omega arith) ∙ drop-set-lt n ws at v (omega arith)
+
+pub written_same : WrittenSame
+written_same ws at n h =
+    let own : List ℕ = take n (drop at ws) in
+    let long : length own ≡ n = length-take-le n (drop at ws) (let d = length-drop at ws in omega (arith, d, h)) in
+    written_parts ws at own (omega (arith, long, h))
+    ∙ rw (long, ← drop-drop n at ws, append_assoc (take at ws) own (drop n (drop at ws))) (ap (λ (l : List ℕ). take at ws ++ l) (take-append-drop n (drop at ws)) ∙ take-append-drop at ws)
+
+pub written_over : WrittenOver
+written_over ws at us vs e h =
+    let over : List ℕ = written ws at us in
+    let room : at + length vs ≤ length over = (rw (written_length ws at us) h) in
+    let outside : take at over ++ vs ++ drop (at + length vs) over ≡ take at ws ++ vs ++ drop (at + length vs) ws =
+    (rw (take_written at ws at us (omega arith), drop_written (at + length vs) ws at us (omega (arith, e))) refl) in
+    written_parts over at vs room ∙ outside ∙ sym (written_parts ws at vs h)
 
 -- ---- records
 
@@ -155,7 +170,7 @@ unfolding record_at
 after_kept w at i ws vs h = ap (take w) (drop_written (w * i) ws at vs h)
 
 pub others_kept : OthersKept
-others_kept w k i ws r e h d = go (ltb i k) refl
+others_kept w k i ws r e d = go (ltb i k) refl
   where
     go : (b : Bool) → ltb i k ≡ b → record_at w (written ws (w * k) r) i ≡ record_at w ws i
     go true p =

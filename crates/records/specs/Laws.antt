@@ -20,6 +20,16 @@ abbrev pub WrittenTwice : Type 0
 WrittenTwice =
     (ws : List ℕ) (at : ℕ) (us vs : List ℕ) → written ws at (us ++ vs) ≡ written (written ws at us) (at + length us) vs
 
+-- a second write over the same words: nothing of the first is left
+abbrev pub WrittenOver : Type 0
+WrittenOver =
+    (ws : List ℕ) (at : ℕ) (us vs : List ℕ) → length us ≡ length vs → at + length vs ≤ length ws
+    → written (written ws at us) at vs ≡ written ws at vs
+
+-- the words that are there, written over themselves
+abbrev pub WrittenSame : Type 0
+WrittenSame = (ws : List ℕ) (at n : ℕ) → at + n ≤ length ws → written ws at (take n (drop at ws)) ≡ ws
+
 -- ---- records
 
 abbrev pub RecordOfRecords : Type 0
@@ -34,7 +44,7 @@ RearBack =
     (w held m : ℕ) (ws vs : List ℕ) → length vs ≡ w * m → w * held + length vs ≤ length ws
     → records w (held + m) (written ws (w * held) vs) ≡ records w held ws ++ records w m vs
 
--- a record written at its place is read back there, and no other record changes
+-- a record written at its place is read back there, and no other record changes, wherever it is written
 abbrev pub RecordBack : Type 0
 RecordBack =
     (w k : ℕ) (ws r : List ℕ) → length r ≡ w → w * k + w ≤ length ws
@@ -42,7 +52,7 @@ RecordBack =
 
 abbrev pub OthersKept : Type 0
 OthersKept =
-    (w k i : ℕ) (ws r : List ℕ) → length r ≡ w → w * k + w ≤ length ws → i ≢ k
+    (w k i : ℕ) (ws r : List ℕ) → length r ≡ w → i ≢ k
     → record_at w (written ws (w * k) r) i ≡ record_at w ws i
 
 -- ---- words

@@ -1,3 +1,4 @@
+pub mod Replaced
 pub mod Computed
 pub mod Codes
 pub mod Walk
@@ -6,4 +7,5 @@ pub mod First
 pub mod Written
 pub mod Laws
 pub mod Front
+pub mod Copies
 pub mod Fields

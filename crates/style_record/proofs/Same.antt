@@ -1,12 +1,13 @@
 -- Records with the same words are read alike; an item's record by itself, and at its place in a table. Assumes nothing.
-use Prim.Native.Nat.{ℕ, ◌+◌, ◌-◌, ◌*◌, ◌/◌, ◌<◌, ◌≤◌}
+use Prim.Native.Nat.{ℕ, ◌+◌, ◌-◌, ◌*◌, ◌<◌, ◌≤◌}
 use native.Mathlib.Omega.{arith}
-use mathlib.Core.Path.{◌≡◌, refl, ap, ◌∙◌}
-use mathlib.Core.List.{List, []}
+use native.Mathlib.Nat.{mul-div-le}
+use mathlib.Core.Path.{◌≡◌, refl}
+use mathlib.Core.List.{List}
 use lib.Dec.{lit<, lit≤}
 use lib.ListN.{length, get_or}
-use Rattle.records.specs.Records.{record_at, records}
-use Rattle.records.proofs.Laws.{word_of_record, record_of_records, length_records}
+use Rattle.records.specs.Records.{record_at}
+use Rattle.records.proofs.Laws.{word_of_record}
 use Rattle.style_record.specs.Record.{length_words, tag_word, ratio_present_word, ratio_word, box_sizing_word, flags_word, direction_word, justify_word, align_word, overflow_x_word, overflow_y_word, scrollbar_word, contain_word, style_words, item, items}
 use Rattle.style_record.specs.Check.{breaks_rule}
 use Rattle.style_record.specs.Decode.{length_at, rect_at, size_at, align_at, ratio_at, overflow_at, style_of, style_at}
@@ -79,11 +80,8 @@ module _ (s : List ℕ) (i : ℕ) {r : List ℕ} (there : r ≡ record_at style_
 
 -- ---- the whole records of a table
 
-module _ (s : List ℕ) (rs : List (List ℕ)) (whole : rs ≡ records style_words (length s / style_words) s) where
-  pub as_many : length rs ≡ items s
-  unfolding items
-  as_many = rw whole (length_records style_words (length s / style_words) s)
-
-  pub record_there : (i : ℕ) → i < length rs → get_or rs i [] ≡ record_at style_words s i
-  unfolding items
-  record_there i h = ap (λ (l : List (List ℕ)). get_or l i []) whole ∙ record_of_records style_words (length s / style_words) s i (let e = as_many in omega arith)
+pub item_inside : (s : List ℕ) (i : ℕ) → i < items s → style_words * i + style_words ≤ length s
+unfolding items
+item_inside s i h =
+    let most = mul-div-le (length s) style_words in
+    omega (arith, h, most)

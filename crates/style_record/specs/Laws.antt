@@ -1,6 +1,6 @@
 -- What the definitions of this crate mean, as statements. `proofs/` proves each, under its name in small letters.
 -- `fits binary32 x` says that x is a value of an f32: true of every f32 of a program. Assumes nothing.
-use Rattle.std.specs.Prelude.{ℕ, ◌+◌, ◌*◌, ◌<◌, ◌≤◌, ◌⊎◌, ◌↔◌, ◌≡◌, true, false, not, ◌&&◌, List, ◌++◌, get_or, length, T, ltb, IsNone, Result, Ok, Err, ⊤, Float, None, Option, Some}
+use Rattle.std.specs.Prelude.{ℕ, ◌+◌, ◌*◌, ◌<◌, ◌≤◌, ◌⊎◌, ◌↔◌, ◌≢◌, ◌≡◌, true, false, not, ◌&&◌, List, ◌++◌, get_or, length, T, ltb, IsNone, Result, Ok, Err, ⊤, Float, None, Option, Some}
 use Rattle.std.specs.Float.Ieee.{fits, of_bits}
 use Rattle.std.specs.Float.{binary32}
 use Rattle.style.specs.declared.compact_length.CompactLength.{CompactLength}
@@ -11,11 +11,13 @@ use Rattle.style.specs.declared.resolve.Field.{Field}
 use Rattle.style.specs.declared.resolve.Field.TheVariants as field
 use Rattle.style.specs.Codes.{sizing_of, overflow_of, direction_of, alignment_of, bit0, bit1, contain_of}
 use Rattle.style.specs.Laws.{tags_of, among}
+use Rattle.records.specs.Records.{record_at}
 use Rattle.style_record.specs.Record.{length_words, code_words, after_lengths, style_words, length_kinds, code_kinds, kind_of, items}
 use Rattle.style_record.specs.Check.{breaks_as, breaks, first_broken, bad_at, checked}
 use Rattle.style_record.specs.Codes.{last_code, is_ignored}
 use Rattle.style_record.specs.Decode.{style_of, style_at}
 use Rattle.style_record.specs.Encode.{encoded, kept}
+use Rattle.style_record.specs.Table.{with_style}
 use Rattle.style_record.specs.declared.check.BadWord.{BadWord}
 
 -- ---- the widths
@@ -119,6 +121,48 @@ BehindIsNext = (s t : List ℕ) (n : ℕ) → length s ≡ style_words * n → c
 -- a trailing part of a record is not looked at
 abbrev pub PartIsPassedOver : Type 0
 PartIsPassedOver = (s t : List ℕ) (n : ℕ) → length s ≡ style_words * n → length t < style_words → checked (s ++ t) ≡ checked s
+
+-- ---- a copy of a table with one style written in (request #109)
+
+-- the node's record is that style, and is decoded as it is by itself
+abbrev pub CopyHasTheStyle : Type 0
+CopyHasTheStyle =
+    (styles : List ℕ) (node : ℕ) (style : List ℕ) → length style ≡ style_words → node < items styles
+    → let copy = with_style styles node style in
+    (record_at style_words copy node ≡ style) × (style_at copy node ≡ style_at style 0)
+
+-- every other record is the table's own
+abbrev pub OthersAreLent : Type 0
+OthersAreLent =
+    (styles : List ℕ) (node : ℕ) (style : List ℕ) (i : ℕ) → length style ≡ style_words → i ≢ node
+    → let copy = with_style styles node style in
+    (record_at style_words copy i ≡ record_at style_words styles i) × (style_at copy i ≡ style_at styles i)
+
+-- it is as long, whatever is written
+abbrev pub CopyIsAsLong : Type 0
+CopyIsAsLong =
+    (styles : List ℕ) (node : ℕ) (style : List ℕ)
+    → let copy = with_style styles node style in
+    (length copy ≡ length styles) × (items copy ≡ items styles)
+
+-- nothing is left of a style that was written in before, nor of the table's own
+abbrev pub CopyIsOver : Type 0
+CopyIsOver =
+    (styles : List ℕ) (node : ℕ) (before style : List ℕ) → length before ≡ style_words → length style ≡ style_words → node < items styles
+    → with_style (with_style styles node before) node style ≡ with_style styles node style
+
+-- its check reads that style in place of the table's own: nothing is named exactly where nothing is in the style by itself, and no word of another
+-- record breaks a rule
+abbrev pub ReplacementIsChecked : Type 0
+ReplacementIsChecked =
+    (styles : List ℕ) (node : ℕ) (style : List ℕ) → length style ≡ style_words → node < items styles
+    → (checked (with_style styles node style) ≡ Ok tt) ↔ ((checked style ≡ Ok tt) × ((i : ℕ) → i < items styles → i ≢ node → AllGood styles i))
+
+-- and it names word k of the node exactly where that is the word named in the style by itself, and every record before is good
+abbrev pub ReplacementIsNamed : Type 0
+ReplacementIsNamed =
+    (styles : List ℕ) (node : ℕ) (style : List ℕ) (k : ℕ) → length style ≡ style_words → node < items styles
+    → (checked (with_style styles node style) ≡ bad_at node k) ↔ ((checked style ≡ bad_at 0 k) × ((i : ℕ) → i < node → AllGood styles i))
 
 -- ---- the decoding, by the number of each word
 

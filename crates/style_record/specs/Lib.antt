@@ -1,4 +1,5 @@
 pub mod Record
+pub mod Table
 pub mod Check
 pub mod Codes
 pub mod Decode

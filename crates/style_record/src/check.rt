@@ -4,9 +4,9 @@ ghost use Rattle.style_record.specs.Record.{after_lengths, style_words, kind_of}
 ghost use Rattle.style_record.specs.Check.{breaks_rule, checked};
 ghost use Rattle.style_record.specs.Codes.{last_code, is_ignored};
 
+use crate::table::Table;
 use crate::words;
 use crate::words::STYLE_WORDS;
-use records::whole_records;
 use style::resolve::Field;
 
 // The first item of a table with a word that breaks a rule, and its first such word, in record order from 0.
@@ -63,11 +63,12 @@ fn code_breaks(item: &[u32; STYLE_WORDS], k: usize) -> bool
 // not looked at. An item's tags are walked as document 01 has them: insets and margins, padding and borders, then the sizes, of which min
 // and max take what the size does. The labelled break out of both walks is document 01's form, so an item's words are no function of their own. Three loops over tags:
 // one over the fields takes three times as long (bench/README.md).
-pub fn check_styles(styles: &[u32]) -> Result<(), BadWord>
+pub fn check_styles(styles: &Table) -> Result<(), BadWord>
     ensures { result ≡ checked styles.now }
 {
     let mut found = Ok(());
-    'items: for (item, record) in whole_records::<STYLE_WORDS>(styles).iter().enumerate() {
+    'items: for item in 0..styles.items() {
+        let record = styles.record(item);
         for word in (words::INSET..words::PADDING).step_by(words::LENGTH_WORDS) {
             if !Field::InsetOrMargin.takes(record[word]) {
                 found = Err(BadWord { item, word });

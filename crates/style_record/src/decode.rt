@@ -3,10 +3,10 @@ ghost use Rattle.std.specs.Prelude.{◌≡◌, ◌+◌, ◌*◌, ◌≤◌, leng
 ghost use Rattle.style_record.specs.Record.{length_words, style_words};
 ghost use Rattle.style_record.specs.Decode.{length_at, rect_at, size_at, ratio_at, style_of, style_at};
 
+use crate::table::Table;
 use crate::words;
 use crate::words::STYLE_WORDS;
 use geometry::{Point, Rect, Size};
-use records::record_at;
 use style::alignment::AlignItems;
 use style::compact_length::CompactLength;
 use style::{BoxSizing, Contain, Direction, Overflow, Style, bits};
@@ -16,6 +16,7 @@ use util::bits as floats;
 // rectangle and a size have their fields by name, so that one function for both would read more than it says.
 
 #[tactic(auto, unfolding(crate::specs::Decode::length_at))]
+#[inline(always)]
 fn length_at(item: &[u32; STYLE_WORDS], k: usize) -> CompactLength
     requires { k + length_words ≤ style_words }
     ensures { result ≡ length_at (slice_index item.now) k }
@@ -28,6 +29,7 @@ fn length_at(item: &[u32; STYLE_WORDS], k: usize) -> CompactLength
 }
 
 #[tactic(auto, unfolding(crate::specs::Decode::rect_at))]
+#[inline(always)]
 fn rect_at(item: &[u32; STYLE_WORDS], k: usize) -> Rect<CompactLength>
     requires { k + 4 * length_words ≤ style_words }
     ensures { result ≡ rect_at (slice_index item.now) k }
@@ -41,6 +43,7 @@ fn rect_at(item: &[u32; STYLE_WORDS], k: usize) -> Rect<CompactLength>
 }
 
 #[tactic(auto, unfolding(crate::specs::Decode::size_at))]
+#[inline(always)]
 fn size_at(item: &[u32; STYLE_WORDS], k: usize) -> Size<CompactLength>
     requires { k + 2 * length_words ≤ style_words }
     ensures { result ≡ size_at (slice_index item.now) k }
@@ -53,6 +56,7 @@ fn size_at(item: &[u32; STYLE_WORDS], k: usize) -> Size<CompactLength>
 
 // Document 01's record: a word says whether there is a ratio, and the next one is it.
 #[tactic(auto, unfolding(crate::specs::Decode::ratio_at))]
+#[inline(always)]
 fn ratio_at(item: &[u32; STYLE_WORDS]) -> Option<f32>
     ensures { result ≡ ratio_at (slice_index item.now) }
 {
@@ -61,6 +65,7 @@ fn ratio_at(item: &[u32; STYLE_WORDS]) -> Option<f32>
 
 // No `From`: neither type is this crate's.
 #[tactic(auto, unfolding(crate::specs::Decode::style_of, crate::specs::Decode::align_at, crate::specs::Decode::overflow_at))]
+#[inline(always)]
 fn style_of(item: &[u32; STYLE_WORDS]) -> Style
     ensures { result ≡ style_of (slice_index item.now) }
 {
@@ -90,9 +95,10 @@ fn style_of(item: &[u32; STYLE_WORDS]) -> Style
 
 // The style of an item.
 #[tactic(auto, using(crate::proofs::Same::style_of_item))]
-pub fn style_at(styles: &[u32], node: usize) -> Style
+#[inline(always)]
+pub fn style_at(styles: &Table, node: usize) -> Style
     requires { style_words * node + style_words ≤ length styles.now }
     ensures { result ≡ style_at styles.now node }
 {
-    style_of(record_at(styles, node))
+    style_of(styles.record(node))
 }

@@ -3,4 +3,5 @@
 
 pub mod check;
 pub mod decode;
+pub mod table;
 pub mod words;

@@ -8,6 +8,7 @@ ghost use Rattle.style_record.specs.Record.{style_words};
 
 use std::io;
 use style_record::check::BadWord;
+use style_record::table::Table;
 use style_record::words::STYLE_WORDS;
 use style_record::{check, words};
 
@@ -86,7 +87,7 @@ fn fill(table: &mut [u32]) {
 // Prints what the check finds: a dash, or item and word.
 // `rt` goes beside the table, here and below: it is what may print, and a struct of both would borrow the table for as long as it prints.
 fn report(rt: &impl Print, table: &[u32]) -> io::Result<()> {
-    match check::check_styles(table) {
+    match check::check_styles(&Table::from(table)) {
         Ok(()) => print!(rt; " -"),
         Err(BadWord { item, word }) => print!(rt; " {item}:{word}"),
     }
