@@ -1,19 +1,21 @@
 #!/usr/bin/env python3
 """Misreadings written into definition and code alike, and what the checker then refuses. Run at the root of the repository after a check.
 
-    tools/misread/edits.py [axis|box] [WORD]
+    tools/misread/edits.py [axis|box|preview] [WORD]
     tools/misread/edits.py --applied                          only tries whether the old texts of all entries stand where they should
 
-tries all of both lists, of one of them, or those whose name has WORD, one after another, in a copy of crates/. An entry of axis_edits.py
-or box_edits.py is a name, crates, and edits: a file under crates/, the old text, the new one, and how often the old one stands there if not once. A
-pair as old text is all from the first up to the second (None: to the file's end); None as old text takes the file away. A name is that of the same
-misreading of the models axis.py and box.py, which then say which of the refused laws and rows are false: so a law that is broken is told apart from
+tries all of the three lists, of one of them, or those whose name has WORD, one after another, in a copy of crates/. An entry of axis_edits.py
+or box_edits.py is a name, crates, and edits (of preview_edits.py a name and edits): a file under crates/, the old text, the new one, and how often
+the old one stands there if not once. A pair as old text is all from the first up to the second (None: to the file's end); None as old text takes the file away. A name is that of the same
+misreading of the models axis.py and box.py (a preview has no model), which then say which of the refused laws and rows are false: so a law that is broken is told apart from
 a law whose proof merely no longer fits.
 
 - Of an axis: the crates are those whose laws are asked in turn (or a pair of such a crate and more edits before it is asked). Some 10 s; half a
   minute to a minute where the laws on quarters are asked.
 - Of a box: laws and rows are asked of the changed definitions without the code (bare.py); then the crates named, whose code is edited, are proved
   anew, not those above. Half a minute or more.
+- Of a preview: the rows of test_run_rows are computed from the changed definition, without code and without the theorems of run, which go by the
+  definition. Each list of rows that doesn't hold is false, since it is computed. A quarter of a minute.
 
 Prints, for each, what refuses it, first what is false on the model, then the functions whose proof no longer fits: a changed call or operation asks
 for a changed proof file, which refuses nothing. The functions of an axis have none: what fits is what Rattle finds. No stored sample is asked.
@@ -34,6 +36,7 @@ import axis_edits
 import bare
 import box
 import box_edits
+import preview_edits
 
 INPUTS = 3000
 ERROR = re.compile(r'^\./proofs/(\S+?)\.antt:(\d+):\d+: error: ')
@@ -183,11 +186,43 @@ def tried_box(root, copy, bare_copy, name, crates, edits):
     return bool(false) and not broken, not unfit
 
 
+# ---- a preview: its rows, computed
+
+def made_bare_of_theorems(copy):
+    """Takes away the theorems of run, whose proofs go by the definition, and the lists of rows that speak of no preview."""
+    shutil.rmtree(os.path.join(copy, 'crates/run/proofs'), ignore_errors=True)
+    proofs = os.path.join(copy, 'crates/test_run_rows/proofs')
+    os.remove(os.path.join(proofs, 'Computed.antt'))
+    open(os.path.join(proofs, 'Lib.antt'), 'w').write('mod Previews\n')
+
+
+def rows_refused(copy):
+    """How many rows of each list are false, and what else went wrong."""
+    output = asked(copy, 'test_run_rows')
+    errors = re.findall(r'^\./proofs/Previews\.antt:\S+ error: `(preview_\w+_rows)`(.*)', output, re.M)
+    # a row that takes too many steps isn't computed
+    stopped = [f'{name}{said}' for name, said in errors if 'step limit' in said]
+    lists = [name for name, said in errors if 'step limit' not in said]
+    proved = (re.findall(r'^logic=\S+', output, re.M) or [''])[-1] == 'logic=proved'
+    return {name: lists.count(name) for name in lists}, stopped or ([] if lists or proved else output.splitlines()[-1:])
+
+
+def tried_preview(root, copy, name, edits):
+    began = time.time()
+    write(copy, name, edits)
+    refused, broken = rows_refused(copy)
+    for file in {f for f, *_ in edits}: shutil.copy(os.path.join(root, 'crates', file), os.path.join(copy, 'crates', file))
+    said = ', '.join(f'{number} of {rows}' for rows, number in refused.items()) or 'NOTHING'
+    print(f'{name}: refused by {said} (computed); {time.time() - began:.0f} s', *broken, flush=True)
+    return bool(refused) and not broken, True
+
+
 def applied(root):
     """What of the entries no longer stands."""
     wrong = []
-    for entries in (axis_edits, box_edits):
-        for name, crates, edits in entries.EDITS:
+    for entries in (axis_edits, box_edits, preview_edits):
+        for name, *crates, edits in entries.EDITS:
+            crates = crates[0] if crates else []
             with tempfile.TemporaryDirectory() as copy:
                 for file in {f for f, *_ in edits + [e for c in crates if isinstance(c, tuple) for e in c[1]]}:
                     if os.path.isfile(os.path.join(root, 'crates', file)):
@@ -204,26 +239,33 @@ def main():
     root, began, words = os.getcwd(), time.time(), sys.argv[1:]
     if words == ['--applied']:
         wrong = applied(root)
-        print(*wrong, f'edits: {len(axis_edits.EDITS) + len(box_edits.EDITS)} misreadings, {len(wrong)} of them with an old text that doesn\'t stand', sep='\n')
+        print(*wrong, f'edits: {len(axis_edits.EDITS) + len(box_edits.EDITS) + len(preview_edits.EDITS)} misreadings, {len(wrong)} of them with an old text that doesn\'t stand', sep='\n')
         sys.exit(bool(wrong))
-    lists = [(axis, axis_edits), (box, box_edits)]
-    if words and words[0] in ('axis', 'box'): lists, words = [l for l in lists if l[0].__name__ == words[0]], words[1:]
+    lists = [(axis, axis_edits), (box, box_edits), (preview_edits, preview_edits)]
+    if words and words[0] in ('axis', 'box', 'preview'): lists, words = [l for l in lists if l[1].__name__ == f'{words[0]}_edits'], words[1:]
     chosen = [(module, *e) for module, entries in lists for e in entries.EDITS if not words or words[0] in e[0]]
     if not chosen or len(words) > 1: sys.exit('edits: no misreading of that name')
-    copies = [tempfile.mkdtemp() for _ in range(2 if any(e[0] is box for e in chosen) else 1)]
+    of = {module for module, *_ in chosen}
+    copies = {kind: tempfile.mkdtemp() for kind, asks in (('whole', {axis, box}), ('bare', {box}), ('rows', {preview_edits})) if of & asks}
     try:
-        for copy in copies:
+        for copy in copies.values():
             for crate in os.listdir(os.path.join(root, 'crates')): copied(root, copy, crate)
             shutil.copy(os.path.join(root, 'crates.txt'), copy)
-        if copies[1:]:
-            bare.make_bare(copies[1])
-            if any(refused_without_code(copies[1])): sys.exit('edits: refused without an edit')
-        outcomes = [tried_box(root, *copies, *e[1:]) if e[0] is box else tried(root, copies[0], *e) for e in chosen]
+        if box in of:
+            bare.make_bare(copies['bare'])
+            if any(refused_without_code(copies['bare'])): sys.exit('edits: refused without an edit')
+        if preview_edits in of:
+            made_bare_of_theorems(copies['rows'])
+            if any(rows_refused(copies['rows'])): sys.exit('edits: refused without an edit')
+        tries = {axis: lambda *e: tried(root, copies['whole'], axis, *e), box: lambda *e: tried_box(root, copies['whole'], copies['bare'], *e),
+                 preview_edits: lambda *e: tried_preview(root, copies['rows'], *e)}
+        outcomes = [tries[module](*entry) for module, *entry in chosen]
     finally:
-        for copy in copies: shutil.rmtree(copy)
+        for copy in copies.values(): shutil.rmtree(copy)
     refused, fit = [sum(o[i] for o in outcomes) for i in range(2)]
-    print(f'{refused} of {len(chosen)} refused by a law or a row that is false on the model')
-    print(f'{fit} leave every proof of the code as it was; {time.time() - began:.0f} s')
+    print(f'{refused} of {len(chosen)} refused by a law or a row that is false on the model, or by rows that are computed')
+    if of - {preview_edits}: print(f'{fit} leave every proof of the code as it was')
+    print(f'{time.time() - began:.0f} s')
     sys.exit(refused < len(chosen))
 
 

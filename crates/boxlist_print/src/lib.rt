@@ -17,6 +17,7 @@ use geometry::{Point, Rect, Size};
 use run::{Answer, Opening, Slices, State};
 use screen::{LineCounts, ScreenLists};
 use screen_fields::format;
+use style_record::table::Table;
 use style_record::words::STYLE_WORDS;
 use tree::layout::OofPositioningArea;
 use tree_record::candidate::CANDIDATE_WORDS;
@@ -120,7 +121,7 @@ fn list_run(
         Ok(Answer::Ask(_)) => 0,
         Ok(Answer::Finish(finish)) => {
             let lent = Slices {
-                styles,
+                styles: &Table::from(styles),
                 layouts,
                 working,
                 unclaimed,

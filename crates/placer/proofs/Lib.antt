@@ -3,3 +3,4 @@ pub mod Sweeps
 pub mod Calls
 pub mod Openings
 pub mod Replies
+pub mod Previews

@@ -14,9 +14,11 @@ use placer_check::{opening, reply as answer};
 use refusal::Refusal;
 use run::{Counts, Extents, Lent, Opened, Opening, Slices, State, Step};
 use style::ContainingBlockClaims;
+use style_record::table::Table;
 use tree::layout::OofPositioningArea;
 
 mod boxes;
+pub mod preview;
 
 // What a call returns: its step; or, where it is refused, this state, and why.
 fn step_by(state: &State, step: Result<Step, Refusal>) -> Step
@@ -48,11 +50,13 @@ fn closed(lent: &Lent) -> State
 }
 
 // The opening is checked, the candidates are swept and the tally is cleared, then the first box begins. `before` is the state of a refused
-// opening.
+// opening. Inlined, as `take` below: a live call and a preview's both have it, and a function with two callers has the state and the answer written to
+// memory and read again (bench/README.md).
+#[inline(always)]
 fn begin(
     before: &State,
     o: Opening,
-    styles: &[u32],
+    styles: &Table,
     candidates: &[u32],
     layouts: &[u32],
     working: &mut [u32],
@@ -102,6 +106,7 @@ pub fn open(
 ) -> Step
     ensures { outcome result layouts.new working.new unclaimed.new tally.new ≡ opened o candidates.now (lent styles.now layouts.old working.old unclaimed.old tally.old) }
 {
+    let styles = &Table::from(styles);
     let slices = Slices {
         styles,
         layouts,
@@ -118,11 +123,12 @@ pub fn open(
 // ---- a reply
 
 // A reply that is checked goes to the box at hand.
+#[inline(always)]
 fn take(
     s: &State,
     reply: Reply,
     surfaced: &[u32],
-    styles: &[u32],
+    styles: &Table,
     layouts: &mut [u32],
     working: &mut [u32],
     unclaimed: &mut [u32],
@@ -162,6 +168,7 @@ pub fn reply(
 ) -> Step
     ensures { outcome result layouts.new working.new unclaimed.new tally.new ≡ replied s reply surfaced.now (lent styles.now layouts.old working.old unclaimed.old tally.old) }
 {
+    let styles = &Table::from(styles);
     let taken = take(
         &s, reply, surfaced, styles, layouts, working, unclaimed, tally,
     );

@@ -5,6 +5,7 @@ ghost use Rattle.run.specs.Refusals.{ragged, bad_table, bad_list, bad_slices, ba
 
 use run::{Extents, Lent, Slices};
 use style_record::check;
+use style_record::table::Table;
 use style_record::words::STYLE_WORDS;
 use sweep::Filled;
 use tree_record::candidate;
@@ -18,11 +19,11 @@ pub const MOST_RECORDS: usize = 4096;
 // ---- 2: bad extent
 
 // Styles not 79 × n words with n at most 1,024, or layouts not 23 × n: by document 01, n is known from their lengths.
-#[tactic(auto, unfolding(run::specs::Refusals::bad_table, style_record::specs::Record::items))]
-fn is_table_bad(styles: &[u32], layouts: &[u32]) -> bool
+#[tactic(auto, unfolding(run::specs::Refusals::bad_table))]
+fn is_table_bad(styles: &Table, layouts: &[u32]) -> bool
     ensures { result ≡ bad_table styles.now layouts.now }
 {
-    let n = styles.len() / STYLE_WORDS;
+    let n = styles.items();
     styles.len() % STYLE_WORDS != 0 || MOST_ITEMS < n || layouts.len() != LAYOUT_WORDS * n
 }
 
@@ -61,11 +62,10 @@ pub fn is_lent_bad(lent: &Slices, e: Extents) -> bool
 }
 
 // A tally not of one word an item.
-#[tactic(auto, unfolding(style_record::specs::Record::items))]
 pub fn is_tally_bad(lent: &Lent) -> bool
     ensures { result ≡ bad_tally lent.now }
 {
-    lent.tally.len() != lent.slices.styles.len() / STYLE_WORDS
+    lent.tally.len() != lent.slices.styles.items()
 }
 
 // ---- 3: bad style
@@ -80,11 +80,11 @@ pub fn is_style_bad(lent: &Lent) -> bool
 // ---- 4: bad candidate
 
 // Some word of the first `count` records breaks a rule.
-#[tactic(auto, unfolding(run::specs::Refusals::bad_candidate, style_record::specs::Record::items))]
-pub fn is_candidate_bad(styles: &[u32], list: &[u32], count: usize) -> bool
+#[tactic(auto, unfolding(run::specs::Refusals::bad_candidate))]
+pub fn is_candidate_bad(styles: &Table, list: &[u32], count: usize) -> bool
     ensures { result ≡ bad_candidate styles.now list.now count }
 {
-    !candidate::are_good(list, count, styles.len() / STYLE_WORDS)
+    !candidate::are_good(list, count, styles.items())
 }
 
 // ---- 6: wrong reply

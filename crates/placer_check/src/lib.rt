@@ -9,6 +9,7 @@ use refusal::Refusal;
 
 pub mod lent;
 pub mod opening;
+pub mod preview;
 pub mod reply;
 
 // A refusal under its condition.

@@ -1,8 +1,6 @@
 // The tests of an opening.
-ghost use Rattle.std.specs.Prelude.{◌≡◌, ◌||◌};
-ghost use Rattle.tree_record.specs.Candidate.{candidate_width};
-ghost use Rattle.run.specs.Refusals.{bad_area, bad_slices, bad_tally, bad_candidates, ragged, list_full};
-ghost use Rattle.run.specs.Call.{slices_of};
+ghost use Rattle.std.specs.Prelude.{◌≡◌};
+ghost use Rattle.run.specs.Refusals.{bad_area, bad_at_opening, bad_candidates, list_full};
 ghost use Rattle.run.specs.Run.{claims_of, none_filled, opening_verdict};
 ghost use Rattle.placer_check.specs.Verdict.{then_room};
 
@@ -13,15 +11,15 @@ use tree_record::candidate::CANDIDATE_WORDS;
 
 // 1: bad area. Codes only: any number is accepted.
 #[tactic(auto, unfolding(run::specs::Refusals::bad_area))]
-fn is_area_bad(o: Opening) -> bool
+pub(crate) fn is_area_bad(o: Opening) -> bool
     ensures { result ≡ bad_area o }
 {
     1 < o.direction || 3 < o.claims || 3 < o.overflowx || 3 < o.overflowy
 }
 
 // 2: bad extent.
-fn are_extents_bad(candidates: &[u32], lent: &Lent) -> bool
-    ensures { result ≡ (bad_slices (slices_of lent.now) || bad_tally lent.now || ragged candidate_width candidates.now) }
+pub(crate) fn are_extents_bad(candidates: &[u32], lent: &Lent) -> bool
+    ensures { result ≡ bad_at_opening candidates.now lent.now }
 {
     lent::are_slices_bad(&lent.slices) || lent::is_tally_bad(lent) || lent::is_ragged(candidates)
 }
@@ -38,6 +36,7 @@ fn are_candidates_bad(candidates: &[u32], lent: &Lent) -> bool
 }
 
 // Tests 1, 2, 3, 4, in that order.
+#[inline(always)]
 pub fn check_opening(o: Opening, candidates: &[u32], lent: &Lent) -> Result<(), Refusal>
     ensures { opening_verdict o candidates.now lent.now ≡ then_room result (list_full (claims_of o) lent.now none_filled candidates.now) }
 {

@@ -1,8 +1,6 @@
 // The tests of a reply.
 ghost use Rattle.std.specs.Prelude.{◌≡◌, ◌||◌, is_none};
-ghost use Rattle.tree_record.specs.Candidate.{candidate_width};
-ghost use Rattle.run.specs.Refusals.{ragged, bad_slices, bad_tally, other_extents, lent_by, bad_candidate, bad_candidates, list_full, wrong_counts};
-ghost use Rattle.run.specs.Call.{slices_of};
+ghost use Rattle.run.specs.Refusals.{other_extents, bad_at_reply, lent_by, bad_candidate, bad_candidates, list_full, wrong_counts};
 ghost use Rattle.run.specs.Run.{taken_by, reply_verdict};
 ghost use Rattle.placer_check.specs.Verdict.{then_room};
 
@@ -13,7 +11,7 @@ use run::{Counts, Extents, Lent, State};
 use tree_record::candidate::CANDIDATE_WORDS;
 
 // What is looked at of the surfaced slice: that of a lay-out reply only.
-fn lent_by(reply: Reply, surfaced: &[u32]) -> &[u32]
+pub(crate) fn lent_by(reply: Reply, surfaced: &[u32]) -> &[u32]
     ensures { result.now ≡ lent_by reply surfaced.now }
 {
     match reply {
@@ -31,8 +29,8 @@ fn are_extents_other(e: Extents, lent: &Lent) -> bool
 }
 
 // 2: bad extent.
-fn are_extents_bad(e: Extents, surfaced: &[u32], lent: &Lent) -> bool
-    ensures { result ≡ (bad_slices (slices_of lent.now) || bad_tally lent.now || other_extents e lent.now || ragged candidate_width surfaced.now) }
+pub(crate) fn are_extents_bad(e: Extents, surfaced: &[u32], lent: &Lent) -> bool
+    ensures { result ≡ bad_at_reply e surfaced.now lent.now }
 {
     lent::are_slices_bad(&lent.slices)
         || lent::is_tally_bad(lent)
@@ -80,6 +78,7 @@ fn are_candidates_bad(filled: usize, surfaced: &[u32], lent: &Lent) -> bool
 }
 
 // Tests 2, 6, 3, 4, in that order.
+#[inline(always)]
 pub fn check_reply(s: &State, reply: Reply, surfaced: &[u32], lent: &Lent) -> Result<(), Refusal>
     ensures { reply_verdict s.now reply surfaced.now lent.now ≡ then_room result (list_full s.now.opened.claims lent.now s.now.counts.filled (lent_by reply surfaced.now)) }
 {

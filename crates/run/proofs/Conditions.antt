@@ -38,10 +38,11 @@ use Rattle.oof_box.specs.declared.question.Stage.TheVariants as stage
 use Rattle.run.specs.declared.Opening.{Opening}
 use Rattle.run.specs.declared.Counts.{Counts}
 use Rattle.run.specs.declared.Extents.{Extents}
+use Rattle.run.specs.declared.State.{State}
 use Rattle.run.specs.Call.{Slices, Lent, slices_of}
-use Rattle.run.specs.Refusals.{bad_area, ragged, bad_table, bad_list, bad_slices, other_lengths, bad_tally, other_extents, bad_style, bad_candidate, list_full, any_above, wrong_counts}
+use Rattle.run.specs.Refusals.{bad_area, ragged, bad_table, bad_list, bad_slices, other_lengths, bad_tally, other_extents, bad_at_opening, bad_at_reply, bad_style, bad_candidate, list_full, any_above, wrong_counts}
 use Rattle.run.specs.Run.{extents_of, taken_in}
-use Rattle.run.specs.Conditions.{AreaIsBad, item_words, GoodTable, Whole, GoodList, SlicesAreBad, TallyIsBad, WordIsAbove, Among, Allowed, WordIsAllowed, StyleIsBad, places, word, AxisIsBad, RecordIsBad, CandidateIsBad, QuestionKind, both, width, height, lay_out, kind_of_reply, kind_at, NotAsked, CountsAreWrong, SideIsUnresolved}
+use Rattle.run.specs.Conditions.{AreaIsBad, item_words, GoodTable, Whole, GoodList, SlicesAreBad, TallyIsBad, LengthsDiffer, WordIsAbove, Among, Allowed, WordIsAllowed, StyleIsBad, places, word, AxisIsBad, RecordIsBad, CandidateIsBad, QuestionKind, both, width, height, lay_out, kind_of_reply, kind_at, NotAsked, CountsAreWrong, SideIsUnresolved}
 use Rattle.run.proofs.Decides.{Decides, by_iff, either, regroup, opposite, refutes, guard, last, below, at_most, equal, not_every}
 use Rattle.run.proofs.Decides as decides
 
@@ -134,6 +135,16 @@ lengths_decided e lent = refutes there back
         (same (length lent.working) e.working (ap (λ (x : Extents). x.working) h)))
         (same (length lent.unclaimed) e.unclaimed (ap (λ (x : Extents). x.unclaimed) h)))
         (same (length lent.tally) e.tally (ap (λ (x : Extents). x.tally) h))
+
+-- of an opening, and of a reply
+pub opening_extents_decided : (candidates : List ℕ) (lent : Lent)
+    → Decides (bad_at_opening candidates lent) ((SlicesAreBad (slices_of lent) ⊎ TallyIsBad lent) ⊎ (¬ Whole candidates))
+opening_extents_decided candidates lent = either (either (slices_decided (slices_of lent)) (tally_decided lent)) (whole_decided candidates)
+
+pub reply_extents_decided : (s : State) (surfaced : List ℕ) (lent : Lent)
+    → Decides (bad_at_reply s.opened.extents surfaced lent) (((SlicesAreBad (slices_of lent) ⊎ TallyIsBad lent) ⊎ LengthsDiffer s lent) ⊎ (¬ Whole surfaced))
+reply_extents_decided s surfaced lent =
+    either (either (either (slices_decided (slices_of lent)) (tally_decided lent)) (lengths_decided s.opened.extents lent)) (whole_decided surfaced)
 
 -- ---- 3
 

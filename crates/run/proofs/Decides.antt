@@ -4,7 +4,7 @@ use native.Mathlib.Omega.{arith}
 use mathlib.Core.Logic.{◌⊎◌, inl, inr, ◌↔◌}
 use mathlib.Core.Path.{◌≡◌, refl, sym, ap, ◌∙◌, subst}
 use mathlib.Core.Bool.{Bool, true, false, cond, not, ◌||◌, ◌&&◌}
-use mathlib.Core.List.{List, [], ◌∷◌}
+use mathlib.Core.List.{List, [], ◌∷◌, ◌++◌}
 use lib.Dec.{ltb, leb, eqb}
 use borrow.Author.Tests.{ltb-true, ltb-false, leb-true, leb-false, eqb-true, eqb-false}
 use Rattle.std.specs.Prelude.{Ok, Err}
@@ -101,7 +101,7 @@ not_every (suc n) p P d = go (every n p) (p n) (not_every n p P d) (d n)
 
 -- ---- tests in their order
 
-abbrev Tests : Type 1
+abbrev pub Tests : Type 1
 Tests = List (ℕ × Type 0)
 
 -- what a verdict says of them
@@ -125,6 +125,47 @@ then {b = false} {P} r {rest} {tests} d later = record { told = go rest (later r
     go : (v : Verdict) → Told v tests → Told v ((number_of r, P) ∷ tests)
     go (Ok tt) s = (d.fails refl, s)
     go (Err q) s = inr (d.fails refl, s)
+
+-- a verdict that comes before another: that one has a say where this accepts
+abbrev pub before_all : Verdict → Verdict → Verdict
+before_all (Ok tt) w = w
+before_all (Err r) w = Err r
+
+pub then_all : {own later : Tests} (v w : Verdict) → Says v own → (v ≡ accepted → Says w later) → Says (before_all v w) (own ++ later)
+then_all {later = later} (Ok tt) w s n = record { told = all _ w s.told (n refl).told }
+  where
+    all : (own : Tests) (w : Verdict) → NoneHolds own → Told w later → Told w (own ++ later)
+    all [] w a b = b
+    all (t ∷ own) (Ok tt) a b = (a.0, all own (Ok tt) a.1 b)
+    all (t ∷ own) (Err r) a b = inr (a.0, all own (Err r) a.1 b)
+then_all {later = later} (Err r) w s n = record { told = first _ s.told }
+  where
+    first : (own : Tests) → FirstIs own (number_of r) → FirstIs (own ++ later) (number_of r)
+    first [] a = absurd a
+    first (t ∷ own) (inl a) = inl a
+    first (t ∷ own) (inr a) = inr (a.0, first own a.1)
+
+-- tests that both make, one after another, and one that only the first makes and that fails
+pub both_test : {b c : Bool} {w : Verdict} (r : Refusal) (v : Verdict) → b ≡ c → before_all v w ≡ w → before_all (r when b else v) (r when c else w) ≡ r when c else w
+unfolding ◌when◌else◌
+both_test {b} {c} {w} r v e f = rw e (go c)
+  where
+    go : (c : Bool) → before_all (cond c (refused r) v) (cond c (refused r) w) ≡ cond c (refused r) w
+    go true = refl
+    go false = f
+
+pub own_test : {b : Bool} {w : Verdict} (r : Refusal) (v : Verdict) → b ≡ false → before_all v w ≡ w → before_all (r when b else v) w ≡ w
+unfolding ◌when◌else◌
+own_test r v e f = rw e f
+
+-- a test that fails leaves the others
+pub but_first : {v : Verdict} {test : ℕ × Type 0} {tests : Tests} → Says v (test ∷ tests) → (¬ test.1) → Says v tests
+but_first {v} {test} {tests} s n = record { told = go v s.told }
+  where
+    go : (v : Verdict) → Told v (test ∷ tests) → Told v tests
+    go (Ok tt) a = a.1
+    go (Err r) (inl a) = absurd (n a.0)
+    go (Err r) (inr a) = a.1
 
 -- one number at most is the first, and none if none holds
 one_first : (tests : Tests) (m n : ℕ) → FirstIs tests m → FirstIs tests n → m ≡ n

@@ -22,7 +22,7 @@ use Rattle.run.specs.declared.Counts.{Counts}
 use Rattle.run.specs.declared.State.{State}
 use Rattle.run.specs.declared.Answer.{Answer}
 use Rattle.run.specs.declared.Answer.TheVariants.{Ask, Finish}
-use Rattle.run.specs.Call.{Lent, slices_of}
+use Rattle.run.specs.Call.{Lent}
 use Rattle.run.specs.Refusals.{Verdict, accepted, refused, ◌when◌else◌, wrong_counts, lent_by}
 use Rattle.run.specs.Run.{claims_of, none_filled, opened, opened_by, opening_verdict, taken_by, replied, replied_by, reply_verdict}
 use Rattle.run.specs.Conditions.{places, opening_tests, reply_tests}
@@ -30,7 +30,7 @@ use Rattle.run.specs.Theorems.{OpeningRefusedExactly, OpeningAcceptedExactly, Re
 use Rattle.run.proofs.Ways.{passed}
 use Rattle.run.proofs.Refusals.{begun_accepts, measured_accepts, laid_accepts}
 use Rattle.run.proofs.Decides.{either, regroup, Says, no_more, then, refused_first, accepted_none, refusal_by, is_accepted}
-use Rattle.run.proofs.Conditions.{area_decided, slices_decided, tally_decided, lengths_decided, whole_decided, style_decided, candidate_decided, full_decided, asked_decided, counts_decided, side_decided}
+use Rattle.run.proofs.Conditions.{area_decided, opening_extents_decided, reply_extents_decided, style_decided, candidate_decided, full_decided, asked_decided, counts_decided, side_decided}
 
 -- ---- in their order
 
@@ -38,7 +38,7 @@ pub opening_says : (o : Opening) (candidates : List ℕ) (lent : Lent) → Says 
 unfolding opening_verdict
 opening_says o candidates lent =
     then BadArea (area_decided o)
-    (λ _. then BadExtent (regroup (either (either (slices_decided (slices_of lent)) (tally_decided lent)) (whole_decided candidates)))
+    (λ _. then BadExtent (regroup (opening_extents_decided candidates lent))
     (λ _. then BadStyle (style_decided lent.styles)
     (λ _. then BadCandidate (candidate_decided lent.styles candidates (places candidates) (omega arith))
     (λ _. then ListFull (full_decided (claims_of o) lent none_filled candidates)
@@ -56,8 +56,7 @@ pub reply_says : (s : State) (given : Reply) (surfaced : List ℕ) (lent : Lent)
 unfolding reply_verdict taken_by
 reply_says s given slice lent =
     let surfaced = lent_by given slice in
-    then BadExtent
-    (regroup (regroup (either (either (either (slices_decided (slices_of lent)) (tally_decided lent)) (lengths_decided s.opened.extents lent)) (whole_decided surfaced))))
+    then BadExtent (regroup (regroup (reply_extents_decided s surfaced lent)))
     (λ _. then WrongReply (either (asked_decided s.progress s.replies given) (counts_decided lent s.counts))
     (λ f. then BadStyle (style_decided lent.styles)
     (λ _. then BadCandidate (either (candidate_decided lent.styles lent.working s.counts.filled.working (filled_there lent s.counts (is_none (taken_by s given)) f)) (candidate_decided lent.styles surfaced (places surfaced) (omega arith)))
@@ -72,11 +71,11 @@ refusal_in (Ok (Finish f)) = WrongReply
 refusal_in (Err r) = r
 
 -- an answer goes by a verdict: a refusal is its refusal, and there is none where it accepts
-record GoesBy (a : Result Answer Refusal) (v : Verdict) : Type 0 where
-  refusal : (r : Refusal) → (a ≡ Err r) ↔ (v ≡ refused r)
-  none : (is_err a ≡ false) ↔ (v ≡ accepted)
+pub record GoesBy (a : Result Answer Refusal) (v : Verdict) : Type 0 where
+  pub refusal : (r : Refusal) → (a ≡ Err r) ↔ (v ≡ refused r)
+  pub none : (is_err a ≡ false) ↔ (v ≡ accepted)
 
-goes_refused : (q : Refusal) → GoesBy (Err q) (refused q)
+pub goes_refused : (q : Refusal) → GoesBy (Err q) (refused q)
 goes_refused q =
     record {
       refusal = λ r. (λ e. ap refused (ap refusal_in e), λ e. ap Err (ap refusal_by e));
@@ -90,7 +89,7 @@ goes_accepted a n =
       none = (λ f. refl, λ e. n);
     }
 
-opening_goes : (o : Opening) (candidates : List ℕ) (lent : Lent) → GoesBy (opened o candidates lent).step.answer (opening_verdict o candidates lent)
+pub opening_goes : (o : Opening) (candidates : List ℕ) (lent : Lent) → GoesBy (opened o candidates lent).step.answer (opening_verdict o candidates lent)
 unfolding opened
 opening_goes o candidates lent = go (opening_verdict o candidates lent)
   where
@@ -104,7 +103,7 @@ accepted_not_wrong : (s : State) (given : Reply) (surfaced : List ℕ) (lent : L
 unfolding reply_verdict
 accepted_not_wrong s given surfaced lent d = (or_parts (is_none (taken_by s given)) _ (passed _ _ _ (passed _ _ _ d).1).0).0
 
-reply_goes : (s : State) (given : Reply) (surfaced : List ℕ) (lent : Lent)
+pub reply_goes : (s : State) (given : Reply) (surfaced : List ℕ) (lent : Lent)
     → GoesBy (replied s given surfaced lent).step.answer (reply_verdict s given surfaced lent)
 unfolding replied
 reply_goes s given surfaced lent = go (reply_verdict s given surfaced lent) (taken_by s given) refl refl

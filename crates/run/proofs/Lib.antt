@@ -6,7 +6,9 @@ pub mod Charged
 pub mod EachQuestion
 pub mod Conditions
 pub mod Exactly
+pub mod Preview
 pub mod Sums
+pub mod PreviewCalls
 pub mod Named
 pub mod Told
 pub mod Questions

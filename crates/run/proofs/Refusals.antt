@@ -54,7 +54,7 @@ answer_of_lem : {a b : Outcome} → a ≡ b → a.step.answer ≡ b.step.answer
 answer_of_lem e = ap (λ (o : Outcome). o.step.answer) e
 
 -- the same refusal, with all else as it came
-same_refusal : (lent : Lent) (s : State) {o : Outcome} {q r : Refusal} → o ≡ unwritten lent (record { state = s; answer = Err q })
+pub same_refusal : (lent : Lent) (s : State) {o : Outcome} {q r : Refusal} → o ≡ unwritten lent (record { state = s; answer = Err q })
     → o.step.answer ≡ Err r
     → o ≡ unwritten lent (record { state = s; answer = Err r })
 same_refusal lent s e a = e ∙ ap (λ (x : Result Answer Refusal). unwritten lent (record { state = s; answer = x })) (sym (answer_of_lem e) ∙ a)

@@ -1,7 +1,7 @@
 -- When a call is refused: rows 1 to 7 of document 01's table, each as a proposition, with document 01's numbers, and the order in which they
 -- are tested. `Theorems.antt` states that a call is refused exactly so. Row 8 is of the programs: `IsScreen` of screen/specs/Laws.antt; row 9
 -- stands in pixels/specs and reach/specs. Assumes nothing.
-use Rattle.std.specs.Prelude.{ℕ, ◌+◌, ◌*◌, ◌-◌, ◌/◌, ◌<◌, ◌≤◌, ◌⊎◌, ◌≢◌, ◌≡◌, List, [], ◌∷◌, length, get_or, Option, Some, None}
+use Rattle.std.specs.Prelude.{ℕ, ◌+◌, ◌*◌, ◌-◌, ◌/◌, ◌<◌, ◌≤◌, ◌⊎◌, ◌≢◌, ◌≡◌, List, [], ◌∷◌, length, get_or, drop, Option, Some, None}
 use Rattle.style.specs.Laws.{tags_of}
 use Rattle.style.specs.declared.alignment.AlignItems.{AlignItems}
 use Rattle.style.specs.declared.alignment.AlignItemsKeyword.TheVariants as side
@@ -19,6 +19,7 @@ use Rattle.run.specs.declared.Counts.{Counts}
 use Rattle.run.specs.declared.State.{State}
 use Rattle.run.specs.Call.{Slices, Lent, slices_of}
 use Rattle.run.specs.Refusals.{lent_by}
+use Rattle.run.specs.Preview.{over_copy}
 use Rattle.run.specs.Run.{claims_of, extents_of, none_filled}
 
 -- ---- 1, bad area: "direction above 1, claims above 3, an overflow above 3"
@@ -201,3 +202,29 @@ reply_tests s given slice lent =
     ∷ (4, CandidateIsBad lent.styles lent.working s.counts.filled.working ⊎ CandidateIsBad lent.styles surfaced (places surfaced))
     ∷ (5, Exceeds s.opened.claims (candidates_in surfaced) lent.working lent.unclaimed s.counts.filled)
     ∷ []
+
+-- ---- Request #109, a preview: "A replacement that isn't one style record is a bad extent. A node that isn't below n is a bad candidate, tested right
+-- after the extents; all other checks are those of the copy". The tests of its opening and of its reply, in turn, each with its refusal's number.
+-- Of the copy, 3 reads the words and 4 how many items it has; all other tests read what is lent.
+
+abbrev pub ReplacementIsBad : List ℕ → Type 0
+ReplacementIsBad style = length style ≢ item_words
+
+abbrev pub NodeIsBad : ℕ → Lent → Type 0
+NodeIsBad node lent = items lent.styles ≤ node
+
+abbrev pub preview_opening_tests : Opening → List ℕ → ℕ → List ℕ → Lent → List (ℕ × Type 0)
+preview_opening_tests o candidates node style lent =
+    (1, AreaIsBad o)
+    ∷ (2, SlicesAreBad (slices_of lent) ⊎ TallyIsBad lent ⊎ (¬ Whole candidates) ⊎ ReplacementIsBad style)
+    ∷ (4, NodeIsBad node lent)
+    -- 3, 4 and 5
+    ∷ drop 2 (opening_tests o candidates (over_copy node style lent))
+
+abbrev pub preview_reply_tests : State → Reply → List ℕ → ℕ → List ℕ → Lent → List (ℕ × Type 0)
+preview_reply_tests s given slice node style lent =
+    let surfaced = lent_by given slice in
+    (2, SlicesAreBad (slices_of lent) ⊎ TallyIsBad lent ⊎ LengthsDiffer s lent ⊎ (¬ Whole surfaced) ⊎ ReplacementIsBad style)
+    ∷ (4, NodeIsBad node lent)
+    -- 6, 3, 4 and 5
+    ∷ drop 1 (reply_tests s given slice (over_copy node style lent))

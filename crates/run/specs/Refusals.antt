@@ -82,6 +82,14 @@ lent_by (Width width) surfaced = []
 lent_by (Height height) surfaced = []
 lent_by (LaidOut overflow) surfaced = surfaced
 
+-- of an opening
+abbrev pub bad_at_opening : List ℕ → Lent → Bool
+bad_at_opening candidates lent = bad_slices (slices_of lent) || bad_tally lent || ragged candidate_width candidates
+
+-- of a reply
+abbrev pub bad_at_reply : Extents → List ℕ → Lent → Bool
+bad_at_reply e surfaced lent = bad_slices (slices_of lent) || bad_tally lent || other_extents e lent || ragged candidate_width surfaced
+
 -- ---- 3: bad style. Some word of some item breaks a rule
 
 unfoldable pub bad_style : List ℕ → Bool

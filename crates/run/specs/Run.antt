@@ -32,7 +32,7 @@ use Rattle.run.specs.declared.State.{State}
 use Rattle.run.specs.declared.Answer.TheVariants.{Ask, Finish}
 use Rattle.run.specs.declared.Step.{Step}
 use Rattle.run.specs.Call.{Slices, Lent, Outcome, slices_of, unwritten}
-use Rattle.run.specs.Refusals.{Verdict, accepted, ◌when◌else◌, bad_area, ragged, bad_slices, bad_tally, other_extents, bad_style, bad_candidate, bad_candidates, list_full, wrong_counts, lent_by}
+use Rattle.run.specs.Refusals.{Verdict, accepted, ◌when◌else◌, bad_area, bad_at_opening, bad_at_reply, bad_style, bad_candidate, bad_candidates, list_full, wrong_counts, lent_by}
 
 -- ---- from one question to the next
 
@@ -103,7 +103,7 @@ none_filled = record { working = 0; unclaimed = 0 }
 unfoldable pub opening_verdict : Opening → List ℕ → Lent → Verdict
 opening_verdict o candidates lent =
     BadArea when bad_area o else
-    BadExtent when (bad_slices (slices_of lent) || bad_tally lent || ragged candidate_width candidates) else
+    BadExtent when bad_at_opening candidates lent else
     BadStyle when bad_style lent.styles else
     BadCandidate when bad_candidates lent.styles candidates else
     ListFull when list_full (claims_of o) lent none_filled candidates else
@@ -139,9 +139,13 @@ begun o candidates lent =
       tally = replicate (length lent.tally) 0;
     }
 
+-- a refused opening returns that state
+abbrev pub refusing_opening : Lent → Refusal → Outcome
+refusing_opening lent r = unwritten lent (record { state = closed lent; answer = Err r })
+
 abbrev pub opened_by : Verdict → Opening → List ℕ → Lent → Outcome
 opened_by (Ok tt) o candidates lent = begun o candidates lent
-opened_by (Err r) o candidates lent = unwritten lent (record { state = closed lent; answer = Err r })
+opened_by (Err r) o candidates lent = refusing_opening lent r
 
 unfoldable pub opened : Opening → List ℕ → Lent → Outcome
 opened o candidates lent = opened_by (opening_verdict o candidates lent) o candidates lent
@@ -159,7 +163,7 @@ taken_by s reply = taken_in s.progress s.replies reply
 -- tests 2, 6, 3, 4, 5
 unfoldable pub reply_verdict : State → Reply → List ℕ → Lent → Verdict
 reply_verdict s reply surfaced lent =
-    BadExtent when (bad_slices (slices_of lent) || bad_tally lent || other_extents s.opened.extents lent || ragged candidate_width (lent_by reply surfaced)) else
+    BadExtent when bad_at_reply s.opened.extents (lent_by reply surfaced) lent else
     WrongReply when (is_none (taken_by s reply) || wrong_counts lent s.counts) else
     BadStyle when bad_style lent.styles else
     BadCandidate when (bad_candidate lent.styles lent.working s.counts.filled.working || bad_candidates lent.styles (lent_by reply surfaced)) else

@@ -11,6 +11,7 @@ use oof_resolve::ContainingBlock;
 use refusal::Refusal;
 use std::marker::Model;
 use style::{ContainingBlockClaims, Direction, Overflow};
+use style_record::table::Table;
 use sweep::Filled;
 use tree::layout::OofPositioningArea;
 
@@ -51,15 +52,15 @@ pub struct Counts {
 
 // Four slices of a run. A part that reads a finished run is lent these.
 #[derive(Drop)]
-pub struct Slices<'a> {
-    pub styles: &'a [u32],
+pub struct Slices<'a, 't> {
+    pub styles: &'a Table<'t>,
     pub layouts: &'a [u32],
     pub working: &'a [u32],
     pub unclaimed: &'a [u32],
 }
 
 // Contracts see them by their words, here and below.
-impl<'a> Model for Slices<'a> {
+impl<'a, 't> Model for Slices<'a, 't> {
     ghost use Rattle.run.specs.Call.{Slices};
 
     ghost Value = { Slices };
@@ -70,12 +71,12 @@ impl<'a> Model for Slices<'a> {
 // The slices that every call is lent, of a call that writes none of them. The tally holds a word for each item: how many of the run's questions
 // about it are answered.
 #[derive(Drop)]
-pub struct Lent<'a> {
-    pub slices: Slices<'a>,
+pub struct Lent<'a, 't> {
+    pub slices: Slices<'a, 't>,
     pub tally: &'a [u32],
 }
 
-impl<'a> Model for Lent<'a> {
+impl<'a, 't> Model for Lent<'a, 't> {
     ghost use Rattle.run.specs.Call.{Lent};
 
     ghost Value = { Lent };
@@ -108,10 +109,10 @@ impl Extents {
     }
 }
 
-impl From<&Lent<'_>> for Extents {
+impl From<&Lent<'_, '_>> for Extents {
     ghost from_gives = { λ lent e. e ≡ extents_of lent.now };
 
-    fn from(lent: &Lent<'_>) -> Extents {
+    fn from(lent: &Lent<'_, '_>) -> Extents {
         Extents::new(&lent.slices, lent.tally.len())
     }
 }

@@ -1,3 +1,4 @@
 pub mod Script
 pub mod Runs
 pub mod Readings
+pub mod Previews

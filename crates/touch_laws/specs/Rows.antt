@@ -1,18 +1,23 @@
--- Runs from an opening to the driver's words, worked out by hand; `proofs/Rows.antt` computes each row. `e 8` is the word of eight eighths of a
--- pixel, `8e` in the comments. Assumes nothing.
-use Rattle.std.specs.Prelude.{ℕ, zero, suc, ◌*◌, List, [], ◌∷◌, ◌++◌, ◌≡◌, replicate, Float}
+-- Runs from an opening to the driver's words, and a preview to what is asked of it finished, worked out by hand; `proofs/Rows.antt` computes each
+-- row. `e 8` is the word of eight eighths of a pixel, `8e` in the comments. Assumes nothing.
+use Rattle.std.specs.Prelude.{ℕ, zero, suc, ◌*◌, List, [], ◌∷◌, ◌++◌, ◌≡◌, replicate, Float, Option, Some, None, Result, Ok, Err}
 use Rattle.geometry.specs.Geometry.{zero_rect}
 use Rattle.geometry.specs.declared.Rect.{Rect}
-use Rattle.refusal.specs.declared.Refusal.TheVariants.{WrongReply, NotInEighths}
+use Rattle.refusal.specs.declared.Refusal.{Refusal}
+use Rattle.refusal.specs.declared.Refusal.TheVariants.{BadExtent, WrongReply, NotInEighths}
 use Rattle.records.specs.Records.{record_at}
-use Rattle.style_record.specs.Record.{code_words}
+use Rattle.style_record.specs.Record.{code_words, style_words}
 use Rattle.tree_record.specs.Layout.{layout_width}
 use Rattle.oof_box.specs.declared.question.Reply.TheVariants.{LaidOut}
 use Rattle.run.specs.declared.Opening.{Opening}
-use Rattle.run.specs.Call.{Lent, Outcome, lent}
+use Rattle.run.specs.Call.{Slices, Lent, Outcome, lent, slices}
 use Rattle.run.specs.Refusals.{Verdict, accepted, refused}
 use Rattle.run.specs.Theorems.{own, Turn, called}
-use Rattle.finished.specs.RowWords.{e, minus, nan, half, float}
+use Rattle.run.specs.Preview.{preview_opened, preview_replied}
+use Rattle.finished.specs.RowWords.{e, minus, nan, half, float, on_layer}
+use Rattle.reach.specs.declared.Offsets.{Offsets}
+use Rattle.reach.specs.Reach.{reached}
+use Rattle.drawing.specs.Drawing.{drawn}
 use Rattle.touch.specs.Rows.{area}
 use Rattle.touch_laws.specs.Laws.{touched_of}
 
@@ -130,3 +135,62 @@ TouchedRows =
     -- unfinished: of two boxes none is laid out, and one is
     × Refuses plain_table (run in_order []) 10 (refused WrongReply)
     × Refuses plain_table (run in_order (one_laid ∷ [])) 10 (refused WrongReply)
+
+-- ---- request #109: a finished preview is asked with its own state, lists and layouts, and with the live styles
+
+-- item 1 is replaced by one that stands at -20e, and is drawn before item 0, which has the higher layer; in hoisted order it is the second
+abbrev replacement : List ℕ
+replacement = plain (insets (minus 20) (e 4)) (e 16) (e 24)
+
+abbrev layered : List ℕ
+layered = on_layer 1 0 2 ++ on_layer 0 1 2
+
+abbrev opened_with : ℕ → Outcome
+opened_with node = preview_opened (panel 0) layered node replacement (lends plain_table 0)
+
+-- the box at hand is laid out, without overflow
+abbrev going_on : Outcome → Outcome
+going_on o =
+    preview_replied o.step.state (LaidOut zero_rect) [] 1 replacement (lent plain_table o.layouts o.working o.unclaimed o.tally)
+
+abbrev previewed : Outcome
+previewed = going_on (going_on (opened_with 1))
+
+-- -20e to -4e and 4e to 28e
+abbrev of_replacement : List ℕ
+of_replacement = 1 ∷ 0xFFFF_FFFE ∷ 0 ∷ 1 ∷ 4 ∷ []
+
+-- what it lends, with such styles
+abbrev lending : List ℕ → Outcome → Slices
+lending styles has = slices styles has.layouts has.working has.unclaimed
+
+abbrev Draws : List ℕ → Outcome → Verdict → List ℕ → Type 0
+Draws styles has verdict after =
+    drawn has.step.state (lending styles has) (9 ∷ 9 ∷ []) ≡ record { verdict = verdict; order = after }
+
+abbrev Reaches : List ℕ → Outcome → ℕ → Result (Option Offsets) Refusal → Type 0
+Reaches styles has place answer = reached place has.step.state (lending styles has) ≡ answer
+
+abbrev seen : Result (Option Offsets) Refusal
+seen = Ok (Some (record { across = 0; down = 0 }))
+
+abbrev pub FinishedPreviewRows : Type 0
+FinishedPreviewRows =
+    -- the replacement's box is left of the area, which doesn't scroll
+    Leaves plain_table previewed 10 9 accepted (of_0 ++ of_replacement)
+    × Draws plain_table previewed accepted (1 ∷ 0 ∷ [])
+    × Reaches plain_table previewed 0 seen
+    × Reaches plain_table previewed 1 (Ok None)
+    -- a run over the live table, with the same calls
+    × Leaves plain_table (run layered (one_laid ∷ one_laid ∷ [])) 10 9 accepted (of_0 ++ of_1)
+    × Reaches plain_table (run layered (one_laid ∷ one_laid ∷ [])) 1 seen
+    -- of the styles only the length counts: words that are no styles, and one item less
+    × Leaves (replicate (style_words * 3) 2) previewed 10 9 accepted (of_0 ++ of_replacement)
+    × Refuses (replicate (style_words * 2) 0) previewed 10 (refused BadExtent)
+    × Draws (replicate (style_words * 3) 2) previewed accepted (1 ∷ 0 ∷ [])
+    × Draws (replicate (style_words * 2) 0) previewed (refused BadExtent) (9 ∷ 9 ∷ [])
+    × Reaches (replicate (style_words * 3) 2) previewed 1 (Ok None)
+    × Reaches (replicate (style_words * 2) 0) previewed 1 (Err BadExtent)
+    -- unfinished, and refused for its node, which leaves no boxes
+    × Refuses plain_table (opened_with 1) 10 (refused WrongReply)
+    × Leaves plain_table (opened_with 3) 0 9 accepted []

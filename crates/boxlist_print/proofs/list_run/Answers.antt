@@ -14,7 +14,7 @@ pub returns-in-Ok-Ask : goal.returns-in-Ok-Ask
 returns-in-Ok-Ask c = list_asked _ _ _ _ _ _ _ _ c.play_out-step.ensures _ (c.in-Ok-Ask.is ∙ ap Ok (rw c.in-Ok-Ask.is at c.in-Ok-Ask.field-0-is))
 
 pub returns-in-Ok-Finish : goal.returns-in-Ok-Finish
-returns-in-Ok-Finish c = list_finished _ _ _ _ _ _ _ _ c.play_out-step.ensures _ (c.in-Ok-Finish.is ∙ ap Ok (rw c.in-Ok-Finish.is at c.in-Ok-Finish.field-0-is)) c.put_finished.ensures
+returns-in-Ok-Finish c = list_finished _ _ _ _ _ _ _ _ c.play_out-step.ensures _ (c.in-Ok-Finish.is ∙ ap Ok (rw c.in-Ok-Finish.is at c.in-Ok-Finish.field-0-is)) (rw c.from.ensures at c.put_finished.ensures)
 
 pub returns-in-Err : goal.returns-in-Err
 returns-in-Err c = list_refused _ _ _ _ _ _ _ _ c.play_out-step.ensures _ c.in-Err.is c.put_refused.ensures

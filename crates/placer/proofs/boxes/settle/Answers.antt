@@ -15,9 +15,9 @@ box_at_hand-candidate-requires c =
     let h = at_hand a.s.now (LaidOut a.overflow) a.surfaced.now l (reply_passed a.s.now (LaidOut a.overflow) a.surfaced.now l c.requires) in
     (h.first, h.listed)
 
-pub style_of-style-requires : goal.style_of-style-requires
+pub layout_of-placed-requires : goal.layout_of-placed-requires
 unfolding box_at_hand
-style_of-style-requires c =
+layout_of-placed-requires c =
     let a = c.args in
     let l = lent a.styles.now a.layouts.now a.working.now a.unclaimed.now a.tally.now in
     rw c.box_at_hand-candidate.ensures (at_hand a.s.now (LaidOut a.overflow) a.surfaced.now l (reply_passed a.s.now (LaidOut a.overflow) a.surfaced.now l c.requires)).styled
@@ -47,14 +47,14 @@ returns-clause-at_hand c =
     let a = c.args in
     let l = lent a.styles.now a.layouts.now a.working.now a.unclaimed.now a.tally.now in
     next_box a.s.now a.overflow a.surfaced.now l _ _ _ (reply_passed a.s.now (LaidOut a.overflow) a.surfaced.now l c.requires)
-    (rw (c.layout_oof_box-placed.ensures, c.style_of-style.ensures, c.box_at_hand-candidate.ensures) at c.in_ok-filled.ensures) more
+    (rw (c.layout_of-placed.ensures, c.box_at_hand-candidate.ensures) at c.in_ok-filled.ensures) more
 
 pub returns-in_err-filled : goal.returns-in_err-filled
 returns-in_err-filled c =
     let a = c.args in
     let p = err_from_is_err_and c.from_residual.result c.from_residual.ensures.1 in
     let l = lent a.styles.now a.layouts.now a.working.now a.unclaimed.now a.tally.now in
-    let leaves = rw (c.layout_oof_box-placed.ensures, c.style_of-style.ensures, c.box_at_hand-candidate.ensures) at c.in_err-filled.ensures in
+    let leaves = rw (c.layout_of-placed.ensures, c.box_at_hand-candidate.ensures) at c.in_err-filled.ensures in
     rw (p.1, p.2) (record { at_hand = tt; left = no_room a.s.now a.overflow a.surfaced.now l _ _ _ _ leaves refl })
 
 pub returns-clause-left : goal.returns-clause-left
@@ -62,7 +62,7 @@ returns-clause-left c =
     let a = c.args in
     let l = lent a.styles.now a.layouts.now a.working.now a.unclaimed.now a.tally.now in
     placed a.s.now a.overflow a.surfaced.now l _ _ _ _ _ _
-    (rw (c.layout_oof_box-placed.ensures, c.style_of-style.ensures, c.box_at_hand-candidate.ensures) at c.in_ok-filled.ensures)
-    (rw (c.layout_oof_box-placed.ensures, c.style_of-style.ensures, c.box_at_hand-candidate.ensures) at c.write_layout.ensures)
-    (rw (c.union.ensures, c.layout_oof_box-placed.ensures, c.style_of-style.ensures, c.box_at_hand-candidate.ensures) refl)
+    (rw (c.layout_of-placed.ensures, c.box_at_hand-candidate.ensures) at c.in_ok-filled.ensures)
+    (rw (c.layout_of-placed.ensures, c.box_at_hand-candidate.ensures) at c.write_layout.ensures)
+    (rw (c.union.ensures, c.layout_of-placed.ensures, c.box_at_hand-candidate.ensures) refl)
     (rw c.box_at_hand-candidate.ensures at c.charge.ensures)
