@@ -236,6 +236,7 @@ impl OofAxis {
     }
 
     // The inset-modified containing block.
+    #[inline(always)]
     pub fn inset_modified_containing_block(self) -> Line<f32>
         ensures { result ≡ block self }
     {
@@ -243,6 +244,7 @@ impl OofAxis {
     }
 
     // Its size: the space for the margin box.
+    #[inline(always)]
     pub fn inset_modified_containing_block_size(self) -> f32
         ensures { result ≡ span (block self) }
     {
@@ -259,6 +261,7 @@ impl OofAxis {
     }
 
     // The size of a border box that fills the block, but for the margins that aren't auto.
+    #[inline(always)]
     pub fn stretch_fit_size(self) -> f32
         ensures { result ≡ stretch_fit self }
     {
@@ -330,6 +333,7 @@ impl OofAxis {
     }
 
     // The margins of a box of a final size.
+    #[inline(always)]
     pub fn resolve_margins(self, size: f32) -> Line<f32>
         ensures { result ≡ margins self size }
     {
@@ -376,6 +380,7 @@ impl OofAxis {
     }
 
     // The start of the margin box where both insets are given.
+    #[inline(always)]
     fn self_aligned(self, imcb: Line<f32>, outer: f32, edge: AxisStaticEdge) -> f32
         ensures { result ≡ self_aligned self.safety self imcb outer edge }
     {
@@ -409,6 +414,7 @@ impl OofAxis {
     }
 
     // Where the border box of a final size begins.
+    #[inline(always)]
     pub fn position(self, size: f32, margin: Line<f32>) -> f32
         ensures { result ≡ position self size margin }
     {
@@ -426,6 +432,7 @@ impl OofAxis {
     }
 
     // Position after margins.
+    #[inline(always)]
     pub fn placement(self, size: f32) -> AxisPlacement
         ensures { result ≡ placement self size }
     {

@@ -1,9 +1,10 @@
 // What a box asks next, and its layout at the end: both from the words and from the replies kept.
-#![tactic(auto, unfolding(crate::specs::Cut::size_by, crate::specs::Cut::keyword_asked, crate::specs::Cut::size_asked, crate::specs::Cut::asked_of, crate::specs::Cut::asked_after, crate::specs::Cut::layout_after))]
+#![tactic(auto, unfolding(crate::specs::Cut::size_by, crate::specs::Cut::keyword_asked, crate::specs::Cut::size_asked, crate::specs::Cut::asked_of))]
 
 ghost use Rattle.std.specs.Prelude.{◌≡◌};
-ghost use Rattle.oof_box.specs.Box.{keyword_stretch};
-ghost use Rattle.oof_box.specs.Cut.{sized_by, both_asked, width_asked, height_asked, keyword_asked, fill_asked, lay_out_asked, is_first, size_asked, asked_of, asked_after, layout_after};
+ghost use Rattle.oof_place.specs.Placing.{box_layout};
+ghost use Rattle.oof_box.specs.Box.{keyword_stretch, size_keywords};
+ghost use Rattle.oof_box.specs.Cut.{sizing, sized_by, both_asked, width_asked, height_asked, keyword_asked, fill_asked, lay_out_asked, is_first, size_asked, size_by, asked_of};
 
 use crate::question::{Asked, LayoutInput, MeasureInput, Question, Replies, Stage};
 use crate::sizing;
@@ -12,8 +13,7 @@ use geometry::{Rect, Size};
 use oof_common::sizing_keyword::SizingKeywordResolution::{Exact, Measure};
 use oof_place;
 use oof_place::OofBoxLayout;
-use oof_resolve;
-use oof_resolve::ContainingBlock;
+use oof_resolve::{ContainingBlock, ResolvedBox};
 use style::Style;
 use style::available_space::AvailableSpace;
 use tree::layout::OofCandidate;
@@ -148,6 +148,7 @@ fn is_first(replies: Replies) -> bool
     replies.fill.is_none() && replies.keyword.is_none()
 }
 
+#[inline(always)]
 fn asked_of(node: u32, sizing: &Sizing) -> Asked
     ensures { result ≡ asked_of node (sized_by sizing.now) }
 {
@@ -159,33 +160,28 @@ fn asked_of(node: u32, sizing: &Sizing) -> Asked
     size_asked(node, sizing)
 }
 
-// What a box asks, by the replies so far.
-// A call of its own, as is the next: put into its callers, it would leave its stack to what they call besides.
-#[inline(never)]
-pub fn next_question(
-    container: &ContainingBlock,
-    style: &Style,
-    candidate: &OofCandidate,
-    replies: Replies,
-) -> Asked
-    ensures { result ≡ asked_after container.now style.now candidate.now replies }
+// What a box asks that is resolved, by the replies so far.
+// Style and resolved box come from the caller, here and below, who reads them of the words: inlined there, as what takes them in `sizing` is, only the
+// words that the answer needs are read (bench/README.md).
+#[inline(always)]
+pub fn next_question(node: u32, style: &Style, resolved: &ResolvedBox, replies: Replies) -> Asked
+    ensures { result ≡ asked_of node (sizing style.now resolved.now (size_keywords style.now resolved.now) replies) }
 {
-    let resolved = oof_resolve::resolve_box(container, style, candidate);
-    asked_of(candidate.node, &Sizing::new(style, &resolved, replies))
+    asked_of(node, &Sizing::new(style, resolved, replies))
 }
 
-// The layout of a box that the host has laid out, with its overflow.
-#[inline(never)]
+// The layout of a box that is resolved and that the host has laid out, with its overflow.
+#[inline(always)]
 pub fn layout_oof_box(
     container: &ContainingBlock,
     style: &Style,
     candidate: &OofCandidate,
+    resolved: &ResolvedBox,
     replies: Replies,
     overflow: Rect<f32>,
 ) -> OofBoxLayout
-    ensures { result ≡ layout_after container.now style.now candidate.now replies overflow }
+    ensures { result ≡ box_layout container.now style.now candidate.now resolved.now (size_by (sizing style.now resolved.now (size_keywords style.now resolved.now) replies)) overflow }
 {
-    let resolved = oof_resolve::resolve_box(container, style, candidate);
-    let size = Sizing::new(style, &resolved, replies).final_size();
-    oof_place::place(container, style, candidate, &resolved, size, overflow)
+    let size = Sizing::new(style, resolved, replies).final_size();
+    oof_place::place(container, style, candidate, resolved, size, overflow)
 }

@@ -35,6 +35,7 @@ pub struct Stretched {
 // ---- step 4
 
 // The stretch size of a size keyword in one axis: measured from the inset-modified block.
+#[inline(always)]
 fn axis_stretch(axis: &OofAxis) -> f32
     ensures { result ≡ axis_stretch axis.now }
 {
@@ -43,6 +44,7 @@ fn axis_stretch(axis: &OofAxis) -> f32
 
 // Of each side.
 // A line for each axis, here and below: a resolved box has its two axes by name, and a closure over both would be told which.
+#[inline(always)]
 pub fn keyword_stretch(resolved: &ResolvedBox) -> Size<f32>
     ensures { result ≡ keyword_stretch resolved.now }
 {
@@ -53,6 +55,7 @@ pub fn keyword_stretch(resolved: &ResolvedBox) -> Size<f32>
 }
 
 // The size keywords of the absent sides.
+#[inline(always)]
 pub fn size_keywords(style: &Style, resolved: &ResolvedBox) -> Size<Option<SizingKeywordResolution>>
     ensures { result ≡ size_keywords style.now resolved.now }
 {
@@ -120,6 +123,7 @@ fn raised_min(stretches: bool, min: Option<f32>, fit: f32) -> Option<f32>
 // ---- steps 4 to 6, of a box
 
 impl<'a> Sizing<'a> {
+    #[inline(always)]
     pub fn new(style: &'a Style, resolved: &'a ResolvedBox, replies: Replies) -> Sizing<'a>
         ensures { sized_by result ≡ sizing style.now resolved.now (size_keywords style.now resolved.now) replies }
     {
@@ -132,6 +136,7 @@ impl<'a> Sizing<'a> {
     }
 
     // Ratio, then clamp.
+    #[inline(always)]
     fn settle(&self, size: Size<Option<f32>>, ratio: Option<f32>) -> Size<Option<f32>>
         ensures { result ≡ settled ratio self.now.resolved.now size }
     {
@@ -143,6 +148,7 @@ impl<'a> Sizing<'a> {
 
     // Known sizes, once the question for size keywords is answered. Of the Rust's `resolve_absolute_sizing_keywords` this is the
     // part after it measured. A line for each axis: it takes three sizes, and `zip_map` two.
+    #[inline(always)]
     fn known(&self) -> Size<Option<f32>>
         ensures { result ≡ known_by self.now.style.now self.now.resolved.now self.now.keywords self.now.replies.keyword }
     {
@@ -191,6 +197,7 @@ impl<'a> Sizing<'a> {
     }
 
     // `widen` and `heighten` stay two functions: one of both would be given the width or the height to write, and the test.
+    #[inline(always)]
     fn widen(
         &self,
         known: Size<Option<f32>>,
@@ -211,6 +218,7 @@ impl<'a> Sizing<'a> {
     }
 
     // Only a height that is still absent: a stretched width may have given it by the ratio.
+    #[inline(always)]
     fn heighten(
         &self,
         known: Size<Option<f32>>,
@@ -231,6 +239,7 @@ impl<'a> Sizing<'a> {
     }
 
     // Width, then height; a table raises its min instead.
+    #[inline(always)]
     fn stretch(&self, known: Size<Option<f32>>) -> Stretched
         ensures { result ≡ stretched self.now.style.now self.now.resolved.now known }
     {
@@ -254,6 +263,7 @@ impl<'a> Sizing<'a> {
     }
 
     // Known sizes and min, by the reply for size keywords.
+    #[inline(always)]
     pub fn stretched(&self) -> Stretched
         ensures { result ≡ stretched_by (sized_by self.now) }
     {

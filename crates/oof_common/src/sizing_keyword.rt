@@ -76,6 +76,7 @@ fn if_absent(
 // The size keywords of an absolutely positioned box, given the stretch size of each side. Of the Rust's function this is
 // the part before it measures.
 // A line for each axis: it takes four sizes, `zip_map` two.
+#[inline(always)]
 pub fn resolve_absolute_sizing_keywords(
     known: Size<Option<f32>>,
     style: Size<CompactLength>,

@@ -53,6 +53,7 @@ fn count(claims: ContainingBlockClaims, claimed: bool, candidates: &[u32]) -> us
 
 // Appends the candidates of a slice that go to a list, in order, behind the `held` records that it holds.
 // The whole list, and how many it holds: of the rest `&mut list[..]` the caller would have to prove again what it leaves of the front.
+#[inline(always)]
 fn append(
     claims: ContainingBlockClaims,
     claimed: bool,
@@ -75,6 +76,7 @@ fn append(
 
 // Sweeps the whole records of a slice, and says how many records each list then holds. Where either list would overflow, refusal 5, and no
 // word is written. A line for each list: they are two parameters, and what is swept to one is what isn't to the other.
+#[inline(always)]
 pub fn sweep(
     claims: ContainingBlockClaims,
     shift: Option<Point<f32>>,

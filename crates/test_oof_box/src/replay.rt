@@ -6,10 +6,12 @@ use geometry::{Point, Rect, Size};
 use oof_box::dialogue;
 use oof_box::question::{Asked, Question, Replies, Reply, Stage, Taken};
 use oof_place::OofBoxLayout;
+use oof_resolve;
 use oof_resolve::ContainingBlock;
 use style::available_space::AvailableSpace;
 use style::{Direction, Overflow};
 use style_record::decode;
+use style_record::table::Table;
 use style_record::words::STYLE_WORDS;
 use tree::layout::{OofCandidate, OofPositioningArea};
 use tree_record::candidate::CANDIDATE_WORDS;
@@ -157,13 +159,14 @@ fn is_found(found: OofBoxLayout, w: &[u32; BOX_WORDS]) -> bool {
 
 // Whether a box asks, lays out and contributes what was recorded.
 pub(crate) fn agrees(w: &[u32; BOX_WORDS]) -> bool {
-    let style = decode::style_at(w, 0);
+    let style = decode::style_at(&Table::from(&w[..]), 0);
     let candidate = candidate_of(w);
     let container = container_of(w);
+    let resolved = oof_resolve::resolve_box(&container, &style, &candidate);
     let mut replies = Replies::default();
     let mut path = w[STAGES];
     for recorded in w[QUESTIONS..].chunks_exact(4) {
-        let asked = dialogue::next_question(&container, &style, &candidate, replies);
+        let asked = dialogue::next_question(candidate.node, &style, &resolved, replies);
         if !is_recorded(asked, path % 8, recorded) {
             return false;
         }
@@ -176,7 +179,7 @@ pub(crate) fn agrees(w: &[u32; BOX_WORDS]) -> bool {
             }
             Some(Taken::Laid(overflow)) => {
                 let found = dialogue::layout_oof_box(
-                    &container, &style, &candidate, replies, overflow,
+                    &container, &style, &candidate, &resolved, replies, overflow,
                 );
                 return path < 8 && is_found(found, w);
             }

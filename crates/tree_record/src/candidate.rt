@@ -71,6 +71,7 @@ fn axis_at(words: &[u32; CANDIDATE_WORDS], at: usize) -> AxisStaticPosition
 
 // The candidate of a record.
 #[tactic(auto, unfolding(crate::specs::Candidate::candidate_of))]
+#[inline(always)]
 pub fn candidate_of(words: &[u32; CANDIDATE_WORDS]) -> OofCandidate
     ensures { result ≡ candidate_of words.now }
 {
@@ -87,6 +88,7 @@ pub fn candidate_of(words: &[u32; CANDIDATE_WORDS]) -> OofCandidate
 }
 
 // The candidate of record i.
+#[inline(always)]
 pub fn candidate_at(words: &[u32], i: usize) -> OofCandidate
     requires { candidate_width * i + candidate_width ≤ length words.now }
     ensures { result ≡ candidate_of (record_at candidate_width words.now i) }
