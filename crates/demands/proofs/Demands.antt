@@ -5,13 +5,13 @@ use native.Mathlib.Nat.{zero-add, add-zero}
 use mathlib.Core.Logic.Iff
 use mathlib.Core.Logic.{inl, inr, ◌↔◌}
 use mathlib.Core.Path.{◌≡◌, refl, sym, ap, subst, subst₂, ◌∙◌}
-use mathlib.Core.Bool.{Bool, true, false}
+use mathlib.Core.Bool.{Bool, true, false, cond}
 use mathlib.Core.List.{List, [], ◌∷◌, ◌++◌, foldl, foldl-append, append-nil}
 use lib.Dec.{eqb}
 use lib.ListN.{length}
 use borrow.Author.Tests.{eq-eqb}
 use Rattle.reach.specs.declared.Offsets.{Offsets}
-use Rattle.std.specs.Prelude.{None, Ok, Err, is_err, Result, IsOk, Option, ⊤, Float, ℤ}
+use Rattle.std.specs.Prelude.{None, Ok, Err, is_err, sum, Result, IsOk, Option, ⊤, Float, ℤ}
 use Rattle.util.proofs.Floats.{no}
 use Rattle.geometry.specs.declared.Line.{Line}
 use Rattle.geometry.specs.declared.Point.{Point}
@@ -38,8 +38,9 @@ use Rattle.run.specs.declared.Step.{Step}
 use Rattle.run.specs.Call.{Slices, Lent, Outcome, outcome}
 use Rattle.run.specs.Refusals.{accepted}
 use Rattle.run.specs.Conditions.{StyleIsBad, FirstIs, NoneHolds}
-use Rattle.run.specs.Theorems.{Names, WroteSize, open_in, one_if_asked, one_if_accepted, asked_for, Heard, Loan, own, other, Turn, next, next_with, turned, Lends, AllLend, called, AddsUp, Stands, heeded_in, course_of, answered_in, laid_so_far, hoisted}
-use Rattle.run.specs.Run.{claims_of, extents_of, box_at_hand, opened, replied, taken_by, laid_out}
+use Rattle.run.specs.Theorems.{Names, WroteSize, open_in, one_if_asked, one_if_accepted, asked_for, Heard, Loan, own, other, Turn, next, next_with, turned, Lends, AllLend, called, CountsNone, AddsUp, Stands, heeded_in, course_of, answered_in, laid_so_far, hoisted}
+use Rattle.run.specs.Run.{claims_of, extents_of, box_at_hand, closed, opened, replied, taken_by, laid_out, refusing, refusing_opening}
+use Rattle.run.specs.Preview.{over_copy, preview_opened, preview_replied}
 use Rattle.run.proofs.Refusals.{refused_reply_keeps, refused_opening_keeps, saying, turn_refused}
 use Rattle.run.proofs.Exactly.{opening_refused_exactly, opening_accepted_exactly, reply_refused_exactly, reply_accepted_exactly, unresolved_exactly}
 use Rattle.run.proofs.Named.{named_exactly, nothing_exactly, named_where_bad}
@@ -77,7 +78,8 @@ use Rattle.mirror_run.specs.Runs.{Message, run_next, image_next, Fair, AllFair, 
 use Rattle.pixels_laws.specs.Laws.{HasEdges}
 use Rattle.pixels_laws.proofs.Run.{run_has_edges}
 use Rattle.pixels_laws.proofs.Tests.{refused_first, edges_first}
-use Rattle.demands.specs.Entries.{Opens, RepliesTo, AnyCalls, TallyKept, Takes, Run, RefusedSince, BothRuns, AfterEach}
+use Rattle.demands.specs.Entries.{Opens, RepliesTo, OpensAny, RepliesToAny, AnyCalls, TallyKept, TakesBy, RunBy, RefusedBy, Takes, Run, RefusedSince, BothRuns, AfterEach}
+use Rattle.run.proofs.PreviewCalls.{PreviewOpeningWay, preview_opening_way, PreviewReplyWay, preview_reply_way, accepted_opening, preview_opening_counts_none}
 use Rattle.demands.specs.Demands.{OpeningDemands, ReplyDemands, AlignmentDemands, PixelsDemands, ReachDemands, DrawingDemands, TouchDemands, CheckDemands, ScreenDemands, OpeningsGoByTheCheck, RepliesGoByTheCheck, ThreeQuestionsEach, CountsAddUp, EqualsStraightRun, SizedLayout, SizeLaw, LaidOutAsAsked, MirrorImage, MirroredReach, MirroredDrawing, LayersAreKept, FinishedIsDrawn, PlacementReadsNoLayer, FinishedIsTouched, RunsAreSeenAlike, QuartersHaveEdges, QuartersAreAnswered, QuartersAreTouched}
 
 -- ---- one call
@@ -170,15 +172,57 @@ replies_go_by_the_check s reply surfaced lent has c none =
 abbrev Counted : ℕ → ℕ → ℕ → State → Type 0
 Counted i n m s = ForBox i n s × Hoisted s × Bounded m s
 
+-- after a first call, and after one more
+abbrev CountedFirst : ℕ → Outcome → Type 0
+CountedFirst i x = Counted i (asked_for i x.step) (one_if_asked x.step.answer) x.step.state
+
+abbrev CountedBy : ℕ → ℕ → ℕ → Outcome → Type 0
+CountedBy i n m x = Counted i (n + asked_for i x.step) (m + one_if_asked x.step.answer) x.step.state
+
+first_counted : (i : ℕ) (o : Opening) (candidates : List ℕ) (lent : Lent) → CountedFirst i (opened o candidates lent)
+first_counted i o candidates lent = (opening_for i o candidates lent, opening_hoisted o candidates lent, rw zero-add at (opening_bounded o candidates lent))
+
+later_counted : (i n m : ℕ) (s : State) (reply : Reply) (surfaced : List ℕ) (lent : Lent) → Counted i n m s → CountedBy i n m (replied s reply surfaced lent)
+later_counted i n m s reply surfaced lent b = (reply_for i n s reply surfaced lent b.0, reply_hoisted s reply surfaced lent b.1, reply_bounded m s reply surfaced lent b.2)
+
+-- a preview's call that is turned down asks nothing
+none_asked : (i : ℕ) (lent : Lent) (r : Refusal) → CountedFirst i (refusing_opening lent r)
+unfolding closed
+none_asked i lent r = go (eqb 0 (i + 1))
+  where
+    go : (b : Bool) → Counted i (cond b 0 0) 0 (closed lent)
+    go true = (record { three = omega arith; none = λ h. refl; now = tt }, omega arith, omega arith)
+    go false = (record { three = omega arith; none = λ h. refl; now = tt }, omega arith, omega arith)
+
+no_more_asked : (i n m : ℕ) (s : State) (lent : Lent) (r : Refusal) → Counted i n m s → CountedBy i n m (refusing s lent r)
+no_more_asked i n m s lent r b = go (eqb s.counts.begun (i + 1))
+  where
+    go : (x : Bool) → Counted i (n + cond x 0 0) (m + 0) s
+    go true = subst₂ (λ (n m : ℕ). Counted i n m s) (sym (add-zero n)) (sym (add-zero m)) b
+    go false = subst₂ (λ (n m : ℕ). Counted i n m s) (sym (add-zero n)) (sym (add-zero m)) b
+
+first_of_any : (i : ℕ) (o : Opening) (candidates : List ℕ) (lent : Lent) {has : Outcome} → OpensAny o candidates lent has → CountedFirst i has
+first_of_any i o candidates lent (OpensAny.of_run c) = subst (CountedFirst i) (sym c) (first_counted i o candidates lent)
+first_of_any i o candidates lent (OpensAny.of_preview node style c) = subst (CountedFirst i) (sym c) (go (preview_opening_way o candidates node style lent))
+  where
+    go : PreviewOpeningWay o candidates node style lent → CountedFirst i (preview_opened o candidates node style lent)
+    go (PreviewOpeningWay.turned_down r e) = subst (CountedFirst i) (sym e) (none_asked i lent r)
+    go (PreviewOpeningWay.over e) = subst (CountedFirst i) (sym e) (first_counted i o candidates (over_copy node style lent))
+
+later_of_any : (i n m : ℕ) (s : State) (reply : Reply) (surfaced : List ℕ) (lent : Lent) {has : Outcome} → Counted i n m s
+    → RepliesToAny s reply surfaced lent has
+    → CountedBy i n m has
+later_of_any i n m s reply surfaced lent b (RepliesToAny.of_run c) = subst (CountedBy i n m) (sym c) (later_counted i n m s reply surfaced lent b)
+later_of_any i n m s reply surfaced lent b (RepliesToAny.of_preview node style c) = subst (CountedBy i n m) (sym c) (go (preview_reply_way s reply surfaced node style lent))
+  where
+    go : PreviewReplyWay s reply surfaced node style lent → CountedBy i n m (preview_replied s reply surfaced node style lent)
+    go (PreviewReplyWay.turned_down r e) = subst (CountedBy i n m) (sym e) (no_more_asked i n m s lent r b)
+    go (PreviewReplyWay.over e) = subst (CountedBy i n m) (sym e) (later_counted i n m s reply surfaced (over_copy node style lent) b)
+
 counted : (i : ℕ) {n m : ℕ} {has : Outcome} → AnyCalls i n m has → Counted i n m has.step.state
-counted i (AnyCalls.opening o candidates lent c) =
-    subst (λ (x : Outcome). Counted i (asked_for i x.step) (one_if_asked x.step.answer) x.step.state) (sym c)
-    (opening_for i o candidates lent, opening_hoisted o candidates lent, rw zero-add at (opening_bounded o candidates lent))
+counted i (AnyCalls.opening o candidates lent c) = first_of_any i o candidates lent c
 counted i (AnyCalls.reply {n = n} {m = m} {before = before} reply surfaced lent calls c) =
-    let b = counted i calls in
-    let s = before.step.state in
-    subst (λ (x : Outcome). Counted i (n + asked_for i x.step) (m + one_if_asked x.step.answer) x.step.state) (sym c)
-    (reply_for i n s reply surfaced lent b.0, reply_hoisted s reply surfaced lent b.1, reply_bounded m s reply surfaced lent b.2)
+    later_of_any i n m before.step.state reply surfaced lent (counted i calls) c
 
 pub three_questions_each : ThreeQuestionsEach
 three_questions_each i n m has calls =
@@ -189,28 +233,76 @@ three_questions_each i n m has calls =
 
 -- ---- the tally
 
+-- what a call over the copy leaves, a preview's that isn't refused does
+first_adds : (o : Opening) (candidates : List ℕ) (lent : Lent) {has : Outcome} → OpensAny o candidates lent has → is_err has.step.answer ≡ false
+    → AddsUp has × CountsNone lent has
+first_adds o candidates lent (OpensAny.of_run c) n =
+    let k = subst (λ (x : Outcome). is_err x.step.answer ≡ false) c n in
+    subst (λ (x : Outcome). AddsUp x × CountsNone lent x) (sym c) (opening_adds_up o candidates lent k, opening_counts_none o candidates lent k)
+first_adds o candidates lent (OpensAny.of_preview node style c) n =
+    let k = subst (λ (x : Outcome). is_err x.step.answer ≡ false) c n in
+    subst (λ (x : Outcome). AddsUp x × CountsNone lent x) (sym c)
+    (accepted_opening AddsUp o candidates node style lent k (opening_adds_up o candidates (over_copy node style lent)), preview_opening_counts_none o candidates node style lent k)
+
+-- a refused one leaves the count, with the tally as it was
+kept_adds : (before : Outcome) (lent : Lent) (r : Refusal) → AddsUp before → lent.tally ≡ before.tally → AddsUp (refusing before.step.state lent r)
+kept_adds before lent r adds same =
+    record {
+      so_far = ap sum same ∙ adds.so_far;
+      at_finish = λ f e. no {b = true} refl (ap is_err e);
+      none_above = λ other e. adds.none_above other (e ∙ same);
+    }
+
+later_adds : (before : Outcome) (reply : Reply) (surfaced : List ℕ) (lent : Lent) {has : Outcome} → AddsUp before → lent.tally ≡ before.tally
+    → RepliesToAny before.step.state reply surfaced lent has
+    → AddsUp has
+later_adds before reply surfaced lent adds same (RepliesToAny.of_run c) = subst AddsUp (sym c) (reply_adds_up before reply surfaced lent adds same)
+later_adds before reply surfaced lent adds same (RepliesToAny.of_preview node style c) =
+    subst AddsUp (sym c) (go (preview_reply_way before.step.state reply surfaced node style lent))
+  where
+    go : PreviewReplyWay before.step.state reply surfaced node style lent → AddsUp (preview_replied before.step.state reply surfaced node style lent)
+    go (PreviewReplyWay.turned_down r e) = subst AddsUp (sym e) (kept_adds before lent r adds same)
+    go (PreviewReplyWay.over e) = subst AddsUp (sym e) (reply_adds_up before reply surfaced (over_copy node style lent) adds same)
+
+-- of a call that was lent another tally
+abbrev AddsIfRefused : Outcome → Outcome → Type 0
+AddsIfRefused before x = is_err x.step.answer ≡ true → AddsUp (outcome x.step x.layouts x.working x.unclaimed before.tally)
+
+other_adds : (before : Outcome) (reply : Reply) (surfaced : List ℕ) (lent : Lent) {left : Outcome} → AddsUp before
+    → RepliesToAny before.step.state reply surfaced lent left
+    → AddsIfRefused before left
+other_adds before reply surfaced lent adds (RepliesToAny.of_run c) = subst (AddsIfRefused before) (sym c) (refused_adds_up before reply surfaced lent adds)
+other_adds before reply surfaced lent adds (RepliesToAny.of_preview node style c) =
+    subst (AddsIfRefused before) (sym c) (go (preview_reply_way before.step.state reply surfaced node style lent))
+  where
+    go : PreviewReplyWay before.step.state reply surfaced node style lent → AddsIfRefused before (preview_replied before.step.state reply surfaced node style lent)
+    go (PreviewReplyWay.turned_down r e) =
+        subst (AddsIfRefused before) (sym e)
+        (λ n. kept_adds before (record { styles = lent.styles; layouts = lent.layouts; working = lent.working; unclaimed = lent.unclaimed; tally = before.tally }) r adds refl)
+    go (PreviewReplyWay.over e) = subst (AddsIfRefused before) (sym e) (refused_adds_up before reply surfaced (over_copy node style lent) adds)
+
 adds_up : {m : ℕ} {has : Outcome} → TallyKept m has → AddsUp has
-adds_up (TallyKept.opening o candidates lent c n) =
-    subst AddsUp (sym c) (opening_adds_up o candidates lent (subst (λ (x : Outcome). is_err x.step.answer ≡ false) c n))
-adds_up (TallyKept.reply {before = before} reply surfaced lent calls same c) =
-    subst AddsUp (sym c) (reply_adds_up before reply surfaced lent (adds_up calls) same)
-adds_up (TallyKept.other_tally {before = before} reply surfaced lent calls c n) =
-    subst (λ (x : Outcome). is_err x.step.answer ≡ true → AddsUp (outcome x.step x.layouts x.working x.unclaimed before.tally)) (sym c)
-    (refused_adds_up before reply surfaced lent (adds_up calls)) n
+adds_up (TallyKept.opening o candidates lent c n) = (first_adds o candidates lent c n).0
+adds_up (TallyKept.reply {before = before} reply surfaced lent calls same c) = later_adds before reply surfaced lent (adds_up calls) same c
+adds_up (TallyKept.other_tally {before = before} reply surfaced lent calls c n) = other_adds before reply surfaced lent (adds_up calls) c n
+
+abbrev Answered : State → Outcome → Type 0
+Answered s x = x.step.state.counts.answered ≡ s.counts.answered + one_if_accepted x.step.answer
+
+answered_by : (s : State) (reply : Reply) (surfaced : List ℕ) (lent : Lent) {has : Outcome} → RepliesToAny s reply surfaced lent has → Answered s has
+answered_by s reply surfaced lent (RepliesToAny.of_run c) = subst (Answered s) (sym c) (replies_are_counted s reply surfaced lent)
+answered_by s reply surfaced lent (RepliesToAny.of_preview node style c) = subst (Answered s) (sym c) (go (preview_reply_way s reply surfaced node style lent))
+  where
+    go : PreviewReplyWay s reply surfaced node style lent → Answered s (preview_replied s reply surfaced node style lent)
+    go (PreviewReplyWay.turned_down r e) = subst (Answered s) (sym e) (sym (add-zero s.counts.answered))
+    go (PreviewReplyWay.over e) = subst (Answered s) (sym e) (replies_are_counted s reply surfaced (over_copy node style lent))
 
 accepted_count : {m : ℕ} {has : Outcome} → TallyKept m has → has.step.state.counts.answered ≡ m
-accepted_count (TallyKept.opening o candidates lent c n) =
-    ap (λ (x : Outcome). x.step.state.counts.answered) c
-    ∙ (opening_counts_none o candidates lent (subst (λ (x : Outcome). is_err x.step.answer ≡ false) c n)).answered
+accepted_count (TallyKept.opening o candidates lent c n) = (first_adds o candidates lent c n).1.answered
 accepted_count (TallyKept.reply {before = before} {has = has} reply surfaced lent calls same c) =
-    subst (λ (x : Outcome). x.step.state.counts.answered ≡ before.step.state.counts.answered + one_if_accepted x.step.answer) (sym c)
-    (replies_are_counted before.step.state reply surfaced lent)
-    ∙ ap (λ (n : ℕ). n + one_if_accepted has.step.answer) (accepted_count calls)
+    answered_by before.step.state reply surfaced lent c ∙ ap (λ (n : ℕ). n + one_if_accepted has.step.answer) (accepted_count calls)
 accepted_count (TallyKept.other_tally {before = before} {left = left} reply surfaced lent calls c n) =
-    subst (λ (x : Outcome). x.step.state.counts.answered ≡ before.step.state.counts.answered + one_if_accepted x.step.answer) (sym c)
-    (replies_are_counted before.step.state reply surfaced lent)
-    ∙ none left.step.answer n
-    ∙ accepted_count calls
+    answered_by before.step.state reply surfaced lent c ∙ none left.step.answer n ∙ accepted_count calls
   where
     none : (a : Result Answer Refusal) → is_err a ≡ true → before.step.state.counts.answered + one_if_accepted a ≡ before.step.state.counts.answered
     none (Ok answer) e = no e refl
@@ -223,8 +315,8 @@ counts_add_up m has calls = (adds_up calls, accepted_count calls)
 
 takes : (styles : List ℕ) (before : Outcome) (h : Heard) (loan : Loan) (has : Outcome) → Takes styles before h loan has → has ≡ next_with styles before h loan
 unfolding next
-takes styles before h own has (Takes.lent_own c) = c
-takes styles before h (other slices) has (Takes.lent_other {left = left} c) = ap (λ (x : Outcome). outcome x.step before.layouts before.working before.unclaimed before.tally) c
+takes styles before h own has (TakesBy.lent_own c) = c
+takes styles before h (other slices) has (TakesBy.lent_other {left = left} c) = ap (λ (x : Outcome). outcome x.step before.layouts before.working before.unclaimed before.tally) c
 
 -- what holds of each turn, in a list that ends with one more
 all_lend_after : (styles : List ℕ) (o : Outcome) (ts : List Turn) (t : Turn) → AllLend styles o ts
@@ -235,19 +327,19 @@ all_lend_after styles o (x ∷ ts) t all last = (all.0, all_lend_after styles (t
 
 module _ (o : Opening) (candidates : List ℕ) (lent : Lent) where
   run_is : {turns : List Turn} {has : Outcome} → Run o candidates lent turns has → has ≡ called o candidates lent turns
-  run_is (Run.opening c n) = c
-  run_is (Run.reply {turns = turns} {before = before} {has = has} t earlier c n) =
+  run_is (RunBy.opening c n) = c
+  run_is (RunBy.reply {turns = turns} {before = before} {has = has} t earlier c n) =
       takes lent.styles before t.heard t.loan has c
       ∙ ap (λ (x : Outcome). turned lent.styles x t) (run_is earlier)
       ∙ sym (foldl-append (turned lent.styles) (opened o candidates lent) turns (t ∷ []))
 
   run_opened : {turns : List Turn} {has : Outcome} → Run o candidates lent turns has → is_err (opened o candidates lent).step.answer ≡ false
-  run_opened (Run.opening c n) = subst (λ (x : Outcome). is_err x.step.answer ≡ false) c n
-  run_opened (Run.reply t earlier c n) = run_opened earlier
+  run_opened (RunBy.opening c n) = subst (λ (x : Outcome). is_err x.step.answer ≡ false) c n
+  run_opened (RunBy.reply t earlier c n) = run_opened earlier
 
   run_lends : {turns : List Turn} {has : Outcome} → Run o candidates lent turns has → AllLend lent.styles (opened o candidates lent) turns
-  run_lends (Run.opening c n) = tt
-  run_lends (Run.reply {turns = turns} {before = before} {has = has} t earlier c n) =
+  run_lends (RunBy.opening c n) = tt
+  run_lends (RunBy.reply {turns = turns} {before = before} {has = has} t earlier c n) =
       all_lend_after lent.styles (opened o candidates lent) turns t (run_lends earlier)
       (subst (λ (x : Outcome). Lends t.loan x.step.answer)
       (takes lent.styles before t.heard t.loan has c ∙ ap (λ (x : Outcome). turned lent.styles x t) (run_is earlier)) n)
@@ -331,7 +423,7 @@ sized s overflow surfaced lent =
     let law = box-size-law s.opened.container style box s.replies overflow in
     record { layout = (layout_after s.opened.container style box s.replies overflow).layout; wrote = refl; width = law.0; height = law.1 }
 
-size_law : (s : State) (reply : Reply) (surfaced : List ℕ) (lent : Lent) → SizeLaw s reply lent (replied s reply surfaced lent)
+pub size_law : (s : State) (reply : Reply) (surfaced : List ℕ) (lent : Lent) → SizeLaw s reply lent (replied s reply surfaced lent)
 size_law s reply surfaced lent overflow k a = go (reply_way s reply surfaced lent)
   where
     go : ReplyWay s reply surfaced lent → SizedLayout s lent (replied s reply surfaced lent).layouts
@@ -354,8 +446,8 @@ reply_demands s reply surfaced lent c =
 
 -- what was asked is still open after replies that were refused
 since : (styles : List ℕ) {asked before : Outcome} → RefusedSince styles asked before → before ≡ saying before.step.answer asked
-since styles RefusedSince.none = refl
-since styles {asked} (RefusedSince.more {before = before} {has = has} t earlier c r) =
+since styles RefusedBy.none = refl
+since styles {asked} (RefusedBy.more {before = before} {has = has} t earlier c r) =
     let e = takes styles before t.heard t.loan has c in
     let a = (turned styles before t).step.answer in
     e ∙ turn_refused styles before t (subst (λ (x : Outcome). is_err x.step.answer ≡ true) e r) ∙ ap (saying a) (since styles earlier)

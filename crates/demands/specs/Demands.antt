@@ -1,4 +1,4 @@
--- The three demands, of every entry. Refusals 1 to 6 are those of `open` and `reply`, 7 of `from_alignment`, 8 of the programs, 9 of
+-- The three demands, of every entry. Refusals 1 to 6 are those of `open`, `reply` and of a preview's, 7 of `from_alignment`, 8 of the programs, 9 of
 -- `pixel_edges`; `reach` and `touch` have 2, 6, 4 and 9, `drawing_order` 2, 6 and 4, `check_styles` none. The demands of the C entries stand in
 -- demands_c/specs. No entry asks anything of its caller, and a proved function ends, without a panic: so each of these holds for any bits in any
 -- number and slices of any length.
@@ -6,7 +6,7 @@
 -- What document 01 leaves free is fixed by the definition all the same: what is asked and written where words were rewritten between calls or
 -- a state was forged (oof_box/specs/Cut.antt), and the numbers of a refused opening's state, which are zeros.
 -- Assumes nothing.
-use Rattle.std.specs.Prelude.{ℕ, ◌*◌, ◌≤◌, ◌<◌, ◌↔◌, ◌≡◌, Bool, false, List, [], ◌∷◌, length, take, Result, Err, All, IsOk, Option, None, Ok, is_err, ⊤, Float, ℤ}
+use Rattle.std.specs.Prelude.{ℕ, ◌*◌, ◌≤◌, ◌<◌, ◌↔◌, ◌≡◌, Bool, false, List, [], ◌∷◌, length, map, take, Result, Err, All, IsOk, Option, None, Ok, is_err, ⊤, Float, ℤ}
 use Rattle.reach.specs.declared.Offsets.{Offsets}
 use Rattle.util.specs.Laws.{AtOrAbove}
 use Rattle.geometry.specs.Geometry.{sums, rect_sum}
@@ -17,7 +17,9 @@ use Rattle.refusal.specs.declared.Refusal.{Refusal}
 use Rattle.refusal.specs.declared.Refusal.TheVariants.{BadStyle}
 use Rattle.refusal.specs.Refusal.{number_of}
 use Rattle.style.specs.declared.alignment.AlignItems.{AlignItems}
+use Rattle.style_record.specs.Record.{style_words, items}
 use Rattle.style_record.specs.Check.{bad_at, checked}
+use Rattle.style_record.specs.Table.{with_style}
 use Rattle.style_record.specs.declared.check.BadWord.{BadWord}
 use Rattle.tree.specs.Static.{from_alignment}
 use Rattle.tree.specs.declared.layout.AxisStaticPosition.{AxisStaticPosition}
@@ -37,7 +39,9 @@ use Rattle.run.specs.declared.Answer.TheVariants.{Ask}
 use Rattle.run.specs.Call.{Slices, Lent, Outcome, unwritten}
 use Rattle.run.specs.Refusals as verdict
 use Rattle.run.specs.Run.{closed, box_at_hand, extents_of, claims_of, opened}
-use Rattle.run.specs.Conditions.{StyleIsBad, FirstNotAllowed, AllAllowed, FirstIs, NoneHolds, SideIsUnresolved, opening_tests, reply_tests}
+use Rattle.run.specs.Preview.{over_copy}
+use Rattle.run.specs.Conditions.{StyleIsBad, FirstNotAllowed, AllAllowed, FirstIs, NoneHolds, SideIsUnresolved, opening_tests, reply_tests, preview_opening_tests, preview_reply_tests}
+use Rattle.run.specs.PreviewTheorems.{turn_over}
 use Rattle.run.specs.Theorems.{Names, own, StageTellsKind, ItemIsNamed, NamedItemCounts, CountsNone, CountsOne, AddsUp, WroteSize, Turn, Stands, heeded_in, course_of, answered_in, laid_so_far, hoisted}
 use Rattle.mirror_run.specs.Image.{image_styles}
 use Rattle.mirror_run.specs.Quarter.{AreaInQuarters, QuarterArea, QuarterTable, QuarterCandidates}
@@ -59,7 +63,7 @@ use Rattle.boxlist_print.specs.declared.Listing.{Listing}
 use Rattle.boxlist_print.specs.Rows.{Prints}
 use Rattle.boxlist_print.specs.Printed.{printed}
 use Rattle.boxlist_print.specs.Laws.{program_tests, IsList, RunIsListed, OnlyNineInRows}
-use Rattle.demands.specs.Entries.{Opens, RepliesTo, AnyCalls, TallyKept, Takes, Run, RefusedSince, BothRuns, AfterEach}
+use Rattle.demands.specs.Entries.{Opens, RepliesTo, PreviewOpens, PreviewRepliesTo, AnyCalls, TallyKept, Takes, Run, RefusedSince, PreviewTakes, Previews, PreviewRefusedSince, BothRuns, AfterEach}
 
 -- ---- Demand 1. "Whoever calls an entry, with any bits in any number and slices of any length, gets its answer (in a run, a question or
 -- finish) or one of document 01's refusals 1 to 8, each exactly under its stated condition. A refusal writes no lent word and returns the
@@ -97,6 +101,27 @@ pub record ReplyDemands (s : State) (reply : Reply) (surfaced : List ℕ) (lent 
   pub size : SizeLaw s reply lent has
   -- request #107: one question more is answered, for one item
   pub counted : is_err has.step.answer ≡ false → CountsOne s lent has
+
+-- request #109, a preview's opening. "The live table and run keep every word": it is lent styles and replacement to be read only, as their types say;
+-- that the live run's layouts, lists, tally and state aren't lent to it is the host's part. Of its own slices a refused call keeps every word
+pub record PreviewOpeningDemands (o : Opening) (candidates : List ℕ) (node : ℕ) (style : List ℕ) (lent : Lent) (has : Outcome) : Type 0 where
+  pub call : PreviewOpens node style o candidates lent has
+  pub refused : (r : Refusal) → (has.step.answer ≡ Err r) ↔ FirstIs (preview_opening_tests o candidates node style lent) (number_of r)
+  pub accepted : (is_err has.step.answer ≡ false) ↔ NoneHolds (preview_opening_tests o candidates node style lent)
+  pub kept : (r : Refusal) → has.step.answer ≡ Err r → has ≡ unwritten lent (record { state = closed lent; answer = Err r })
+  pub cleared : is_err has.step.answer ≡ false → CountsNone lent has
+  -- with one style record for a node below n it is the opening over a copy of the table with that style written in, refused or not
+  pub over : length style ≡ style_words → node < items lent.styles → Opens o candidates (over_copy node style lent) has
+
+-- and a reply to it, whatever the state, also one that a live call returned
+pub record PreviewReplyDemands (s : State) (reply : Reply) (surfaced : List ℕ) (node : ℕ) (style : List ℕ) (lent : Lent) (has : Outcome) : Type 0 where
+  pub call : PreviewRepliesTo node style s reply surfaced lent has
+  pub refused : (r : Refusal) → (has.step.answer ≡ Err r) ↔ FirstIs (preview_reply_tests s reply surfaced node style lent) (number_of r)
+  pub accepted : (is_err has.step.answer ≡ false) ↔ NoneHolds (preview_reply_tests s reply surfaced node style lent)
+  pub kept : (r : Refusal) → has.step.answer ≡ Err r → has ≡ unwritten lent (record { state = s; answer = Err r })
+  pub size : SizeLaw s reply lent has
+  pub counted : is_err has.step.answer ≡ false → CountsOne s lent has
+  pub over : length style ≡ style_words → node < items lent.styles → RepliesTo s reply surfaced (over_copy node style lent) has
 
 -- `from_alignment`: 7
 pub record AlignmentDemands (a : AlignItems) (area : Line Float) (rtl : Bool) (r : Result AxisStaticPosition Refusal) : Type 0 where
@@ -165,7 +190,7 @@ RepliesGoByTheCheck =
     → (has.step.answer ≡ Err BadStyle) ↔ Names (checked lent.styles)
 
 -- "A run asks at most three questions for each box hoisted", whatever words the host rewrites between calls: at most three for each box, none
--- for one that isn't hoisted, and no others
+-- for one that isn't hoisted, and no others. A preview too, whatever node and style it is given at each call
 abbrev pub ThreeQuestionsEach : Type 0
 ThreeQuestionsEach =
     (i n m : ℕ) (has : Outcome) → AnyCalls i n m has
@@ -175,7 +200,7 @@ ThreeQuestionsEach =
 -- request #107: "The words always add up to the run's questions answered so far, at the end the count in the finish", and none of them makes a
 -- reply a wrong one. "This holds after an opening that isn't refused, while nobody else writes the slice between calls and each call gets the
 -- state that the last one returned": all other words may be rewritten, or other slices lent in their place. The questions answered are the
--- replies accepted
+-- replies accepted. So it is of a preview, whatever node and style it is given at each call
 abbrev pub CountsAddUp : Type 0
 CountsAddUp = (m : ℕ) (has : Outcome) → TallyKept m has → AddsUp has × (has.step.state.counts.answered ≡ m)
 
@@ -288,6 +313,46 @@ RunsAreSeenAlike =
     → StandAlike o o' has has' → length before ≡ length before'
     → SameToDriver (touched_of before lent.styles has) (touched_of before' lent'.styles has')
 
+-- ---- Request #109, of previews: "Its questions, layouts, lists, counts and finish equal those of a run over a copy of the table with that style
+-- written in, given the same opening, lent words and replies, and at each call the same replacement and node"
+
+-- the calls of a preview are those of such a run: so each theorem that supposes a `Run`, here and above, is one over previews. An opening that isn't
+-- refused has one style record and a node below n. (Refused openings too: `PreviewIsTheCopy` of run/specs/PreviewTheorems.antt.) Other slices that are
+-- lent with a refused reply have the style written into their table too: a table of another length is refused with 2 either way
+abbrev pub PreviewIsARun : Type 0
+PreviewIsARun =
+    (node : ℕ) (style : List ℕ) (o : Opening) (candidates : List ℕ) (lent : Lent) (turns : List Turn) (has : Outcome)
+    → Previews node style o candidates lent turns has
+    → Run o candidates (over_copy node style lent) (map (turn_over node style) turns) has
+
+-- so it is the straight run of boxes, with that style for its node
+abbrev pub PreviewEqualsStraightRun : Type 0
+PreviewEqualsStraightRun =
+    (node : ℕ) (style : List ℕ) (o : Opening) (candidates : List ℕ) (lent : Lent) (turns : List Turn) (has : Outcome)
+    → Previews node style o candidates lent turns has
+    → let copy = over_copy node style lent in
+    let same = map (turn_over node style) turns in
+    Stands copy (answered_in o candidates copy same) has (course_of o candidates copy same)
+
+-- and the size told in a lay-out question is the size written
+abbrev pub PreviewLaidOutAsAsked : Type 0
+PreviewLaidOutAsAsked =
+    (node : ℕ) (style : List ℕ) (o : Opening) (candidates : List ℕ) (lent : Lent) (turns : List Turn) (asked before has : Outcome)
+    → Previews node style o candidates lent turns asked
+    → (input : LayoutInput) → asked.step.answer ≡ Ok (Ask (LayOut input))
+    → PreviewRefusedSince node style lent.styles asked before
+    → (overflow : Rect Float) (surfaced : List ℕ)
+    → PreviewTakes node style lent.styles before (record { reply = LaidOut overflow; surfaced = surfaced }) own has
+    → is_err has.step.answer ≡ false
+    → WroteSize input asked.layouts has.layouts
+
+-- the parts that read a finished run read no style: asked with the table, in place of the copy, they tell the same of what a preview left
+abbrev pub PreviewIsAskedByTheTable : Type 0
+PreviewIsAskedByTheTable =
+    (node : ℕ) (style styles : List ℕ) (has : Outcome) (place : ℕ) (before : List ℕ)
+    → let copy = with_style styles node style in
+    (told_of place copy has ≡ told_of place styles has) × (drawn_of before copy has ≡ drawn_of before styles has) × (touched_of before copy has ≡ touched_of before styles has)
+
 -- ---- Beyond the demands: under what demand 3 asks of area, styles, candidates and replies, but that the area's width may be 0, no box
 -- meets refusal 9 (pixels_laws/specs, reach_laws/specs, touch_laws/specs)
 
@@ -342,6 +407,10 @@ pub record Demanded : Type 0 where
   pub placement_reads_no_layer : PlacementReadsNoLayer
   pub finished_is_touched : FinishedIsTouched
   pub runs_are_seen_alike : RunsAreSeenAlike
+  pub preview_is_a_run : PreviewIsARun
+  pub preview_equals_straight_run : PreviewEqualsStraightRun
+  pub preview_laid_out_as_asked : PreviewLaidOutAsAsked
+  pub preview_is_asked_by_the_table : PreviewIsAskedByTheTable
   pub quarters_have_edges : QuartersHaveEdges
   pub quarters_are_answered : QuartersAreAnswered
   pub quarters_are_touched : QuartersAreTouched

@@ -1,5 +1,6 @@
 -- What a host does with the entries, and all that it knows of them: their contracts. `demands::open` and `demands::reply` (src/lib.rt) are
--- the calls themselves and ensure `Opens` and `RepliesTo` of each, so that what is shown here of lists of such calls holds of the code.
+-- the calls themselves and ensure `Opens` and `RepliesTo` of each, `demands::preview_open` and `demands::preview_reply`
+-- `PreviewOpens` and `PreviewRepliesTo`, so that what is shown here of lists of such calls holds of the code.
 -- Assumes nothing.
 use Rattle.std.specs.Prelude.{ℕ, ◌+◌, ◌≡◌, true, false, List, [], ◌∷◌, ◌++◌, is_err}
 use Rattle.oof_box.specs.declared.question.Reply.{Reply}
@@ -7,6 +8,7 @@ use Rattle.run.specs.declared.Opening.{Opening}
 use Rattle.run.specs.declared.State.{State}
 use Rattle.run.specs.Call.{Lent, Outcome, lent, outcome}
 use Rattle.run.specs.Run.{opened, replied}
+use Rattle.run.specs.Preview.{preview_opened, preview_replied}
 use Rattle.run.specs.Theorems.{one_if_asked, one_if_accepted, asked_for, Heard, Loan, own, other, Turn, Lends}
 use Rattle.mirror_run.specs.Image.{image_opening, image_candidates}
 use Rattle.mirror_run.specs.Runs.{Message, Fair}
@@ -19,18 +21,34 @@ Opens o candidates lent has = has ≡ opened o candidates lent
 abbrev pub RepliesTo : State → Reply → List ℕ → Lent → Outcome → Type 0
 RepliesTo s reply surfaced lent has = has ≡ replied s reply surfaced lent
 
--- ---- Any calls: each reply is given the state that the last call returned, and any words in slices of any length. `n` questions were
--- asked for box i, the record i of the working list, each while it was at hand; `m` were asked in all.
+-- request #109: a preview's, with a node and the words of the style in its place
+abbrev pub PreviewOpens : ℕ → List ℕ → Opening → List ℕ → Lent → Outcome → Type 0
+PreviewOpens node style o candidates lent has = has ≡ preview_opened o candidates node style lent
+
+abbrev pub PreviewRepliesTo : ℕ → List ℕ → State → Reply → List ℕ → Lent → Outcome → Type 0
+PreviewRepliesTo node style s reply surfaced lent has = has ≡ preview_replied s reply surfaced node style lent
+
+-- a run's, or a preview's with any node and any words for its style
+pub data OpensAny (o : Opening) (candidates : List ℕ) (lent : Lent) (has : Outcome) : Type 0 where
+  of_run : Opens o candidates lent has → OpensAny o candidates lent has
+  of_preview : (node : ℕ) (style : List ℕ) → PreviewOpens node style o candidates lent has → OpensAny o candidates lent has
+
+pub data RepliesToAny (s : State) (reply : Reply) (surfaced : List ℕ) (lent : Lent) (has : Outcome) : Type 0 where
+  of_run : RepliesTo s reply surfaced lent has → RepliesToAny s reply surfaced lent has
+  of_preview : (node : ℕ) (style : List ℕ) → PreviewRepliesTo node style s reply surfaced lent has → RepliesToAny s reply surfaced lent has
+
+-- ---- Any calls, of runs and of previews: each reply is given the state that the last call returned, and any words in slices of any length. `n`
+-- questions were asked for box i, the record i of the working list, each while it was at hand; `m` were asked in all.
 
 pub data AnyCalls (i : ℕ) : ℕ → ℕ → Outcome → Type 0 where
   opening :
       {has : Outcome} (o : Opening) (candidates : List ℕ) (lent : Lent)
-      → Opens o candidates lent has
+      → OpensAny o candidates lent has
       → AnyCalls i (asked_for i has.step) (one_if_asked has.step.answer) has
   reply :
       {n m : ℕ} {before has : Outcome} (reply : Reply) (surfaced : List ℕ) (lent : Lent)
       → AnyCalls i n m before
-      → RepliesTo before.step.state reply surfaced lent has
+      → RepliesToAny before.step.state reply surfaced lent has
       → AnyCalls i (n + asked_for i has.step) (m + one_if_asked has.step.answer) has
 
 -- ---- Calls of which nobody else writes the tally (request #107): after an opening that isn't refused, each reply is given the state and the
@@ -40,19 +58,19 @@ pub data AnyCalls (i : ℕ) : ℕ → ℕ → Outcome → Type 0 where
 pub data TallyKept : ℕ → Outcome → Type 0 where
   opening :
       {has : Outcome} (o : Opening) (candidates : List ℕ) (lent : Lent)
-      → Opens o candidates lent has
+      → OpensAny o candidates lent has
       → is_err has.step.answer ≡ false
       → TallyKept 0 has
   reply :
       {m : ℕ} {before has : Outcome} (reply : Reply) (surfaced : List ℕ) (lent : Lent)
       → TallyKept m before
       → lent.tally ≡ before.tally
-      → RepliesTo before.step.state reply surfaced lent has
+      → RepliesToAny before.step.state reply surfaced lent has
       → TallyKept (m + one_if_accepted has.step.answer) has
   other_tally :
       {m : ℕ} {before left : Outcome} (reply : Reply) (surfaced : List ℕ) (lent : Lent)
       → TallyKept m before
-      → RepliesTo before.step.state reply surfaced lent left
+      → RepliesToAny before.step.state reply surfaced lent left
       → is_err left.step.answer ≡ true
       → TallyKept m (outcome left.step left.layouts left.working left.unclaimed before.tally)
 
@@ -62,36 +80,62 @@ pub data TallyKept : ℕ → Outcome → Type 0 where
 abbrev pub own_slices : List ℕ → Outcome → Lent
 own_slices styles before = lent styles before.layouts before.working before.unclaimed before.tally
 
--- what the host has of a run after a reply: if it lent other slices, the run's own keep their words
-pub data Takes (styles : List ℕ) (before : Outcome) (h : Heard) : Loan → Outcome → Type 0 where
+-- what the host has of a run after a reply: if it lent other slices, the run's own keep their words. By the call that takes replies
+pub data TakesBy (replies : State → Reply → List ℕ → Lent → Outcome → Type 0) (styles : List ℕ) (before : Outcome) (h : Heard) : Loan → Outcome → Type 0 where
   lent_own :
       {has : Outcome}
-      → RepliesTo before.step.state h.reply h.surfaced (own_slices styles before) has
-      → Takes styles before h own has
+      → replies before.step.state h.reply h.surfaced (own_slices styles before) has
+      → TakesBy replies styles before h own has
   lent_other :
       {slices : Lent} {left : Outcome}
-      → RepliesTo before.step.state h.reply h.surfaced slices left
-      → Takes styles before h (other slices) (outcome left.step before.layouts before.working before.unclaimed before.tally)
+      → replies before.step.state h.reply h.surfaced slices left
+      → TakesBy replies styles before h (other slices) (outcome left.step before.layouts before.working before.unclaimed before.tally)
 
--- an opening that isn't refused, then replies, each given the state that the last call returned. One that lends other slices is refused
-pub data Run (o : Opening) (candidates : List ℕ) (lent : Lent) : List Turn → Outcome → Type 0 where
-  opening : {has : Outcome} → Opens o candidates lent has → is_err has.step.answer ≡ false → Run o candidates lent [] has
+-- an opening that isn't refused, then replies, each given the state that the last call returned. One that lends other slices is refused. By the
+-- calls that open and that take replies
+pub data RunBy
+    (opens : Opening → List ℕ → Lent → Outcome → Type 0)
+    (replies : State → Reply → List ℕ → Lent → Outcome → Type 0)
+    (o : Opening)
+    (candidates : List ℕ)
+    (lent : Lent) : List Turn → Outcome → Type 0 where
+  opening : {has : Outcome} → opens o candidates lent has → is_err has.step.answer ≡ false → RunBy opens replies o candidates lent [] has
   reply :
       {turns : List Turn} {before has : Outcome} (t : Turn)
-      → Run o candidates lent turns before
-      → Takes lent.styles before t.heard t.loan has
+      → RunBy opens replies o candidates lent turns before
+      → TakesBy replies lent.styles before t.heard t.loan has
       → Lends t.loan has.step.answer
-      → Run o candidates lent (turns ++ (t ∷ [])) has
+      → RunBy opens replies o candidates lent (turns ++ (t ∷ [])) has
 
 -- what the host has after replies that were each refused, since it had `asked`
-pub data RefusedSince (styles : List ℕ) (asked : Outcome) : Outcome → Type 0 where
-  none : RefusedSince styles asked asked
+pub data RefusedBy (replies : State → Reply → List ℕ → Lent → Outcome → Type 0) (styles : List ℕ) (asked : Outcome) : Outcome → Type 0 where
+  none : RefusedBy replies styles asked asked
   more :
       {before has : Outcome} (t : Turn)
-      → RefusedSince styles asked before
-      → Takes styles before t.heard t.loan has
+      → RefusedBy replies styles asked before
+      → TakesBy replies styles before t.heard t.loan has
       → is_err has.step.answer ≡ true
-      → RefusedSince styles asked has
+      → RefusedBy replies styles asked has
+
+-- by `open` and `reply`
+abbrev pub Takes : List ℕ → Outcome → Heard → Loan → Outcome → Type 0
+Takes = TakesBy RepliesTo
+
+abbrev pub Run : Opening → List ℕ → Lent → List Turn → Outcome → Type 0
+Run = RunBy Opens RepliesTo
+
+abbrev pub RefusedSince : List ℕ → Outcome → Outcome → Type 0
+RefusedSince = RefusedBy RepliesTo
+
+-- by `preview_open` and `preview_reply`, "and at each call the same replacement and node"
+abbrev pub PreviewTakes : ℕ → List ℕ → List ℕ → Outcome → Heard → Loan → Outcome → Type 0
+PreviewTakes node style = TakesBy (PreviewRepliesTo node style)
+
+abbrev pub Previews : ℕ → List ℕ → Opening → List ℕ → Lent → List Turn → Outcome → Type 0
+Previews node style = RunBy (PreviewOpens node style) (PreviewRepliesTo node style)
+
+abbrev pub PreviewRefusedSince : ℕ → List ℕ → List ℕ → Outcome → Outcome → Type 0
+PreviewRefusedSince node style = RefusedBy (PreviewRepliesTo node style)
 
 -- ---- A run and its mirror image, side by side: each message is one reply, given to both. What is asked of it is `Fair`
 -- (mirror_run/specs/Runs.antt), by the state that came with it and by what was answered to it.

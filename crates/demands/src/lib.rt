@@ -6,7 +6,7 @@
 ghost use Rattle.std.specs.Prelude.{◌≡◌};
 ghost use Rattle.oof_axis.specs.StaticOffset.{static_offset};
 ghost use Rattle.run.specs.Call.{lent, outcome};
-ghost use Rattle.demands.specs.Demands.{OpeningDemands, ReplyDemands, AlignmentDemands, PixelsDemands, ReachDemands, DrawingDemands, TouchDemands, CheckDemands, ScreenDemands, Demanded};
+ghost use Rattle.demands.specs.Demands.{OpeningDemands, ReplyDemands, PreviewOpeningDemands, PreviewReplyDemands, AlignmentDemands, PixelsDemands, ReachDemands, DrawingDemands, TouchDemands, CheckDemands, ScreenDemands, Demanded};
 
 use boxlist_print::{LIST_BYTES, Listing};
 use geometry::{Line, Point, Rect, Size};
@@ -16,6 +16,7 @@ use refusal::Refusal;
 use run::{Opening, Slices, State, Step};
 use style::alignment::AlignItems;
 use style_record::check::BadWord;
+use style_record::table::Table;
 use tree::layout::{AxisStaticPosition, Layout};
 
 // Each function, here and below, takes what the entry takes, since the demand is stated of that call.
@@ -47,6 +48,44 @@ pub fn reply(
 {
     placer::reply(
         s, reply, surfaced, styles, layouts, working, unclaimed, tally,
+    )
+}
+
+// Request #109.
+pub fn preview_open(
+    o: Opening,
+    styles: &[u32],
+    node: u32,
+    style: &[u32],
+    candidates: &[u32],
+    layouts: &mut [u32],
+    working: &mut [u32],
+    unclaimed: &mut [u32],
+    tally: &mut [u32],
+) -> Step
+    ensures { PreviewOpeningDemands o candidates.now node style.now (lent styles.now layouts.old working.old unclaimed.old tally.old) (outcome result layouts.new working.new unclaimed.new tally.new) }
+{
+    placer::preview::open(
+        o, styles, node, style, candidates, layouts, working, unclaimed, tally,
+    )
+}
+
+pub fn preview_reply(
+    s: State,
+    reply: Reply,
+    surfaced: &[u32],
+    styles: &[u32],
+    node: u32,
+    style: &[u32],
+    layouts: &mut [u32],
+    working: &mut [u32],
+    unclaimed: &mut [u32],
+    tally: &mut [u32],
+) -> Step
+    ensures { PreviewReplyDemands s reply surfaced.now node style.now (lent styles.now layouts.old working.old unclaimed.old tally.old) (outcome result layouts.new working.new unclaimed.new tally.new) }
+{
+    placer::preview::reply(
+        s, reply, surfaced, styles, node, style, layouts, working, unclaimed, tally,
     )
 }
 
@@ -94,7 +133,7 @@ pub fn touch(s: State, lent: &Slices, words: &mut [u32]) -> Result<(), Refusal>
 pub fn check_styles(styles: &[u32]) -> Result<(), BadWord>
     ensures { CheckDemands styles.now result }
 {
-    style_record::check::check_styles(styles)
+    style_record::check::check_styles(&Table::from(styles))
 }
 
 pub fn resolve_static_offset(

@@ -2,12 +2,12 @@
 use Prim.Native.Nat.{ℕ, ◌+◌, ◌*◌, ◌<◌, ◌≤◌}
 use native.Mathlib.Omega.{arith}
 use mathlib.Core.Bool.{Bool, true, false, cond, not, ◌&&◌}
-use mathlib.Core.List.{List, [], ◌∷◌, ◌++◌, foldl, foldl-append}
+use mathlib.Core.List.{List, [], ◌∷◌, ◌++◌, map, map-append, foldl, foldl-append}
 use mathlib.Core.Logic.{◌↔◌, ◌≢◌, inl, inr}
 use mathlib.Core.Path.{◌≡◌, refl, sym, ap, subst, ◌∙◌}
-use lib.Dec.{eqb}
+use lib.Dec.{eqb, leb}
 use lib.IntN.{ℤ}
-use lib.ListN.{length}
+use lib.ListN.{length, replicate}
 use borrow.Author.Tests.{ne_eqb, eq-eqb}
 use Rattle.reach.specs.declared.Offsets.{Offsets}
 use Rattle.std.specs.Prelude.{Result, is_err, Some, None, Ok, Err, IsOk, Option, sum, ⊤, Float}
@@ -15,7 +15,10 @@ use Rattle.util.proofs.Floats.{no}
 use Rattle.geometry.specs.declared.Point.{Point}
 use Rattle.refusal.specs.Refusal.{number_of}
 use Rattle.refusal.specs.declared.Refusal.{Refusal}
+use Rattle.style_record.specs.Record.{style_words, items}
 use Rattle.style_record.specs.Check.{checked}
+use Rattle.style_record.specs.Table.{with_style}
+use Rattle.style_record.proofs.Copies.{copy_is_as_long}
 use Rattle.style_record.specs.declared.check.BadWord.{BadWord}
 use Rattle.tree_record.specs.Layout.{layout_of}
 use Rattle.pixels.specs.Conditions.{pixel_tests}
@@ -24,20 +27,26 @@ use Rattle.geometry.specs.declared.Rect.{Rect}
 use Rattle.oof_box.specs.declared.question.Question.{Question}
 use Rattle.oof_box.specs.declared.question.Question.TheVariants.{MeasureBoth, MeasureWidth, MeasureHeight, LayOut}
 use Rattle.oof_box.specs.declared.question.Reply.{Reply}
-use Rattle.run.specs.Call.{Slices, Lent, Outcome, outcome}
-use Rattle.run.specs.Conditions.{item_words, FirstIs, NoneHolds, opening_tests, reply_tests}
-use Rattle.run.specs.Run.{closed, begun, opened, replied}
+use Rattle.run.specs.Call.{Slices, Lent, slices_of, Outcome, outcome}
+use Rattle.run.specs.Conditions.{item_words, FirstIs, NoneHolds, opening_tests, reply_tests, preview_opening_tests, preview_reply_tests}
+use Rattle.run.specs.Preview.{over_copy, preview_opened, preview_replied}
+use Rattle.run.specs.Run.{closed, refusing_opening, charged, box_at_hand, begun, opened, replied}
 use Rattle.run.specs.Straight.{Course, ended, asks}
+use Rattle.run.specs.PreviewTheorems.{loan_over, turn_over}
 use Rattle.run.specs.Theorems.{one_if_asked, Heard, Loan, own, other, Turn, turned, next, next_with, AllLend, Stands, said_after, open_in, called, answered_in, course_of, laid_count, AddsUp}
 use Rattle.run.specs.Theorems as run
 use Rattle.run.specs.declared.Answer.{Answer}
 use Rattle.run.specs.declared.Answer.TheVariants.{Ask, Finish}
 use Rattle.run.specs.declared.Finish as ending
+use Rattle.run.specs.declared.Extents.{Extents}
+use Rattle.run.specs.declared.Opened.{Opened}
 use Rattle.run.specs.declared.Opening.{Opening}
 use Rattle.run.specs.declared.State.{State}
 use Rattle.run.specs.declared.Step.{Step}
 use Rattle.run.proofs.ByBox.{ForBox, opening_for, reply_for}
 use Rattle.run.proofs.Exactly.{opening_refused_exactly, opening_accepted_exactly, reply_refused_exactly, reply_accepted_exactly}
+use Rattle.run.proofs.PreviewCalls.{PreviewOpeningWay, preview_opening_way, PreviewReplyWay, preview_reply_way, preview_opening_counts_none, preview_reply_counts_one, opened_with, opening_extents, reply_opened, same_reply}
+use Rattle.run.proofs.Preview.{preview_opening_is_the_copys, preview_opening_refused_exactly, preview_opening_accepted_exactly, refused_preview_opening_keeps, preview_reply_is_the_copys, preview_reply_refused_exactly, preview_reply_accepted_exactly, refused_preview_reply_keeps}
 use Rattle.run.proofs.Named.{named_exactly, nothing_exactly}
 use Rattle.run.proofs.Questions.{Hoisted, opening_hoisted, reply_hoisted}
 use Rattle.run.proofs.Refusals.{begun_accepts, saying, turn_refused}
@@ -47,7 +56,7 @@ use Rattle.std.proofs.lemmas.List.Sums.{get_or-le-sum_by}
 use Rattle.run.proofs.Ways.{OpeningWay, begins, opening_way}
 use Rattle.oof_c_words.specs.StateWords.{at, count_word, state_of, state_words, counts_in, progress_of, progress_code}
 use Rattle.oof_c_words.specs.AnswerWords.{question_words, measure_words, lay_out_words, finish_words}
-use Rattle.oof_c_words.specs.Entry.{Words, words, Returned, lent_in, result_of, answer_left, state_left, in_words, opened_in_words, replied_in_words}
+use Rattle.oof_c_words.specs.Entry.{Words, words, Returned, lent_in, result_of, answer_left, state_left, after_opening, after_reply, opened_in_words, replied_in_words, preview_opened_in_words, preview_replied_in_words}
 use Rattle.pixels.specs.Told.{PixelsReturned, edges_told}
 use Rattle.oof_c_words.specs.PixelWords.{pixels_in_words}
 use Rattle.oof_c_words.specs.Laws.{FitsReply}
@@ -55,6 +64,7 @@ use Rattle.oof_c_words.proofs.Laws.{accepted_is_zero, refused_is_not, refused_op
 use Rattle.oof_c_words.proofs.Kept.{opening_is_kept, reply_is_kept}
 use Rattle.pixels_laws.proofs.Run.{run_has_edges}
 use Rattle.pixels_laws.proofs.Tests.{refused_first, edges_first}
+use Rattle.finished.specs.Finished.{finished_verdict}
 use Rattle.reach.specs.Conditions.{reach_tests}
 use Rattle.reach.specs.Reach.{reached}
 use Rattle.reach.specs.Told.{ReachReturned, verdict_told}
@@ -64,7 +74,7 @@ use Rattle.oof_c_words.specs.CheckWords.{CheckReturned, check_told, check_in_wor
 use Rattle.oof_c.specs.ReachWords.{reach_in_words}
 use Rattle.oof_c.specs.DrawingWords.{DrawingReturned, verdict_number, drawing_in_words}
 use Rattle.drawing.specs.Conditions.{drawing_tests}
-use Rattle.drawing.specs.Drawing.{drawn}
+use Rattle.drawing.specs.Drawing.{draw_verdict, drawn}
 use Rattle.drawing.proofs.Exactly as drawing
 use Rattle.oof_c.specs.TouchWords.{TouchReturned, touch_in_words, touch_told}
 use Rattle.touch.specs.Conditions.{touch_tests}
@@ -72,9 +82,9 @@ use Rattle.touch.specs.Touch.{touch_width, Touched, touched}
 use Rattle.touch.proofs.Exactly as touch
 use Rattle.touch.specs.Laws.{SameToDriver as Alike}
 use Rattle.touch_laws.proofs.Runs.{finished_is_touched as run-gives, quarters_are_touched as run-is-touched, runs_are_seen_alike as runs-alike}
-use Rattle.run.specs.Refusals.{Verdict, accepted, refused}
-use Rattle.demands_c.specs.Calls.{Opens, RepliesTo, FitsOpening, asked_for, AnyCalls, one_if_accepted, TallyKept, Takes, Lends, Run}
-use Rattle.demands_c.specs.Demands.{OpeningDemands, ReplyDemands, PixelsDemands, VerdictIn, ReachDemands, DrawingDemands, TouchDemands, BadWordDemands, ThreeQuestionsEach, CountsAddUp, StandsInWords, EqualsStraightRun, QuartersHaveEdges, QuartersAreAnswered, SameToDriver, FinishedIsTouched, RunsAreSeenAlike, QuartersAreTouched}
+use Rattle.run.specs.Refusals.{Verdict, accepted, refused, bad_slices, bad_table, other_lengths, bad_candidate}
+use Rattle.demands_c.specs.Calls.{Opens, RepliesTo, PreviewOpens, PreviewRepliesTo, OpensAny, RepliesToAny, FitsOpening, asked_for, AnyCalls, one_if_accepted, TallyKept, TakesBy, Takes, Lends, RunBy, Run, Previews}
+use Rattle.demands_c.specs.Demands.{OpeningDemands, ReplyDemands, PreviewOpeningDemands, PreviewReplyDemands, PreviewIsARun, PreviewEqualsStraightRun, PreviewIsAskedByTheTable, PixelsDemands, VerdictIn, ReachDemands, DrawingDemands, TouchDemands, BadWordDemands, ThreeQuestionsEach, CountsAddUp, StandsInWords, EqualsStraightRun, QuartersHaveEdges, QuartersAreAnswered, SameToDriver, FinishedIsTouched, RunsAreSeenAlike, QuartersAreTouched}
 
 -- ---- the result is the number of the first condition that holds
 
@@ -166,6 +176,107 @@ reply_demands reply surfaced styles before c =
 
     by : ResultBy (reply_tests s reply surfaced l) (result_of (replied s reply surfaced l).step.answer)
     by = answer_by (reply_tests s reply surfaced l) (replied s reply surfaced l).step.answer (reply_refused_exactly s reply surfaced l) (reply_accepted_exactly s reply surfaced l)
+
+-- a result that isn't 0 is that of a refusal
+refusal_in : (a : Result Answer Refusal) → result_of a ≢ 0 → (r : Refusal) × (a ≡ Err r)
+unfolding result_of
+refusal_in (Ok (Ask q)) h = absurd (h refl)
+refusal_in (Ok (Finish f)) h = absurd (h refl)
+refusal_in (Err r) h = (r, refl)
+
+pub preview_opening_demands :
+    (node : ℕ) (style : List ℕ) (o : Opening) (candidates styles : List ℕ) (before : Words) {has : Returned}
+    → PreviewOpens node style o candidates styles before has
+    → PreviewOpeningDemands node style o candidates styles before has
+unfolding preview_opened_in_words opened_in_words result_of answer_left
+preview_opening_demands node style o candidates styles before c =
+    subst (PreviewOpeningDemands node style o candidates styles before) (sym c)
+    (record {
+      call = refl;
+      refused = numbered by;
+      accepted = zeroed by;
+      kept =
+          λ h. let r = refusal_in left.step.answer h in
+          ap (λ (x : Outcome). (after_opening x before).words) (refused_preview_opening_keeps o candidates node style l r.0 r.1);
+      cleared = λ z. (preview_opening_counts_none o candidates node style l (accepted_of left.step.answer z)).tally;
+      over = λ one there. ap (λ (x : Outcome). after_opening x before) (preview_opening_is_the_copys o candidates node style l one there);
+    })
+  where
+    l : Lent
+    l = lent_in styles before
+
+    left : Outcome
+    left = preview_opened o candidates node style l
+
+    by : ResultBy (preview_opening_tests o candidates node style l) (result_of left.step.answer)
+    by = answer_by (preview_opening_tests o candidates node style l) left.step.answer (preview_opening_refused_exactly o candidates node style l) (preview_opening_accepted_exactly o candidates node style l)
+
+pub preview_reply_demands :
+    (node : ℕ) (style : List ℕ) (reply : Reply) (surfaced styles : List ℕ) (before : Words) {has : Returned}
+    → PreviewRepliesTo node style reply surfaced styles before has
+    → PreviewReplyDemands node style reply surfaced styles before has
+unfolding preview_replied_in_words replied_in_words result_of answer_left state_left
+preview_reply_demands node style reply surfaced styles before c =
+    subst (PreviewReplyDemands node style reply surfaced styles before) (sym c)
+    (record {
+      call = refl;
+      refused = numbered by;
+      accepted = zeroed by;
+      kept =
+          λ h. let r = refusal_in left.step.answer h in
+          ap (λ (x : Outcome). (after_reply x before).words) (refused_preview_reply_keeps s reply surfaced node style l r.0 r.1);
+      counted = λ z. (preview_reply_counts_one s reply surfaced node style l (accepted_of left.step.answer z)).tally;
+      over = λ one there. ap (λ (x : Outcome). after_reply x before) (preview_reply_is_the_copys s reply surfaced node style l one there);
+    })
+  where
+    s : State
+    s = state_of before.state
+
+    l : Lent
+    l = lent_in styles before
+
+    left : Outcome
+    left = preview_replied s reply surfaced node style l
+
+    by : ResultBy (preview_reply_tests s reply surfaced node style l) (result_of left.step.answer)
+    by = answer_by (preview_reply_tests s reply surfaced node style l) left.step.answer (preview_reply_refused_exactly s reply surfaced node style l) (preview_reply_accepted_exactly s reply surfaced node style l)
+
+-- a call of a run or of a preview is refused, or it is the run's over some table
+data OpenedAs (o : Opening) (candidates styles : List ℕ) (before : Words) (has : Returned) : Type 0 where
+  turned_down : (r : Refusal) → has ≡ after_opening (refusing_opening (lent_in styles before) r) before → OpenedAs o candidates styles before has
+  over : (table : List ℕ) → Opens o candidates table before has → OpenedAs o candidates styles before has
+
+opened_as : {o : Opening} {candidates styles : List ℕ} {before : Words} {has : Returned} → OpensAny o candidates styles before has → OpenedAs o candidates styles before has
+unfolding preview_opened_in_words opened_in_words
+opened_as {styles = styles} (OpensAny.of_run c) = OpenedAs.over styles c
+opened_as {o = o} {candidates = candidates} {styles = styles} {before = before} {has = has} (OpensAny.of_preview node style c) = go (preview_opening_way o candidates node style (lent_in styles before))
+  where
+    go : PreviewOpeningWay o candidates node style (lent_in styles before) → OpenedAs o candidates styles before has
+    go (PreviewOpeningWay.turned_down r e) = OpenedAs.turned_down r (c ∙ ap (λ (x : Outcome). after_opening x before) e)
+    go (PreviewOpeningWay.over e) = OpenedAs.over (with_style styles node style) (c ∙ ap (λ (x : Outcome). after_opening x before) e)
+
+data RepliedAs (reply : Reply) (surfaced styles : List ℕ) (before : Words) (has : Returned) : Type 0 where
+  turned_down : (r : Refusal) → has ≡ record { result = number_of r; words = before } → RepliedAs reply surfaced styles before has
+  over : (table : List ℕ) → RepliesTo reply surfaced table before has → RepliedAs reply surfaced styles before has
+
+replied_as : {reply : Reply} {surfaced styles : List ℕ} {before : Words} {has : Returned} → RepliesToAny reply surfaced styles before has → RepliedAs reply surfaced styles before has
+unfolding preview_replied_in_words replied_in_words result_of answer_left state_left
+replied_as {styles = styles} (RepliesToAny.of_run c) = RepliedAs.over styles c
+replied_as {reply = reply} {surfaced = surfaced} {styles = styles} {before = before} {has = has} (RepliesToAny.of_preview node style c) = go (preview_reply_way (state_of before.state) reply surfaced node style (lent_in styles before))
+  where
+    go : PreviewReplyWay (state_of before.state) reply surfaced node style (lent_in styles before) → RepliedAs reply surfaced styles before has
+    go (PreviewReplyWay.turned_down r e) = RepliedAs.turned_down r (c ∙ ap (λ (x : Outcome). after_reply x before) e)
+    go (PreviewReplyWay.over e) = RepliedAs.over (with_style styles node style) (c ∙ ap (λ (x : Outcome). after_reply x before) e)
+
+-- refused, it leaves the words that came
+any_keeps : {reply : Reply} {surfaced styles : List ℕ} {before : Words} {has : Returned} → RepliesToAny reply surfaced styles before has → has.result ≢ 0 → has.words ≡ before
+any_keeps {reply = reply} {surfaced = surfaced} {styles = styles} {before = before} {has = has} c h = go (replied_as c)
+  where
+    go : RepliedAs reply surfaced styles before has → has.words ≡ before
+    go (RepliedAs.turned_down r e) = ap (λ (y : Returned). y.words) e
+    go (RepliedAs.over table e) =
+        ap (λ (y : Returned). y.words) e
+        ∙ refused_reply_writes_nothing reply surfaced table before (λ z. h (ap (λ (y : Returned). y.result) e ∙ z))
 
 module _ (before : List ℤ) where
   edges_kept : (p : Result (Rect ℤ) Refusal) → (edges_told p before).result ≢ 0 → (edges_told p before).edges ≡ before
@@ -364,6 +475,12 @@ closed_for : (i : ℕ) (lent : Lent) → ForBoxIn i 0 (state_of (state_words (cl
 unfolding state_of state_words counts_in progress_of progress_code closed
 closed_for i lent = (record { three = omega arith; none = λ h. refl; now = tt }, omega arith)
 
+refused_for : (i : ℕ) (lent : Lent) (before : Words) (r : Refusal)
+    → let has = after_opening (refusing_opening lent r) before in
+    ForBoxIn i (asked_for i has) (state_of has.words.state)
+unfolding result_of
+refused_for i lent before r = rw (not_zero r) (closed_for i lent)
+
 opening_words_for : (i : ℕ) (o : Opening) (candidates styles : List ℕ) (before : Words) → FitsOpening o
     → let has = opened_in_words o candidates styles before in
     ForBoxIn i (asked_for i has) (state_of has.words.state)
@@ -374,29 +491,50 @@ opening_words_for i o candidates styles before f = go (opening_way o candidates 
     l = lent_in styles before
 
     told : Outcome → Returned
-    told left = in_words left (state_words left.step.state) before.answer
+    told left = after_opening left before
 
     go : OpeningWay o candidates l → ForBoxIn i (asked_for i (told (opened o candidates l))) (state_of (told (opened o candidates l)).words.state)
     go (OpeningWay.turned_down r e) =
-        subst (λ (x : Outcome). ForBoxIn i (asked_for i (told x)) (state_of (told x).words.state)) (sym e) (rw (not_zero r) (closed_for i l))
+        subst (λ (x : Outcome). ForBoxIn i (asked_for i (told x)) (state_of (told x).words.state)) (sym e) (refused_for i l before r)
     go (begins v e) =
         let zero = ap (λ (x : Outcome). result_of x.step.answer) e ∙ accepted_is_zero (begun o candidates l).step.answer (begun_accepts o candidates l) in
         let kept = opening_is_kept o candidates styles before (record { size = f.0; offset = f.1; lengths = λ h. absurd (h zero) }) in
         words_for i (λ n. n) (opened o candidates l).step (told (opened o candidates l)) before.answer refl refl kept
         (opening_for i o candidates l, opening_hoisted o candidates l)
 
-for_box : (i : ℕ) {n : ℕ} {has : Returned} → AnyCalls i n has → ForBoxIn i n (state_of has.words.state)
+reply_words_for : (i : ℕ) {n : ℕ} (reply : Reply) (surfaced styles : List ℕ) (before : Words) → FitsReply reply
+    → ForBoxIn i n (state_of before.state)
+    → let has = replied_in_words reply surfaced styles before in
+    ForBoxIn i (n + asked_for i has) (state_of has.words.state)
 unfolding replied_in_words
-for_box i (AnyCalls.opening o candidates styles before f c) =
-    subst (λ (x : Returned). ForBoxIn i (asked_for i x) (state_of x.words.state)) (sym c) (opening_words_for i o candidates styles before f)
-for_box i (AnyCalls.reply {n = n} reply surfaced styles before f calls w c) =
+reply_words_for i {n = n} reply surfaced styles before f b =
     let s = state_of before.state in
     let l = lent_in styles before in
-    let b : ForBoxIn i n s = subst (λ (x : List ℕ). ForBoxIn i n (state_of x)) (sym w) (for_box i calls) in
-    subst (λ (x : Returned). ForBoxIn i (n + asked_for i x) (state_of x.words.state)) (sym c)
-    (words_for i (λ m. n + m) (replied s reply surfaced l).step (replied_in_words reply surfaced styles before) before.answer refl refl
+    words_for i (λ m. n + m) (replied s reply surfaced l).step (replied_in_words reply surfaced styles before) before.answer refl refl
     (reply_is_kept reply surfaced styles before f)
-    (reply_for i n s reply surfaced l b.0, reply_hoisted s reply surfaced l b.1))
+    (reply_for i n s reply surfaced l b.0, reply_hoisted s reply surfaced l b.1)
+
+-- of a run or of a preview
+opening_for_any : (i : ℕ) {o : Opening} {candidates styles : List ℕ} {before : Words} {has : Returned} → FitsOpening o → OpenedAs o candidates styles before has
+    → ForBoxIn i (asked_for i has) (state_of has.words.state)
+opening_for_any i {styles = styles} {before = before} f (OpenedAs.turned_down r e) =
+    subst (λ (x : Returned). ForBoxIn i (asked_for i x) (state_of x.words.state)) (sym e) (refused_for i (lent_in styles before) before r)
+opening_for_any i {o = o} {candidates = candidates} {before = before} f (OpenedAs.over table e) =
+    subst (λ (x : Returned). ForBoxIn i (asked_for i x) (state_of x.words.state)) (sym e) (opening_words_for i o candidates table before f)
+
+reply_for_any : (i : ℕ) {n : ℕ} {reply : Reply} {surfaced styles : List ℕ} {before : Words} {has : Returned} → FitsReply reply → RepliedAs reply surfaced styles before has
+    → ForBoxIn i n (state_of before.state)
+    → ForBoxIn i (n + asked_for i has) (state_of has.words.state)
+reply_for_any i {n = n} {before = before} f (RepliedAs.turned_down r e) b =
+    subst (λ (x : Returned). ForBoxIn i (n + asked_for i x) (state_of x.words.state)) (sym e)
+    (rw (not_zero r) (subst (λ (m : ℕ). ForBoxIn i m (state_of before.state)) (omega arith) b))
+reply_for_any i {n = n} {reply = reply} {surfaced = surfaced} {before = before} f (RepliedAs.over table e) b =
+    subst (λ (x : Returned). ForBoxIn i (n + asked_for i x) (state_of x.words.state)) (sym e) (reply_words_for i reply surfaced table before f b)
+
+for_box : (i : ℕ) {n : ℕ} {has : Returned} → AnyCalls i n has → ForBoxIn i n (state_of has.words.state)
+for_box i (AnyCalls.opening o candidates styles before f c) = opening_for_any i f (opened_as c)
+for_box i (AnyCalls.reply {n = n} reply surfaced styles before f calls w c) =
+    reply_for_any i f (replied_as c) (subst (λ (x : List ℕ). ForBoxIn i n (state_of x)) (sym w) (for_box i calls))
 
 pub three_questions_each : ThreeQuestionsEach
 unfolding state_of counts_in
@@ -501,20 +639,48 @@ reply_adds {m} reply surfaced styles before f a w t =
         ∙ ap (λ (n : ℕ). n + run.one_if_accepted x.step.answer) (ap (λ (s : State). s.counts.answered) (ap state_of w ∙ a.state) ∙ a.accepted)
         ∙ ap (λ (n : ℕ). m + n) (same_one x.step.answer)
 
+-- a refused one leaves the tally as it came
+refused_adds : {m : ℕ} (before : Words) {last : Returned} (r : Refusal) → Adds m last → before.state ≡ last.words.state → before.tally ≡ last.words.tally
+    → Adds (m + one_if_accepted (number_of r)) (record { result = number_of r; words = before })
+refused_adds {m = m} before r a w t =
+    record {
+      left = a.left;
+      adds = a.adds;
+      accepted = a.accepted ∙ rw (not_zero r) (omega arith);
+      tally = t ∙ a.tally;
+      state = ap state_of w ∙ a.state;
+      finish = λ z. absurd (refused_is_not r z);
+    }
+
+opening_any_adds : {o : Opening} {candidates styles : List ℕ} {before : Words} {has : Returned} → FitsOpening o → OpenedAs o candidates styles before has
+    → has.result ≡ 0
+    → Adds 0 has
+unfolding result_of
+opening_any_adds f (OpenedAs.turned_down r e) z = absurd (refused_is_not r (sym (ap (λ (y : Returned). y.result) e) ∙ z))
+opening_any_adds {o = o} {candidates = candidates} {before = before} f (OpenedAs.over table e) z =
+    subst (Adds 0) (sym e) (opening_adds o candidates table before f (sym (ap (λ (y : Returned). y.result) e) ∙ z))
+
+reply_any_adds : {m : ℕ} {reply : Reply} {surfaced styles : List ℕ} {before : Words} {last has : Returned} → FitsReply reply → RepliedAs reply surfaced styles before has
+    → Adds m last
+    → before.state ≡ last.words.state
+    → before.tally ≡ last.words.tally
+    → Adds (m + one_if_accepted has.result) has
+reply_any_adds {m = m} {before = before} f (RepliedAs.turned_down r e) a w t =
+    subst (λ (y : Returned). Adds (m + one_if_accepted y.result) y) (sym e) (refused_adds before r a w t)
+reply_any_adds {m = m} {reply = reply} {surfaced = surfaced} {before = before} f (RepliedAs.over table e) a w t =
+    subst (λ (y : Returned). Adds (m + one_if_accepted y.result) y) (sym e) (reply_adds reply surfaced table before f a w t)
+
 counted_in : {m : ℕ} {has : Returned} → TallyKept m has → Adds m has
-counted_in (TallyKept.opening o candidates styles before f c z) =
-    subst (Adds 0) (sym c) (opening_adds o candidates styles before f (sym (ap (λ (y : Returned). y.result) c) ∙ z))
-counted_in (TallyKept.reply {m = m} reply surfaced styles before f calls w t c) =
-    subst (λ (y : Returned). Adds (m + one_if_accepted y.result) y) (sym c) (reply_adds reply surfaced styles before f (counted_in calls) w t)
+counted_in (TallyKept.opening o candidates styles before f c z) = opening_any_adds f (opened_as c) z
+counted_in (TallyKept.reply reply surfaced styles before f calls w t c) = reply_any_adds f (replied_as c) (counted_in calls) w t
 counted_in (TallyKept.other_tally reply surfaced styles before calls w c h) =
     let a = counted_in calls in
-    let stays = refused_reply_writes_nothing reply surfaced styles before (λ z. h (ap (λ (y : Returned). y.result) c ∙ z)) in
     record {
       left = a.left;
       adds = a.adds;
       accepted = a.accepted;
       tally = a.tally;
-      state = ap (λ (y : Returned). state_of y.words.state) c ∙ ap (λ (y : Words). state_of y.state) stays ∙ ap state_of w ∙ a.state;
+      state = ap (λ (y : Words). state_of y.state) (any_keeps c h) ∙ ap state_of w ∙ a.state;
       finish = λ z. absurd (h z);
     }
 
@@ -557,7 +723,7 @@ went : (styles : List ℕ) {last has : Returned} {x : Outcome} (h : Heard) (loan
     → Takes styles last.words h loan has
     → Went styles last has (next_with styles x h loan)
 unfolding replied_in_words next
-went styles {last = last} {x = x} h own f k (Takes.lent_own c) =
+went styles {last = last} {x = x} h own f k (TakesBy.lent_own c) =
     let e : replied (state_of last.words.state) h.reply h.surfaced (lent_in styles last.words) ≡ next styles x h = λ j. replied (k.state j) h.reply h.surfaced (record { styles = styles; layouts = k.layouts j; working = k.working j; unclaimed = k.unclaimed j; tally = k.tally j }) in
     record {
       now =
@@ -571,7 +737,7 @@ went styles {last = last} {x = x} h own f k (Takes.lent_own c) =
           };
       answer = ap (λ (y : Returned). y.words.answer) c ∙ ap (λ (y : Outcome). answer_left y.step.answer last.words.answer) e;
     }
-went styles {last = last} {x = x} h (other slices) f k (Takes.lent_other c) =
+went styles {last = last} {x = x} h (other slices) f k (TakesBy.lent_other c) =
     let e : replied (state_of last.words.state) h.reply h.surfaced slices ≡ replied x.step.state h.reply h.surfaced slices = ap (λ (s : State). replied s h.reply h.surfaced slices) k.state in
     record {
       now =
@@ -692,8 +858,8 @@ module _ (o : Opening) (candidates styles : List ℕ) (before : Words) where
           (sym (stands turns r).pending ∙ sym (ap (open_in styles) (turn_refused styles (after turns) t n)) ∙ sym (ap (open_in styles) on) ∙ s.pending)
 
   ran : {turns : List Turn} {has : Returned} → Run o candidates styles before turns has → Ran turns has
-  ran (Run.opening f c z) = first f c z
-  ran (Run.reply {turns = turns} t f earlier c h) = more turns t f (ran earlier) c h
+  ran (RunBy.opening f c z) = first f c z
+  ran (RunBy.reply {turns = turns} t f earlier c h) = more turns t f (ran earlier) c h
 
   same_run : (turns : List Turn) {has : Returned} → Ran turns has
       → saying (said turns) (after turns)
@@ -735,6 +901,106 @@ module _ (o : Opening) (candidates styles : List ℕ) (before : Words) where
 pub equals_straight_run : EqualsStraightRun
 equals_straight_run o candidates styles before turns has calls =
     in_words_lem o candidates styles before turns (ran o candidates styles before calls)
+
+-- ---- a preview is a run over the copy
+
+-- a reply keeps the lengths that were lent at the opening
+takes_keep : (styles : List ℕ) (last : Words) (h : Heard) (loan : Loan) {has : Returned} → FitsReply h.reply → Takes styles last h loan has
+    → (state_of has.words.state).opened ≡ (state_of last.state).opened
+takes_keep styles last h own f (TakesBy.lent_own c) =
+    ap (λ (y : Returned). (state_of y.words.state).opened) c
+    ∙ ap (λ (s : State). s.opened) (reply_is_kept h.reply h.surfaced styles last f)
+    ∙ reply_opened (state_of last.state) h.reply h.surfaced (lent_in styles last)
+takes_keep styles last h (other slices) f (TakesBy.lent_other c) =
+    ap (λ (y : Returned). (state_of y.words.state).opened) c
+    ∙ ap (λ (s : State). s.opened) (reply_is_kept h.reply h.surfaced slices.styles (words slices.layouts slices.working slices.unclaimed slices.tally last.state last.answer) f)
+    ∙ reply_opened (state_of last.state) h.reply h.surfaced slices
+
+module _ (node : ℕ) (style : List ℕ) (o : Opening) (candidates styles : List ℕ) (before : Words) where
+  abbrev copy : List ℕ
+  copy = with_style styles node style
+
+  record RanOver (turns : List Turn) (has : Returned) : Type 0 where
+    one : length style ≡ style_words
+    there : node < items styles
+    run : Run o candidates copy before (map (turn_over node style) turns) has
+    lent : (state_of has.words.state).opened.extents.styles ≡ length styles
+
+  first_over : {has : Returned} → FitsOpening o → PreviewOpens node style o candidates styles before has → has.result ≡ 0 → RanOver [] has
+  unfolding preview_opened_in_words opened_in_words
+  first_over {has = has} f c z =
+      record {
+        one = known.0;
+        there = known.1;
+        run = RunBy.opening f over z;
+        lent =
+            ap (λ (y : Returned). (state_of y.words.state).opened.extents.styles) over
+            ∙ ap (λ (s : State). s.opened.extents.styles) (opening_is_kept o candidates copy before (record { size = f.0; offset = f.1; lengths = λ h. absurd (h (sym (ap (λ (y : Returned). y.result) over) ∙ z)) }))
+            ∙ ap (λ (e : Extents). e.styles) (opening_extents o candidates (lent_in copy before))
+            ∙ (copy_is_as_long styles node style).0;
+      }
+    where
+      known : (length style ≡ style_words) × (node < items styles)
+      known = opened_with o candidates node style (lent_in styles before) (accepted_of _ (sym (ap (λ (y : Returned). y.result) c) ∙ z))
+
+      over : Opens o candidates copy before has
+      over = c ∙ ap (λ (x : Outcome). after_opening x before) (preview_opening_is_the_copys o candidates node style (lent_in styles before) known.0 known.1)
+
+  takes_over : {turns : List Turn} {last has : Returned} (h : Heard) (loan : Loan) → RanOver turns last
+      → TakesBy (PreviewRepliesTo node style) styles last.words h loan has
+      → Takes copy last.words h (loan_over node style loan) has
+  unfolding preview_replied_in_words replied_in_words
+  takes_over {last = last} h own r (TakesBy.lent_own c) =
+      let s = state_of last.words.state in
+      TakesBy.lent_own (c ∙ ap (λ (x : Outcome). after_reply x last.words) (same_reply s h.reply h.surfaced node style styles (lent_in styles last.words) r.one r.there r.lent))
+  takes_over {last = last} h (other slices) r (TakesBy.lent_other c) =
+      let s = state_of last.words.state in
+      let w = words slices.layouts slices.working slices.unclaimed slices.tally last.words.state last.words.answer in
+      TakesBy.lent_other (c ∙ ap (λ (x : Outcome). after_reply x w) (same_reply s h.reply h.surfaced node style styles slices r.one r.there r.lent))
+
+  lends_over : (loan : Loan) (result : ℕ) → Lends loan result → Lends (loan_over node style loan) result
+  lends_over own result h = tt
+  lends_over (other slices) result h = h
+
+  ran_over : {turns : List Turn} {has : Returned} → Previews node style o candidates styles before turns has → RanOver turns has
+  ran_over (RunBy.opening f c z) = first_over f c z
+  ran_over {has = has} (RunBy.reply {turns = turns} {last = last} t f earlier c h) =
+      let r = ran_over earlier in
+      let taken = takes_over t.heard t.loan r c in
+      record {
+        one = r.one;
+        there = r.there;
+        run =
+            subst (λ (ts : List Turn). Run o candidates copy before ts has) (sym (map-append (turn_over node style) turns (t ∷ [])))
+            (RunBy.reply (turn_over node style t) f r.run taken (lends_over t.loan has.result h));
+        lent = ap (λ (x : Opened). x.extents.styles) (takes_keep copy last.words t.heard (loan_over node style t.loan) f taken) ∙ r.lent;
+      }
+
+pub preview_is_a_run : PreviewIsARun
+preview_is_a_run node style o candidates styles before turns has calls = (ran_over node style o candidates styles before calls).run
+
+pub preview_equals_straight_run : PreviewEqualsStraightRun
+preview_equals_straight_run node style o candidates styles before turns has calls =
+    equals_straight_run o candidates (with_style styles node style) before (map (turn_over node style) turns) has
+    (preview_is_a_run node style o candidates styles before turns has calls)
+
+-- ---- what a finished preview is asked
+
+module _ (node : ℕ) (style styles : List ℕ) (left : Words) where
+  finished_alike : (b : Bool)
+      → finished_verdict (state_of left.state) (slices_of (lent_in (with_style styles node style) left)) b
+      ≡ finished_verdict (state_of left.state) (slices_of (lent_in styles left)) b
+  unfolding finished_verdict bad_slices bad_table other_lengths bad_candidate
+  finished_alike b = rw ((copy_is_as_long styles node style).0, (copy_is_as_long styles node style).1) refl
+
+pub preview_is_asked_by_the_table : PreviewIsAskedByTheTable
+unfolding reach_in_words reached drawing_in_words drawn draw_verdict touch_in_words touched
+preview_is_asked_by_the_table node style styles left place before =
+    let filled = (state_of left.state).counts.filled.working in (
+      rw (finished_alike node style styles left (leb filled place)) refl,
+      rw (finished_alike node style styles left (not (eqb (length before) filled))) refl,
+      rw (finished_alike node style styles left (not (eqb (length before) (touch_width * filled)))) refl,
+    )
 
 -- ---- whole quarter pixels
 

@@ -1,10 +1,12 @@
 -- Demands 1 and 2, of the C entries. No entry asks anything of its caller, so each contract, and with it each of these, holds for any bits
 -- in any number and slices of any length. `proofs/Demands.antt` proves each, under its name in small letters. Assumes nothing.
-use Rattle.std.specs.Prelude.{ℕ, ◌*◌, ◌%◌, ◌≤◌, ◌<◌, List, [], ◌∷◌, ◌⊎◌, ◌≢◌, ◌↔◌, ◌≡◌, ℤ, length, replicate, sum, Some, None, Ok, Err, All, Option, Result, Float}
+use Rattle.std.specs.Prelude.{ℕ, ◌*◌, ◌%◌, ◌≤◌, ◌<◌, List, [], ◌∷◌, ◌⊎◌, ◌≢◌, ◌↔◌, ◌≡◌, ℤ, length, map, replicate, sum, Some, None, Ok, Err, All, Option, Result, Float}
 use Rattle.refusal.specs.declared.Refusal.{Refusal}
 use Rattle.reach.specs.declared.Offsets.{Offsets}
 use Rattle.geometry.specs.declared.Point.{Point}
 use Rattle.records.specs.Records.{record_at}
+use Rattle.style_record.specs.Record.{style_words, items}
+use Rattle.style_record.specs.Table.{with_style}
 use Rattle.tree_record.specs.Candidate.{candidate_width, candidate_of}
 use Rattle.tree_record.specs.Layout.{layout_width, layout_of}
 use Rattle.pixels.specs.Conditions.{pixel_tests}
@@ -12,9 +14,11 @@ use Rattle.pixels.specs.Pixels.{pixel_edges}
 use Rattle.geometry.specs.declared.Rect.{Rect}
 use Rattle.oof_box.specs.declared.question.Reply.{Reply}
 use Rattle.run.specs.Call.{Slices, Lent, slices_of, outcome}
-use Rattle.run.specs.Conditions.{StyleIsBad, FirstNotAllowed, AllAllowed, FirstIs, NoneHolds, opening_tests, reply_tests}
+use Rattle.run.specs.Conditions.{StyleIsBad, FirstNotAllowed, AllAllowed, FirstIs, NoneHolds, opening_tests, reply_tests, preview_opening_tests, preview_reply_tests}
+use Rattle.run.specs.Preview.{over_copy}
 use Rattle.run.specs.Run.{closed, claims_of, layout_at, box_at_hand, charged}
 use Rattle.run.specs.Straight.{Course}
+use Rattle.run.specs.PreviewTheorems.{turn_over}
 use Rattle.run.specs.Theorems.{Turn, Stands, said_after, heeded_in, answered_in, course_of, laid_count}
 use Rattle.run.specs.declared.Opening.{Opening}
 use Rattle.mirror_run.specs.Quarter.{AreaInQuarters, QuarterTable, QuarterCandidates}
@@ -36,7 +40,7 @@ use Rattle.touch.specs.Touch.{touch_width, touch_words, left_by, nodes_of}
 use Rattle.touch.specs.Laws.{HoldsBoxes, SamePoint, SameLocationAndSize}
 use Rattle.oof_c.specs.TouchWords.{TouchReturned, touch_told, touch_in_words}
 use Rattle.oof_c_words.specs.PixelWords.{pixels_in_words}
-use Rattle.demands_c.specs.Calls.{Opens, RepliesTo, AnyCalls, TallyKept, Run}
+use Rattle.demands_c.specs.Calls.{Opens, RepliesTo, PreviewOpens, PreviewRepliesTo, AnyCalls, TallyKept, Run, Previews}
 
 -- ---- Demand 1. "Whoever calls an entry, with any bits in any number and slices of any length, gets its answer .. or one of document 01's
 -- refusals .., each exactly under its stated condition. A refusal writes no lent word and returns the state as it came." The conditions, in
@@ -49,15 +53,18 @@ VerdictIn (Ok (Some o)) words = words ≡ 1 ∷ o.across ∷ o.down ∷ []
 VerdictIn (Ok None) words = words ≡ 0 ∷ 0 ∷ 0 ∷ []
 VerdictIn (Err r) words = ⊥
 
--- an opening. It has no state that came: refused, it returns that of a finished run with all counts 0
+-- what a refused opening leaves: the words that came, but for the state's, which are those of a finished run with all counts 0
+abbrev pub left_closed : List ℕ → Words → Words
+left_closed styles before =
+    words before.layouts before.working before.unclaimed before.tally (state_words (closed (lent_in styles before))) before.answer
+
+-- an opening. It has no state that came
 pub record OpeningDemands (o : Opening) (candidates styles : List ℕ) (before : Words) (has : Returned) : Type 0 where
   -- what the theorems over runs suppose of a call
   pub call : Opens o candidates styles before has
   pub refused : (n : ℕ) → n ≢ 0 → (has.result ≡ n) ↔ FirstIs (opening_tests o candidates (lent_in styles before)) n
   pub accepted : (has.result ≡ 0) ↔ NoneHolds (opening_tests o candidates (lent_in styles before))
-  pub kept :
-      has.result ≢ 0
-      → has.words ≡ words before.layouts before.working before.unclaimed before.tally (state_words (closed (lent_in styles before))) before.answer
+  pub kept : has.result ≢ 0 → has.words ≡ left_closed styles before
   -- request #107: "opening clears it"
   pub cleared : has.result ≡ 0 → has.words.tally ≡ replicate (length before.tally) 0
 
@@ -69,6 +76,26 @@ pub record ReplyDemands (reply : Reply) (surfaced styles : List ℕ) (before : W
   pub kept : has.result ≢ 0 → has.words ≡ before
   -- request #107: one item's count goes up, that of the box at hand, as its record says now
   pub counted : has.result ≡ 0 → has.words.tally ≡ charged before.tally (box_at_hand before.working (state_of before.state).counts).node
+
+-- request #109, a preview's opening. "The live table and run keep every word": it is lent styles and replacement to be read only, as their types say;
+-- that the live run's layouts, lists, tally, state and answer aren't lent to it is the host's part. Of its own words a refused call keeps every one
+pub record PreviewOpeningDemands (node : ℕ) (style : List ℕ) (o : Opening) (candidates styles : List ℕ) (before : Words) (has : Returned) : Type 0 where
+  pub call : PreviewOpens node style o candidates styles before has
+  pub refused : (n : ℕ) → n ≢ 0 → (has.result ≡ n) ↔ FirstIs (preview_opening_tests o candidates node style (lent_in styles before)) n
+  pub accepted : (has.result ≡ 0) ↔ NoneHolds (preview_opening_tests o candidates node style (lent_in styles before))
+  pub kept : has.result ≢ 0 → has.words ≡ left_closed styles before
+  pub cleared : has.result ≡ 0 → has.words.tally ≡ replicate (length before.tally) 0
+  -- with one style record for a node below n it is the opening over a copy of the table with that style written in, refused or not
+  pub over : length style ≡ style_words → node < items styles → Opens o candidates (with_style styles node style) before has
+
+-- and a reply to it, whatever words stand for its state, also those that a live call left
+pub record PreviewReplyDemands (node : ℕ) (style : List ℕ) (reply : Reply) (surfaced styles : List ℕ) (before : Words) (has : Returned) : Type 0 where
+  pub call : PreviewRepliesTo node style reply surfaced styles before has
+  pub refused : (n : ℕ) → n ≢ 0 → (has.result ≡ n) ↔ FirstIs (preview_reply_tests (state_of before.state) reply surfaced node style (lent_in styles before)) n
+  pub accepted : (has.result ≡ 0) ↔ NoneHolds (preview_reply_tests (state_of before.state) reply surfaced node style (lent_in styles before))
+  pub kept : has.result ≢ 0 → has.words ≡ before
+  pub counted : has.result ≡ 0 → has.words.tally ≡ charged before.tally (box_at_hand before.working (state_of before.state).counts).node
+  pub over : length style ≡ style_words → node < items styles → RepliesTo reply surfaced (with_style styles node style) before has
 
 -- `oof_pixels`, whatever words stand for its layout
 pub record PixelsDemands (layout : List ℕ) (offset : Point Float) (before : List ℤ) (has : PixelsReturned) : Type 0 where
@@ -115,7 +142,7 @@ pub record BadWordDemands (styles before : List ℕ) (has : CheckReturned) : Typ
   pub kept : has.result ≡ 0 → has.found ≡ before
 
 -- "A run asks at most three questions for each box hoisted", whatever words the host rewrites between calls: at most three for each box,
--- and none for one that isn't hoisted, which the state's word 7 tells
+-- and none for one that isn't hoisted, which the state's word 7 tells. A preview too, whatever node and style it is given at each call
 abbrev pub ThreeQuestionsEach : Type 0
 ThreeQuestionsEach = (i n : ℕ) (has : Returned) → AnyCalls i n has → (n ≤ 3) × (at has.words.state 7 ≤ i → n ≡ 0)
 
@@ -148,6 +175,37 @@ EqualsStraightRun =
     (o : Opening) (candidates styles : List ℕ) (before : Words) (turns : List Turn) (has : Returned)
     → Run o candidates styles before turns has
     → StandsInWords (lent_in styles before) (answered_in o candidates (lent_in styles before) turns) has (course_of o candidates (lent_in styles before) turns)
+
+-- ---- Request #109, of previews by C calls: "Its questions, layouts, lists, counts and finish equal those of a run over a copy of the table with that
+-- style written in, given the same opening, lent words and replies, and at each call the same replacement and node"
+
+-- the calls of a preview are those of such a run: so each theorem that supposes a `Run`, here and above, is one over previews. An opening that isn't
+-- refused has one style record and a node below n. Other slices that are lent with a refused reply have the style written into their table too: a
+-- table of another length is refused with 2 either way
+abbrev pub PreviewIsARun : Type 0
+PreviewIsARun =
+    (node : ℕ) (style : List ℕ) (o : Opening) (candidates styles : List ℕ) (before : Words) (turns : List Turn) (has : Returned)
+    → Previews node style o candidates styles before turns has
+    → Run o candidates (with_style styles node style) before (map (turn_over node style) turns) has
+
+-- so it is the straight run of boxes, with that style for its node
+abbrev pub PreviewEqualsStraightRun : Type 0
+PreviewEqualsStraightRun =
+    (node : ℕ) (style : List ℕ) (o : Opening) (candidates styles : List ℕ) (before : Words) (turns : List Turn) (has : Returned)
+    → Previews node style o candidates styles before turns has
+    → let copy = over_copy node style (lent_in styles before) in
+    let same = map (turn_over node style) turns in
+    StandsInWords copy (answered_in o candidates copy same) has (course_of o candidates copy same)
+
+-- the entries that read a finished run read no style: lent the table, in place of the copy, they leave the same of what a preview left
+abbrev pub PreviewIsAskedByTheTable : Type 0
+PreviewIsAskedByTheTable =
+    (node : ℕ) (style styles : List ℕ) (left : Words) (place : ℕ) (before : List ℕ)
+    → let over_copied = slices_of (lent_in (with_style styles node style) left) in
+    let over_table = slices_of (lent_in styles left) in
+    (reach_in_words place over_copied left.state before ≡ reach_in_words place over_table left.state before)
+    × (drawing_in_words over_copied left.state before ≡ drawing_in_words over_table left.state before)
+    × (touch_in_words over_copied left.state before ≡ touch_in_words over_table left.state before)
 
 -- ---- Request #108, of runs by C calls
 
@@ -236,6 +294,9 @@ pub record Demanded : Type 0 where
   pub three_questions_each : ThreeQuestionsEach
   pub counts_add_up : CountsAddUp
   pub equals_straight_run : EqualsStraightRun
+  pub preview_is_a_run : PreviewIsARun
+  pub preview_equals_straight_run : PreviewEqualsStraightRun
+  pub preview_is_asked_by_the_table : PreviewIsAskedByTheTable
   pub quarters_have_edges : QuartersHaveEdges
   pub quarters_are_answered : QuartersAreAnswered
   pub finished_is_touched : FinishedIsTouched

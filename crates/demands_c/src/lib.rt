@@ -14,6 +14,8 @@ ghost use Rattle.demands_c.specs.Demands.{OpeningDemands, ReplyDemands, PixelsDe
 
 use oof_box::question::Reply;
 
+pub mod preview;
+
 // Each function, here and below, takes what the entry takes, since the demand is stated of that call.
 pub fn open(
     width: f32,

@@ -1,5 +1,5 @@
-// The C entries: a run whose state and answer stand in lent words, the pixel edges of a box, whether scrolling brings a box up, in which order
-// the boxes are drawn, what the touch driver reads of them, and the first word of a table of styles that breaks a code rule. A slice passes as a
+// The C entries: a run whose state and answer stand in lent words, a preview (`preview`), the pixel edges of a box, whether scrolling brings a box
+// up, in which order the boxes are drawn, what the touch driver reads of them, and the first word of a table of styles that breaks a code rule. A slice passes as a
 // pointer, then its length in words; state, answer, a layout, edges, a verdict and a found word's place pass as a pointer each. `oof_c_c`
 // exports them, and hosts/c/oof.h declares them for C.
 #![tactic(auto)]
@@ -22,8 +22,37 @@ use pixels::lent::EDGES;
 use reach::lent::VERDICT;
 use refusal::Refusal;
 use run::{Opening, Slices};
+use style_record::table::Table;
 use tree::layout::OofPositioningArea;
 use tree_record::layout::LAYOUT_WORDS;
+
+pub mod preview;
+
+// An area's width, height, x and y, then the codes of an opening.
+fn opening_of(
+    width: f32,
+    height: f32,
+    x: f32,
+    y: f32,
+    direction: u32,
+    claims: u32,
+    overflow_x: u32,
+    overflow_y: u32,
+) -> Opening
+    ensures { result ≡ opening_of width height x y direction claims overflow_x overflow_y }
+{
+    let area = OofPositioningArea {
+        size: Size { width, height },
+        offset: Point { x, y },
+    };
+    Opening {
+        area,
+        direction,
+        claims,
+        overflowx: overflow_x,
+        overflowy: overflow_y,
+    }
+}
 
 // Opens a run. The C interface passes floats, codes and slices one by one, here and below.
 #[tactic(auto, unfolding(oof_c_words::specs::Entry::opened_in_words))]
@@ -47,20 +76,10 @@ pub fn oof_open(
 ) -> u32
     ensures { returned result layouts.new working.new unclaimed.new tally.new state.new answer.new ≡ opened_in_words (opening_of width height x y direction claims overflow_x overflow_y) candidates.now styles.now (words layouts.old working.old unclaimed.old tally.old state.old answer.old) }
 {
-    let area = OofPositioningArea {
-        size: Size { width, height },
-        offset: Point { x, y },
-    };
-    let opening = Opening {
-        area,
-        direction,
-        claims,
-        overflowx: overflow_x,
-        overflowy: overflow_y,
-    };
-    let step = placer::open(
-        opening, styles, candidates, layouts, working, unclaimed, tally,
+    let o = opening_of(
+        width, height, x, y, direction, claims, overflow_x, overflow_y,
     );
+    let step = placer::open(o, styles, candidates, layouts, working, unclaimed, tally);
     *state = oof_c_words::state::state_words(step.state);
     oof_c_words::tell(step.answer, answer)
 }
@@ -209,12 +228,12 @@ pub fn oof_pixels(layout: &[u32; LAYOUT_WORDS], x: f32, y: f32, edges: &mut [i32
 }
 
 // The slices of a finished run, as the parts that read one are lent them.
-fn run_slices<'a>(
-    styles: &'a [u32],
+fn run_slices<'a, 't>(
+    styles: &'a Table<'t>,
     layouts: &'a [u32],
     working: &'a [u32],
     unclaimed: &'a [u32],
-) -> Slices<'a>
+) -> Slices<'a, 't>
     ensures { result ≡ slices styles.now layouts.now working.now unclaimed.now }
 {
     Slices {
@@ -239,6 +258,7 @@ pub fn oof_reach(
     ensures { reach_returned result verdict.new ≡ reach_in_words place (slices styles.now layouts.now working.now unclaimed.now) state.now verdict.old }
 {
     let s = oof_c_words::state::state_of(state);
+    let styles = &Table::from(styles);
     let slices = run_slices(styles, layouts, working, unclaimed);
     reach::lent::tell(reach::reach(place, s, &slices), verdict)
 }
@@ -263,6 +283,7 @@ pub fn oof_drawing_order(
     ensures { drawing_returned result order.new ≡ drawing_in_words (slices styles.now layouts.now working.now unclaimed.now) state.now order.old }
 {
     let s = oof_c_words::state::state_of(state);
+    let styles = &Table::from(styles);
     let slices = run_slices(styles, layouts, working, unclaimed);
     number(drawing::drawing_order(s, &slices, order))
 }
@@ -280,6 +301,7 @@ pub fn oof_touch(
     ensures { touch_returned result words.new ≡ touch_in_words (slices styles.now layouts.now working.now unclaimed.now) state.now words.old }
 {
     let s = oof_c_words::state::state_of(state);
+    let styles = &Table::from(styles);
     let slices = run_slices(styles, layouts, working, unclaimed);
     number(touch::touch(s, &slices, words))
 }
@@ -289,6 +311,6 @@ pub fn oof_touch(
 pub fn oof_first_bad_word(styles: &[u32], found: &mut [u32; FOUND]) -> u32
     ensures { check_returned result found.new ≡ check_in_words styles.now found.old }
 {
-    let check = style_record::check::check_styles(styles);
+    let check = style_record::check::check_styles(&Table::from(styles));
     oof_c_words::check::tell(check, found)
 }

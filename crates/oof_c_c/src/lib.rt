@@ -20,6 +20,8 @@ use pixels::lent::EDGES;
 use reach::lent::VERDICT;
 use tree_record::layout::LAYOUT_WORDS;
 
+mod preview;
+
 // Opens a run. An exported function has the C interface's parameters and answers a number, here and below, and has no body but the
 // call: a static library can't be cited, and `demands_c` cites `oof_c`.
 #[unsafe(no_mangle)]

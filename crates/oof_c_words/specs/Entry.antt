@@ -1,10 +1,12 @@
--- What a C call leaves, of an outcome of run/specs/Run.antt. Read `opened_in_words` and `replied_in_words` first. Assumes nothing.
+-- What a C call leaves, of an outcome of run/specs/Run.antt or run/specs/Preview.antt. Read `opened_in_words` and `replied_in_words` first.
+-- Assumes nothing.
 use Rattle.std.specs.Prelude.{ℕ, cond, List, Float, Result, Ok, Err, is_err}
 use Rattle.refusal.specs.declared.Refusal.{Refusal}
 use Rattle.refusal.specs.Refusal.{number_of}
 use Rattle.oof_box.specs.declared.question.Reply.{Reply}
 use Rattle.run.specs.Call.{Lent, Outcome}
 use Rattle.run.specs.Run.{opened, replied}
+use Rattle.run.specs.Preview.{preview_opened, preview_replied}
 use Rattle.run.specs.declared.Opening.{Opening}
 use Rattle.run.specs.declared.Answer.{Answer}
 use Rattle.run.specs.declared.Answer.TheVariants.{Ask, Finish}
@@ -63,17 +65,32 @@ in_words left state shown =
       words = words left.layouts left.working left.unclaimed left.tally state (answer_left left.step.answer shown);
     }
 
--- an opening: the state's words are those of the state that it returns, refused or not
+-- after an opening: the state's words are those of the state that it returns, refused or not
+abbrev pub after_opening : Outcome → Words → Returned
+after_opening left before = in_words left (state_words left.step.state) before.answer
+
+-- after a reply: the state's words are as `state_left` has them
+abbrev pub after_reply : Outcome → Words → Returned
+after_reply left before = in_words left (state_left left.step before.state) before.answer
+
+-- an opening
 unfoldable pub opened_in_words : Opening → List ℕ → List ℕ → Words → Returned
-opened_in_words o candidates styles before =
-    let left = opened o candidates (lent_in styles before) in
-    in_words left (state_words left.step.state) before.answer
+opened_in_words o candidates styles before = after_opening (opened o candidates (lent_in styles before)) before
 
 -- a reply to the question that the state's words keep
 unfoldable pub replied_in_words : Reply → List ℕ → List ℕ → Words → Returned
 replied_in_words reply surfaced styles before =
-    let left = replied (state_of before.state) reply surfaced (lent_in styles before) in
-    in_words left (state_left left.step before.state) before.answer
+    after_reply (replied (state_of before.state) reply surfaced (lent_in styles before)) before
+
+-- a preview's opening (request #109), with a style in place of the node's own
+unfoldable pub preview_opened_in_words : Opening → List ℕ → List ℕ → ℕ → List ℕ → Words → Returned
+preview_opened_in_words o candidates styles node style before =
+    after_opening (preview_opened o candidates node style (lent_in styles before)) before
+
+-- a reply to a preview's question
+unfoldable pub preview_replied_in_words : Reply → List ℕ → List ℕ → ℕ → List ℕ → Words → Returned
+preview_replied_in_words reply surfaced styles node style before =
+    after_reply (preview_replied (state_of before.state) reply surfaced node style (lent_in styles before)) before
 
 -- ---- as a contract has them: what an entry returns, and the words of the slices that it may write
 

@@ -73,6 +73,7 @@ fn lay_out_words(ask: LayoutInput) -> [u32; ANSWER_WORDS]
 
 // The words of a question.
 #[tactic(auto, unfolding(crate::specs::AnswerWords::question_words))]
+#[inline(always)]
 pub fn question_words(question: Question) -> [u32; ANSWER_WORDS]
     ensures { result ≡ question_words question }
 {

@@ -16,6 +16,7 @@ pub mod state;
 // As `pixels::lent::tell`, but for what is written: one of all three would be given each value's words by a closure, whose promise each contract
 // would repeat.
 #[tactic(auto, unfolding(crate::specs::Entry::result_of, crate::specs::Entry::answer_left))]
+#[inline(always)]
 pub fn tell(a: Result<Answer, Refusal>, answer: &mut [u32; answer::ANSWER_WORDS]) -> u32
     ensures { told result answer.new ≡ told (result_of a) (answer_left a answer.old) }
 {
@@ -33,7 +34,9 @@ pub fn tell(a: Result<Answer, Refusal>, answer: &mut [u32; answer::ANSWER_WORDS]
 }
 
 // The state's words after a reply: those of a refused one stay as they came, whatever they are.
+// Inlined, here and in `tell`: a live reply and a preview's both call it.
 #[tactic(auto, unfolding(crate::specs::Entry::state_left))]
+#[inline(always)]
 pub fn keep(step: Step, state: &mut [u32; state::STATE_WORDS])
     ensures { state.new ≡ state_left step state.old }
 {

@@ -193,6 +193,7 @@ fn opened_in(w: &[u32; STATE_WORDS]) -> Opened
 
 // The state that 28 words mean, whatever they are.
 #[tactic(auto, unfolding(crate::specs::StateWords::state_of))]
+#[inline(always)]
 pub fn state_of(w: &[u32; STATE_WORDS]) -> State
     ensures { result ≡ state_of w.now }
 {

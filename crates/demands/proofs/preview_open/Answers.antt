@@ -1,0 +1,10 @@
+-- The search does not find what `preview_opening_demands` is to speak of: it would have to guess the parts of the outcome.
+use Rattle.run.specs.Call.{lent}
+use Rattle.demands.proofs.Previews.{preview_opening_demands}
+use Rattle.demands.proofs.preview_open.Goals as goal
+
+pub returns : goal.returns
+returns c =
+    let a = c.args in
+    preview_opening_demands a.o a.candidates.now a.node a.style.now (lent a.styles.now a.layouts.now a.working.now a.unclaimed.now a.tally.now)
+    c.open.ensures
