@@ -1,6 +1,6 @@
 #!/bin/sh
 # Prints the times of the same runs through the published Rust and through the static library, of the library's calls as the table of styles
-# grows, of the drawing order as more layers are in use, and of what a touch driver reads: five tables.
+# grows, of the drawing order as more layers are in use, of what a touch driver reads, and of a preview's calls: six tables.
 #
 #     bench/run.sh [ROUNDS, 101 unless said]
 #

@@ -1,6 +1,6 @@
 //! The static library, over words lent once.
 use crate::scene::{Scene, MEASURED};
-use oof::ffi::{self, Finished, Lent, Reply, ANSWER, STATE};
+use oof::ffi::{self, Finished, Lent, Replacement, Reply, ANSWER, STATE};
 use oracle::case::{CANDIDATE, LAYOUT};
 
 pub struct Words {
@@ -30,7 +30,8 @@ impl Words {
             answer: [0; ANSWER],
         }
     }
-    pub fn open(&mut self) -> u32 {
+    /// A function over the area, its codes, the candidates and what is lent
+    fn call(&mut self, f: impl FnOnce([f32; 4], [u32; 4], &[u32], &mut Lent) -> u32) -> u32 {
         let mut lent = Lent {
             styles: &self.styles,
             layouts: &mut self.layouts,
@@ -40,19 +41,19 @@ impl Words {
             state: &mut self.state,
             answer: &mut self.answer,
         };
-        ffi::open(self.area, self.codes, &self.candidates, &mut lent)
+        f(self.area, self.codes, &self.candidates, &mut lent)
+    }
+    pub fn open(&mut self) -> u32 {
+        self.call(ffi::open)
     }
     pub fn reply(&mut self, reply: Reply) -> u32 {
-        let mut lent = Lent {
-            styles: &self.styles,
-            layouts: &mut self.layouts,
-            working: &mut self.working,
-            unclaimed: &mut [],
-            tally: &mut self.tally,
-            state: &mut self.state,
-            answer: &mut self.answer,
-        };
-        ffi::reply(reply, &[], &mut lent)
+        self.call(|_, _, _, lent| ffi::reply(reply, &[], lent))
+    }
+    pub fn preview_open(&mut self, r: Replacement) -> u32 {
+        self.call(|area, codes, candidates, lent| ffi::preview_open(area, codes, r, candidates, lent))
+    }
+    pub fn preview_reply(&mut self, reply: Reply, r: Replacement) -> u32 {
+        self.call(|_, _, _, lent| ffi::preview_reply(reply, &[], r, lent))
     }
     /// Of a finished run
     pub fn drawing_order(&self, order: &mut [u32]) -> u32 {

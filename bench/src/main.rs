@@ -1,5 +1,6 @@
 //! Times the same runs through the published Rust and through the library, in one process; then the library's calls as the table grows,
-//! good and with a bad word, the drawing order as more layers are in use, and what a touch driver reads.
+//! good and with a bad word, the drawing order as more layers are in use, what a touch driver reads, and a preview's calls beside the
+//! live run's.
 //!
 //!     bench [ROUNDS]
 //!     bench profile rust|library ITEMS BOXES RUNS      # one side alone on 64 tables in turn, for a profiler
@@ -11,7 +12,7 @@ mod rust;
 mod scene;
 
 use library::Words;
-use oof::ffi::{self, state, Reply};
+use oof::ffi::{self, state, Replacement, Reply};
 use oof::words::{CANDIDATE, LAYER, LAYOUT, STYLE};
 use oof::{first_bad_word, BadWord};
 use oracle::set::{has_size_keyword, on_the_set};
@@ -125,15 +126,15 @@ fn sum_of(words: &[u32]) -> u32 {
     words.iter().fold(0, |sum, word| sum.wrapping_add(*word))
 }
 
+/// A run of one box of the first item, opened, which asks to measure both
+fn measuring(items: usize) -> Words {
+    let mut opened = (0..).map(|seed| Words::new(&scene(seed, items, 1)));
+    opened.find_map(|mut words| (words.open() == 0 && words.answer[0] == 1).then_some(words)).expect("there is no end")
+}
+
 /// One call over a table, beside one sum of its words
 fn one_call(rounds: usize, items: usize) {
-    // the first box measures both
-    let scene = (0..).map(|seed| scene(seed, items, 1)).find(|scene| {
-        let mut words = Words::new(scene);
-        words.open() == 0 && words.answer[0] == 1
-    });
-    let mut words = Words::new(&scene.unwrap());
-    assert_eq!(words.open(), 0);
+    let mut words = measuring(items);
     let (state, answer, table) = (words.state, words.answer, words.styles.clone());
     let mut sum = || {
         black_box(sum_of(black_box(&table)));
@@ -295,6 +296,53 @@ fn touching(rounds: usize, items: usize, boxes: usize) {
     );
 }
 
+/// The words of a live run, and of a preview beside it, whose table has no good word in the node's record
+fn live_and_tried(items: usize, node: usize) -> [Words; 2] {
+    let [live, mut tried] = [measuring(items), measuring(items)];
+    tried.styles[STYLE * node..][..STYLE].fill(u32::MAX);
+    [live, tried]
+}
+
+/// A preview's opening and its reply to a measure question, beside the live run's: the replacement is the node's own style, so that both do the
+/// same
+fn previewing(rounds: usize, items: usize, node: usize) {
+    let [mut live_opened, mut tried_opened] = live_and_tried(items, node);
+    let [mut live, mut tried] = live_and_tried(items, node);
+    let style = live.styles[STYLE * node..][..STYLE].to_vec();
+    let r = Replacement { node: node as u32, style: &style };
+    assert_eq!((live.open(), tried.preview_open(r)), (0, 0));
+    let (state, answer) = (live.state, live.answer);
+    assert_eq!((tried.state, tried.answer), (state, answer));
+    let mut open = || assert_eq!(black_box(live_opened.open()), 0);
+    let mut preview_open = || assert_eq!(black_box(tried_opened.preview_open(black_box(r))), 0);
+    // with the state, the tally is as it was before the call
+    let rewind = |words: &mut Words| {
+        (words.state, words.answer) = (state, answer);
+        words.tally[answer[1] as usize] = 0;
+    };
+    let both = Reply::Both(120.0, 18.0);
+    let mut reply = || {
+        rewind(&mut live);
+        assert_eq!(black_box(live.reply(both)), 0);
+    };
+    let mut preview_reply = || {
+        rewind(&mut tried);
+        assert_eq!(black_box(tried.preview_reply(both, black_box(r))), 0);
+    };
+    let [open, preview_open, reply, preview_reply] =
+        medians(rounds, [&mut open, &mut preview_open, &mut reply, &mut preview_reply]);
+    assert_eq!((live.state, live.answer), (tried.state, tried.answer));
+    println!(
+        "| {items} | {node} | {} | {} | {:.2} | {} | {} | {:.2} |",
+        shown(open),
+        shown(preview_open),
+        preview_open / open,
+        shown(reply),
+        shown(preview_reply),
+        preview_reply / reply
+    );
+}
+
 /// So many runs of one side, for a profiler: `rust` or `library`, items, boxes, runs
 fn profile(args: &[String]) {
     let [items, boxes, runs] = [1, 2, 3].map(|i| args[i].parse::<usize>().expect("a number"));
@@ -354,4 +402,13 @@ fn main() {
     }
     println!();
     finished_runs(rounds);
+    println!();
+    println!("| items | node | an opening | a preview's | ratio | a reply | a preview's | ratio |");
+    println!("|---|---|---|---|---|---|---|---|");
+    for items in ITEMS {
+        previewing(rounds, items, 0);
+        if items > 1 {
+            previewing(rounds, items, items - 1);
+        }
+    }
 }

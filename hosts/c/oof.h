@@ -4,8 +4,9 @@
  * that question's kind, until the answer is a finish. Then the layouts hold each placed box, and the tally has for each item
  * how many questions were answered. oof_reach says of each box whether scrolling can bring it into view, oof_drawing_order
  * in which order to draw them, and oof_touch writes what a touch driver reads of them: of each its node and its pixel edges.
- * oof_pixels rounds a layout to whole pixels, and oof_first_bad_word says which word of a table of styles breaks a code rule;
- * they belong to no run.
+ * oof_preview_open and the four oof_preview_reply_.. make a run that tries another style for one node, beside the live run and
+ * over the same table. oof_pixels rounds a layout to whole pixels, and oof_first_bad_word says which word of a table of styles
+ * breaks a code rule; they belong to no run.
  *
  *     result = oof_open(.., state, answer);
  *     while (result == 0 && answer[OOF_ANSWER_KIND] != OOF_FINISH)
@@ -25,16 +26,17 @@
  * oof_reach and oof_touch alone: it was refused, for the reason of that number (enum oof_refusal), and NO LENT WORD WAS WRITTEN:
  * layouts, lists, tally, answer, edges, verdict, order and the driver's words keep every bit. 7 and 8 are refusals of parts that
  * have no entry here. What stands in the state's words after a refusal:
- *   - after a refused reply, what stood there before, bit for bit, so the reply can be mended and made again;
- *   - after a refused opening, a finished run with all counts 0, so that no reply is taken until an opening is accepted.
- *     A run that stood in these words before is given up by any opening.
+ *   - after a refused reply (of a preview too), what stood there before, bit for bit, so the reply can be mended and made again;
+ *   - after a refused opening (of a preview too), a finished run with all counts 0, so that no reply is taken until an opening
+ *     is accepted. A run that stood in these words before is given up by any opening.
  *
  * POINTERS. Each slice is a pointer, then its length in 32-bit words. What a host owes:
  *   - every pointer is aligned for uint32_t and points at so many words that may be read (and written, where it isn't
  *     const); `state` at OOF_STATE_WORDS of them, `answer` at OOF_ANSWER_WORDS, `layout` at OOF_LAYOUT_WORDS, `edges` at
  *     OOF_PIXEL_EDGES, `verdict` at OOF_REACH_WORDS, `found` at OOF_FOUND_WORDS;
  *   - no pointer is null, also where the length is 0;
- *   - no two slices of a call overlap, state, answer, layout, edges, verdict and found included;
+ *   - no two slices of a call overlap, state, answer, layout, edges, verdict and found included; but a preview's style may be a
+ *     record of its table;
  *   - nobody else writes the words during a call.
  * The words themselves may be any: whatever bits they hold, the call does what is defined, or is refused as defined.
  * No pointer is kept after a call, nothing is allocated and there are no globals: runs over different words may go on
@@ -78,11 +80,13 @@ enum oof_refusal {
     OOF_ACCEPTED = 0,
     OOF_BAD_AREA = 1,      /* an opening's direction, claims or overflow code is outside its list */
     OOF_BAD_EXTENT = 2,    /* a slice isn't whole records, is too long, or has another length than at the opening; the tally
-                              isn't one word an item; or, of oof_reach, no box has that place; of oof_drawing_order, the
-                              order isn't one word a box; of oof_touch, the driver's words aren't five a box */
+                              isn't one word an item; a preview's style isn't one record; or, of oof_reach, no box has that
+                              place; of oof_drawing_order, the order isn't one word a box; of oof_touch, the driver's words
+                              aren't five a box */
     OOF_BAD_STYLE = 3,     /* a tag or code that its field doesn't take, in any item of the table; oof_first_bad_word says
                               which */
-    OOF_BAD_CANDIDATE = 4, /* a node outside the table, a code outside its list, or a layer above OOF_MOST_LAYER */
+    OOF_BAD_CANDIDATE = 4, /* a node outside the table, a preview's own too, a code outside its list, or a layer above
+                              OOF_MOST_LAYER */
     OOF_LIST_FULL = 5,     /* the claimed or the unclaimed records would exceed their list */
     OOF_WRONG_REPLY = 6,   /* not the open question's kind, no question open, a state whose counts don't fit, or a word of the
                               tally above the run's count of questions answered; of oof_reach, oof_drawing_order and
@@ -517,6 +521,97 @@ uint32_t oof_reply_laid_out(float left, float right, float top, float bottom,
                             uint32_t *tally, size_t tally_len,
                             uint32_t *state, uint32_t *answer);
 
+/* ---- previews: another style tried first
+ *
+ * An editor shows an overlay with a changed style while the live screen stays up. A preview is a run over a copy of the table of
+ * styles in which one record is replaced; the copy is never made, and the table stays as it is:
+ *
+ *     memcpy(style, styles + OOF_STYLE_WORDS * node, sizeof style);           // uint32_t style[OOF_STYLE_WORDS]
+ *     oof_set_length(style, OOF_STYLE_INSET_LEFT, OOF_TAG_PX, 200);           // moved
+ *     result = oof_preview_open(.., styles, styles_len, node, style, OOF_STYLE_WORDS, .., own_state, own_answer);
+ *     while (result == 0 && own_answer[OOF_ANSWER_KIND] != OOF_FINISH)
+ *         result = oof_preview_reply_..(.., styles, styles_len, node, style, OOF_STYLE_WORDS, .., own_state, own_answer);
+ *
+ * Each entry takes what the entry of a run takes that has its name without "preview_", and after the styles
+ *   node        whose record is replaced: a whole word, below the number of records in the table
+ *   style       the replacement, one record: style_len must be OOF_STYLE_WORDS; only read. It may be a record of the table itself
+ * A call that is lent such a node and one record does what that entry does over a copy of the table with the replacement written
+ * in at `node`: the same result, state, answer, layouts, lists and tally, bit for bit. So all that is said of a run holds, of
+ * questions, counts and the finish too. Each box of the node has the replacement; all other boxes have the live table's words.
+ *   - The table and the replacement are only read: no call writes a word of them, whatever its result.
+ *   - A preview's layouts, working and unclaimed lists, tally, state and answer are its own. They must not be those of the live run,
+ *     which would be written over. With slices of its own a preview may go on between the calls of the live run, before or after
+ *     it, and beside other previews.
+ *   - Nothing of node and replacement is kept in the state: both are lent at each call. A later call may be lent another
+ *     replacement, or another node: it is then the call over the copy with that one, and what earlier calls wrote stays. The same
+ *     at each call makes one run over one copy.
+ *   - Of the table every record counts but the one that is replaced. A live record in which a word breaks a code rule doesn't
+ *     matter at `node`; a replacement with such a word is refused with 3, also where no candidate names the node.
+ *     oof_first_bad_word(style, OOF_STYLE_WORDS, found) says which word of a replacement that is.
+ * A finished preview is read as a finished run: oof_reach, oof_drawing_order and oof_touch take its own layouts, lists and
+ * state, and the live table, of which only the length counts there. To put a tried style into effect, write it into the table,
+ * and open a run. */
+
+/* Opens a preview. Refuses with 1, 2, 4, 3, 4, 5, tested in this order: with 2 as oof_open, and where the replacement isn't one
+ * record; then with 4 if the table has no such node, which over an empty table is always so; then with 3, 4, 5 as oof_open over the
+ * copy. Direction 2 beside a replacement of 78 words is 1; 78 words beside a node that the table hasn't are 2; such a node
+ * beside a bad style is 4. What a refused opening leaves in the state is what a run's leaves, with the lengths as lent. */
+uint32_t oof_preview_open(float width, float height, float x, float y,
+                          uint32_t direction, uint32_t claims, uint32_t overflow_x, uint32_t overflow_y,
+                          const uint32_t *styles, size_t styles_len,
+                          uint32_t node, const uint32_t *style, size_t style_len,
+                          const uint32_t *candidates, size_t candidates_len,
+                          uint32_t *layouts, size_t layouts_len,
+                          uint32_t *working, size_t working_len,
+                          uint32_t *unclaimed, size_t unclaimed_len,
+                          uint32_t *tally, size_t tally_len,
+                          uint32_t *state, uint32_t *answer);
+
+/* A preview's replies refuse with 2, 4, 6, 3, 4, 5, tested in this order: with 2 as a run's, and where the replacement isn't one
+ * record; then with 4 if the table has no such node, also where no question is open; then with 6, 3, 4, 5 as a run's over the copy.
+ * A finished preview and a node that the table hasn't are 4, and so are such a node and a word of the tally above the count. */
+
+/* Replies to OOF_MEASURE_BOTH. */
+uint32_t oof_preview_reply_both(float width, float height,
+                                const uint32_t *styles, size_t styles_len,
+                                uint32_t node, const uint32_t *style, size_t style_len,
+                                uint32_t *layouts, size_t layouts_len,
+                                uint32_t *working, size_t working_len,
+                                uint32_t *unclaimed, size_t unclaimed_len,
+                                uint32_t *tally, size_t tally_len,
+                                uint32_t *state, uint32_t *answer);
+
+/* Replies to OOF_MEASURE_WIDTH. */
+uint32_t oof_preview_reply_width(float width,
+                                 const uint32_t *styles, size_t styles_len,
+                                 uint32_t node, const uint32_t *style, size_t style_len,
+                                 uint32_t *layouts, size_t layouts_len,
+                                 uint32_t *working, size_t working_len,
+                                 uint32_t *unclaimed, size_t unclaimed_len,
+                                 uint32_t *tally, size_t tally_len,
+                                 uint32_t *state, uint32_t *answer);
+
+/* Replies to OOF_MEASURE_HEIGHT. */
+uint32_t oof_preview_reply_height(float height,
+                                  const uint32_t *styles, size_t styles_len,
+                                  uint32_t node, const uint32_t *style, size_t style_len,
+                                  uint32_t *layouts, size_t layouts_len,
+                                  uint32_t *working, size_t working_len,
+                                  uint32_t *unclaimed, size_t unclaimed_len,
+                                  uint32_t *tally, size_t tally_len,
+                                  uint32_t *state, uint32_t *answer);
+
+/* Replies to OOF_LAY_OUT. */
+uint32_t oof_preview_reply_laid_out(float left, float right, float top, float bottom,
+                                    const uint32_t *surfaced, size_t surfaced_len,
+                                    const uint32_t *styles, size_t styles_len,
+                                    uint32_t node, const uint32_t *style, size_t style_len,
+                                    uint32_t *layouts, size_t layouts_len,
+                                    uint32_t *working, size_t working_len,
+                                    uint32_t *unclaimed, size_t unclaimed_len,
+                                    uint32_t *tally, size_t tally_len,
+                                    uint32_t *state, uint32_t *answer);
+
 /* ---- boxes that no scrolling brings up */
 
 /* Whether scrolling can bring a box of a finished run into view, and by how little.
@@ -694,8 +789,8 @@ uint32_t oof_pixels(const uint32_t *layout, float x, float y, int32_t *edges);
  *   - A safety above 2, unless the keyword before it is OOF_ALIGN_ABSENT. With a keyword of 11 and a safety of 7 the keyword is
  *     the first, with 9 and 7 the safety, and with 10 and 7 neither is bad.
  *   - No float: values, second values, ratio and scrollbar width may hold any bits, those of a NaN too.
- * An opening or a reply is refused with OOF_BAD_STYLE exactly if this entry gives 1 for its table and none of the tests before
- * that one refuses it: 1 and 2 of an opening, 2 and 6 of a reply. */
+ * An opening or a reply is refused with OOF_BAD_STYLE exactly if this entry gives 1 for its table (of a preview: for the copy) and
+ * none of the tests before that one refuses it: 1 and 2 of an opening, 2 and 6 of a reply, and a preview's node. */
 uint32_t oof_first_bad_word(const uint32_t *styles, size_t styles_len, uint32_t *found);
 
 #ifdef __cplusplus

@@ -1,7 +1,9 @@
 /* Replays stored runs through the entries. Standard input has openings and replies, damaged ones among them; what is answered
  * and written is printed, and at the end what a touch driver reads. run.sh holds it to replay.stdout: what the published Rust
  * answered or, where request #106 doesn't compare with the Rust, the second implementation, or the refusal that document 01
- * names. Exits with 1 where a call, refused or not, wrote a word that it must keep, or where the input is no such runs.
+ * names. With an argument, `preview`, each run is played as a preview, and must come to the same: one record of its table is lent
+ * as the replacement, and in the table noise stands in its place; a run over an empty table, of which there is no preview, ends the
+ * program. Exits with 1 where a call, refused or not, wrote a word that it must keep, or where the input is no such runs.
  *
  * replay.stdin, in hexadecimal words (tools/samples/replays.py writes it, and replay.stdout): the number of openings, each with
  * its replies, and of each
@@ -31,6 +33,8 @@ typedef struct {
  * compare as bytes. */
 typedef struct {
     slice styles, candidates, surfaced, layouts, working, unclaimed, tally;
+    uint32_t node;
+    slice table, style; /* of a preview, in place of the styles */
     uint32_t state[OOF_STATE_WORDS], beyond_state[BEYOND], answer[OOF_ANSWER_WORDS], beyond_answer[BEYOND];
 } lent;
 
@@ -38,6 +42,10 @@ typedef struct {
 #define FINISHED(w) SLICE((w)->styles), SLICE((w)->layouts), SLICE((w)->working), SLICE((w)->unclaimed), (w)->state
 #define WRITTEN(w) SLICE((w)->layouts), SLICE((w)->working), SLICE((w)->unclaimed), SLICE((w)->tally), (w)->state, (w)->answer
 
+/* of a preview: the table, the node and the replacement */
+#define TRIED(w) SLICE((w)->table), (w)->node, SLICE((w)->style)
+
+static int are_previews;
 static uint32_t opening_number;
 
 static void must(int so, const char *else_what)
@@ -199,6 +207,29 @@ static int same(const lent *a, const lent *b)
     return memcmp(a, b, sizeof *a) == 0;
 }
 
+/* For a preview: the table that is lent has noise at the node, and the replacement is what stands there in the styles. */
+static void set_apart(lent *w)
+{
+    const uint32_t items = w->styles.length / OOF_STYLE_WORDS;
+    must(items > 0, "its table has no item that a preview could replace");
+    w->node = opening_number % items;
+    w->table = w->styles;
+    uint32_t *record = w->table.words + w->node * OOF_STYLE_WORDS;
+    memset(&w->style, NOISE, sizeof w->style);
+    w->style.length = OOF_STYLE_WORDS;
+    memcpy(w->style.words, record, OOF_STYLE_WORDS * sizeof *record);
+    memset(record, NOISE, OOF_STYLE_WORDS * sizeof *record);
+}
+
+static uint32_t open_any(const float area[4], const uint32_t codes[4], lent *w)
+{
+    if (are_previews)
+        return oof_preview_open(area[0], area[1], area[2], area[3], codes[0], codes[1], codes[2], codes[3], TRIED(w),
+                                SLICE(w->candidates), WRITTEN(w));
+    return oof_open(area[0], area[1], area[2], area[3], codes[0], codes[1], codes[2], codes[3], SLICE(w->styles),
+                    SLICE(w->candidates), WRITTEN(w));
+}
+
 static void play_opening(lent *w)
 {
     float area[4];
@@ -208,9 +239,10 @@ static void play_opening(lent *w)
         codes[i] = read_word();
     read_words(&w->styles);
     read_words(&w->candidates);
+    if (are_previews)
+        set_apart(w);
     lent before = *w;
-    uint32_t result = oof_open(area[0], area[1], area[2], area[3], codes[0], codes[1], codes[2], codes[3],
-                               SLICE(w->styles), SLICE(w->candidates), WRITTEN(w));
+    uint32_t result = open_any(area, codes, w);
     print_call(result, w);
     if (result == OOF_ACCEPTED) {
         take_written(&before, w);
@@ -235,6 +267,18 @@ static uint32_t reply(uint32_t kind, const float values[4], lent *w)
     }
 }
 
+static uint32_t preview_reply(uint32_t kind, const float values[4], lent *w)
+{
+    switch (kind) {
+    case REPLY_BOTH: return oof_preview_reply_both(values[0], values[1], TRIED(w), WRITTEN(w));
+    case REPLY_WIDTH: return oof_preview_reply_width(values[0], TRIED(w), WRITTEN(w));
+    case REPLY_HEIGHT: return oof_preview_reply_height(values[0], TRIED(w), WRITTEN(w));
+    default:
+        must(kind == REPLY_LAID_OUT, "no such kind of reply");
+        return oof_preview_reply_laid_out(values[0], values[1], values[2], values[3], SLICE(w->surfaced), TRIED(w), WRITTEN(w));
+    }
+}
+
 /* After a refusal the host goes on with the state as it was before it was forged. */
 static void play_reply(lent *w)
 {
@@ -250,8 +294,10 @@ static void play_reply(lent *w)
     memset(&w->surfaced, NOISE, sizeof w->surfaced);
     read_length(&w->surfaced);
     read_words(&w->surfaced);
+    if (are_previews)
+        set_apart(w);
     lent before = *w;
-    uint32_t result = reply(kind, values, w);
+    uint32_t result = are_previews ? preview_reply(kind, values, w) : reply(kind, values, w);
     print_call(result, w);
     if (result == OOF_ACCEPTED) {
         take_written(&before, w);
@@ -305,9 +351,10 @@ static void play_run(void)
     print_touch(&w);
 }
 
-int main(void)
+int main(int arguments, char **argument)
 {
     char more;
+    are_previews = arguments > 1 && strcmp(argument[1], "preview") == 0;
     uint32_t openings = read_word();
     for (opening_number = 1; opening_number <= openings; opening_number++)
         play_run();

@@ -49,13 +49,18 @@ static size_t used(uint32_t (*call)(void *context), void *context, uint32_t *res
 enum { MOST = OOF_MOST_ITEMS };
 
 static size_t items;
-static uint32_t styles[MOST * OOF_STYLE_WORDS], layouts[MOST * OOF_LAYOUT_WORDS];
+static uint32_t styles[MOST * OOF_STYLE_WORDS], style[OOF_STYLE_WORDS], layouts[MOST * OOF_LAYOUT_WORDS];
 static uint32_t candidates[2 * OOF_CANDIDATE_WORDS], working[4 * OOF_CANDIDATE_WORDS], unclaimed[4 * OOF_CANDIDATE_WORDS];
 static uint32_t tally[MOST], state[OOF_STATE_WORDS], answer[OOF_ANSWER_WORDS];
 
+#define TABLE styles, items * OOF_STYLE_WORDS
+#define TRIED TABLE, (uint32_t)(items - 1), style, OOF_STYLE_WORDS /* of a preview: the last item's record is replaced */
 #define LENT                                                                                                          \
-    styles, items * OOF_STYLE_WORDS, layouts, items * OOF_LAYOUT_WORDS, working, 4 * OOF_CANDIDATE_WORDS, unclaimed,   \
-        4 * OOF_CANDIDATE_WORDS, tally, items, state, answer
+    layouts, items * OOF_LAYOUT_WORDS, working, 4 * OOF_CANDIDATE_WORDS, unclaimed, 4 * OOF_CANDIDATE_WORDS, tally, items, \
+        state, answer
+#define AREA                                                                                                          \
+    800, 480, 100, 40, OOF_DIRECTION_LTR, OOF_CLAIMS_ABSOLUTE, OOF_OVERFLOW_VISIBLE, OOF_OVERFLOW_VISIBLE
+#define HOISTED candidates, 2 * OOF_CANDIDATE_WORDS
 
 static uint32_t nothing(void *context)
 {
@@ -65,29 +70,54 @@ static uint32_t nothing(void *context)
 static uint32_t do_open(void *context)
 {
     (void)context;
-    return oof_open(800, 480, 100, 40, OOF_DIRECTION_LTR, OOF_CLAIMS_ABSOLUTE, OOF_OVERFLOW_VISIBLE, OOF_OVERFLOW_VISIBLE,
-                    styles, items * OOF_STYLE_WORDS, candidates, 2 * OOF_CANDIDATE_WORDS, layouts, items * OOF_LAYOUT_WORDS,
-                    working, 4 * OOF_CANDIDATE_WORDS, unclaimed, 4 * OOF_CANDIDATE_WORDS, tally, items, state, answer);
+    return oof_open(AREA, TABLE, HOISTED, LENT);
 }
 static uint32_t do_both(void *context)
 {
     (void)context;
-    return oof_reply_both(120, 18, LENT);
+    return oof_reply_both(120, 18, TABLE, LENT);
 }
 static uint32_t do_width(void *context)
 {
     (void)context;
-    return oof_reply_width(120, LENT);
+    return oof_reply_width(120, TABLE, LENT);
 }
 static uint32_t do_height(void *context)
 {
     (void)context;
-    return oof_reply_height(18, LENT);
+    return oof_reply_height(18, TABLE, LENT);
 }
 static uint32_t do_lay_out(void *context)
 {
     (void)context;
-    return oof_reply_laid_out(0, 10, 0, 10, candidates, OOF_CANDIDATE_WORDS, LENT);
+    return oof_reply_laid_out(0, 10, 0, 10, candidates, OOF_CANDIDATE_WORDS, TABLE, LENT);
+}
+
+/* the same run as a preview, whose replacement is the style of the last item; the live record there breaks a rule */
+static uint32_t do_preview_open(void *context)
+{
+    (void)context;
+    return oof_preview_open(AREA, TRIED, HOISTED, LENT);
+}
+static uint32_t do_preview_both(void *context)
+{
+    (void)context;
+    return oof_preview_reply_both(120, 18, TRIED, LENT);
+}
+static uint32_t do_preview_width(void *context)
+{
+    (void)context;
+    return oof_preview_reply_width(120, TRIED, LENT);
+}
+static uint32_t do_preview_height(void *context)
+{
+    (void)context;
+    return oof_preview_reply_height(18, TRIED, LENT);
+}
+static uint32_t do_preview_lay_out(void *context)
+{
+    (void)context;
+    return oof_preview_reply_laid_out(0, 10, 0, 10, candidates, OOF_CANDIDATE_WORDS, TRIED, LENT);
 }
 
 static uint32_t do_pixels(void *context)
@@ -166,7 +196,7 @@ static void fill(size_t count, uint32_t width, uint32_t height)
     }
 }
 
-enum { ENTRIES = 10 };
+enum { ENTRIES = 15 };
 
 static size_t most[ENTRIES];
 static int accepted;
@@ -178,6 +208,19 @@ static void measure(int entry, uint32_t (*call)(void *context), size_t without)
     accepted += result == OOF_ACCEPTED;
     if (bytes > most[entry])
         most[entry] = bytes;
+}
+
+static void measure_preview(size_t without)
+{
+    uint32_t *live = styles + (items - 1) * OOF_STYLE_WORDS;
+    memcpy(style, live, sizeof style);
+    memset(live, 0xFF, sizeof style);
+    measure(10, do_preview_open, without);
+    measure(11, do_preview_both, without);
+    measure(12, do_preview_width, without);
+    measure(13, do_preview_height, without);
+    measure(14, do_preview_lay_out, without);
+    memcpy(live, style, sizeof style);
 }
 
 int main(void)
@@ -192,6 +235,7 @@ int main(void)
     for (size_t count = 1; count <= MOST; count += MOST - 1)
         for (int k = 0; k < 4; k++) {
             fill(count, tags[k][0], tags[k][1]);
+            measure_preview(without);
             measure(0, do_open, without);
             measure(1, do_both, without);
             measure(2, do_width, without);
@@ -205,11 +249,13 @@ int main(void)
             measure(7, do_first_bad_word, without);
         }
     measure(6, do_pixels, without);
-    printf("hosts/c: bytes of stack, %d calls accepted: open %zu, both %zu, width %zu, height %zu, laid out %zu; reach %zu; "
+    printf("hosts/c: bytes of stack, %d calls accepted: open %zu, both %zu, width %zu, height %zu, laid out %zu; "
+           "preview open %zu, preview both %zu, preview width %zu, preview height %zu, preview laid out %zu; reach %zu; "
            "drawing order %zu; touch %zu; pixels %zu; first bad word %zu\n",
-           accepted, most[0], most[1], most[2], most[3], most[4], most[5], most[8], most[9], most[6], most[7]);
+           accepted, most[0], most[1], most[2], most[3], most[4], most[10], most[11], most[12], most[13], most[14], most[5],
+           most[8], most[9], most[6], most[7]);
     for (int entry = 0; entry < ENTRIES; entry++)
         if (most[entry] > LIMIT || most[entry] == 0)
             return EXIT_FAILURE;
-    return accepted == 57 ? EXIT_SUCCESS : EXIT_FAILURE;
+    return accepted == 81 ? EXIT_SUCCESS : EXIT_FAILURE;
 }

@@ -1,6 +1,6 @@
 /* What the header says of offsets, of layers, of refused calls, of pixels, of boxes that no scrolling brings up, of the drawing
- * order, of what a touch driver reads, of words that break a rule, of sums, of size keywords and of the tally, tried. Prints one
- * line; exits with 1 at the first that isn't so. */
+ * order, of what a touch driver reads, of words that break a rule, of sums, of size keywords, of the tally and of previews, tried.
+ * Prints one line; exits with 1 at the first that isn't so. */
 #include <stdio.h>
 #include <stdlib.h>
 #include "oof.h"
@@ -2550,6 +2550,654 @@ static void of_tallies(void)
     random_tallies();
 }
 
+/* ---- previews: another style tried first */
+
+enum { NODES = 3, LISTED = 4, PREVIEW_STYLE_ROOM = 2 * OOF_STYLE_WORDS };
+
+/* The slices of a run, a live one or a preview, over at most three items, with room for four records in each list. `words` of the
+ * tally are lent. 32-bit words and no padding, so that two compare as bytes; so are those of a preview. */
+typedef struct {
+    uint32_t words;
+    uint32_t layouts[NODES * OOF_LAYOUT_WORDS];
+    uint32_t working[LISTED * OOF_CANDIDATE_WORDS];
+    uint32_t unclaimed[LISTED * OOF_CANDIDATE_WORDS];
+    uint32_t tally[NODES + 1];
+    uint32_t state[OOF_STATE_WORDS];
+    uint32_t answer[OOF_ANSWER_WORDS];
+} run_slices;
+
+/* The live table, the node and its replacement, of which `style_words` are lent, the area, and what is hoisted */
+typedef struct {
+    uint32_t items, node, style_words, candidates_lent;
+    uint32_t area[4], codes[4];
+    uint32_t styles[NODES * OOF_STYLE_WORDS];
+    uint32_t style[PREVIEW_STYLE_ROOM];
+    uint32_t candidates[LISTED * OOF_CANDIDATE_WORDS];
+    run_slices own;
+} preview;
+
+/* a reply by its kind, which is that of a question, with its numbers and how many of the candidates surface */
+typedef struct {
+    uint32_t kind;
+    float numbers[4];
+    uint32_t surfaced;
+} reply;
+
+#define AREA(p)                                                                                                       \
+    oof_float((p)->area[0]), oof_float((p)->area[1]), oof_float((p)->area[2]), oof_float((p)->area[3]), (p)->codes[0], \
+        (p)->codes[1], (p)->codes[2], (p)->codes[3]
+#define HOISTED(p) (p)->candidates, (p)->candidates_lent * OOF_CANDIDATE_WORDS
+#define REPLACED(p) (p)->styles, (p)->items * OOF_STYLE_WORDS, (p)->node, (p)->style, (p)->style_words
+#define READ_OF(p, s)                                                                                                 \
+    (s)->layouts, (p)->items * OOF_LAYOUT_WORDS, (s)->working, LISTED * OOF_CANDIDATE_WORDS, (s)->unclaimed,           \
+        LISTED * OOF_CANDIDATE_WORDS
+#define RUN_OF(p, s) READ_OF(p, s), (s)->tally, (s)->words, (s)->state, (s)->answer
+
+/* a run's calls, over any table of as many items */
+static uint32_t run_open(const preview *p, const uint32_t *table, run_slices *s)
+{
+    return oof_open(AREA(p), table, p->items * OOF_STYLE_WORDS, HOISTED(p), RUN_OF(p, s));
+}
+
+static uint32_t run_reply(const preview *p, const uint32_t *table, run_slices *s, reply r)
+{
+    const size_t words = p->items * OOF_STYLE_WORDS;
+    const float *n = r.numbers;
+    switch (r.kind) {
+    case OOF_MEASURE_BOTH: return oof_reply_both(n[0], n[1], table, words, RUN_OF(p, s));
+    case OOF_MEASURE_WIDTH: return oof_reply_width(n[0], table, words, RUN_OF(p, s));
+    case OOF_MEASURE_HEIGHT: return oof_reply_height(n[1], table, words, RUN_OF(p, s));
+    default:
+        return oof_reply_laid_out(n[0], n[1], n[2], n[3], p->candidates, r.surfaced * OOF_CANDIDATE_WORDS, table, words,
+                                  RUN_OF(p, s));
+    }
+}
+
+/* a preview's */
+static uint32_t preview_open(const preview *p, run_slices *s)
+{
+    return oof_preview_open(AREA(p), REPLACED(p), HOISTED(p), RUN_OF(p, s));
+}
+
+static uint32_t preview_reply(const preview *p, run_slices *s, reply r)
+{
+    const float *n = r.numbers;
+    switch (r.kind) {
+    case OOF_MEASURE_BOTH: return oof_preview_reply_both(n[0], n[1], REPLACED(p), RUN_OF(p, s));
+    case OOF_MEASURE_WIDTH: return oof_preview_reply_width(n[0], REPLACED(p), RUN_OF(p, s));
+    case OOF_MEASURE_HEIGHT: return oof_preview_reply_height(n[1], REPLACED(p), RUN_OF(p, s));
+    default:
+        return oof_preview_reply_laid_out(n[0], n[1], n[2], n[3], p->candidates, r.surfaced * OOF_CANDIDATE_WORDS, REPLACED(p),
+                                          RUN_OF(p, s));
+    }
+}
+
+/* what the host says to the open question, the same in each run; the first box surfaces a record */
+static reply asked(const run_slices *s)
+{
+    reply r = {.kind = s->answer[OOF_ANSWER_KIND]};
+    if (r.kind == OOF_LAY_OUT) {
+        r.numbers[1] = 12, r.surfaced = s->state[OOF_STATE_BEGUN] == 1;
+    } else {
+        r.numbers[0] = measured(s->answer, OOF_QUESTION_AVAILABLE_WIDTH, 120);
+        r.numbers[1] = measured(s->answer, OOF_QUESTION_AVAILABLE_HEIGHT, 18);
+    }
+    return r;
+}
+
+/* an overlay, node 1, in an area of 200 by 100 at 8, 16, at 20, 30 of it, between two labels at 0, 0 of the window; all are 120 by
+ * 18. The overlay is to be moved to 90, 40. What is to be written holds noise. */
+static preview overlay(void)
+{
+    preview p;
+    memset(&p, 0x5A, sizeof p);
+    p.items = p.own.words = p.candidates_lent = NODES, p.node = 1, p.style_words = OOF_STYLE_WORDS;
+    const uint32_t area[4] = {oof_word(200), oof_word(100), oof_word(8), oof_word(16)};
+    const uint32_t codes[4] = {OOF_DIRECTION_LTR, OOF_CLAIMS_ABSOLUTE, OOF_OVERFLOW_HIDDEN, OOF_OVERFLOW_HIDDEN};
+    memcpy(p.area, area, sizeof area), memcpy(p.codes, codes, sizeof codes);
+    for (uint32_t node = 0; node < NODES; node++) {
+        plain_style(p.styles + node * OOF_STYLE_WORDS);
+        put_candidate(p.candidates, (int)node, node, node == 0);
+    }
+    put_candidate(p.candidates, NODES, 0, 0);
+    uint32_t *live = p.styles + OOF_STYLE_WORDS;
+    oof_set_length(live, OOF_STYLE_INSET_LEFT, OOF_TAG_PX, 20), oof_set_length(live, OOF_STYLE_INSET_TOP, OOF_TAG_PX, 30);
+    memcpy(p.style, live, OOF_STYLE_WORDS * sizeof *live);
+    oof_set_length(p.style, OOF_STYLE_INSET_LEFT, OOF_TAG_PX, 90), oof_set_length(p.style, OOF_STYLE_INSET_TOP, OOF_TAG_PX, 40);
+    return p;
+}
+
+static void leave_closed(const preview *p, run_slices *s)
+{
+    const uint32_t lengths[5] = {p->items * OOF_STYLE_WORDS, p->items * OOF_LAYOUT_WORDS, LISTED * OOF_CANDIDATE_WORDS,
+                                 LISTED * OOF_CANDIDATE_WORDS, s->words};
+    memset(s->state, 0, sizeof s->state);
+    memcpy(s->state + OOF_STATE_LENGTHS, lengths, sizeof lengths);
+}
+
+/* whether an opening is refused with this number, and writes a finished run into the state's words, and no other word */
+static int preview_opening_refuses(preview p, uint32_t number)
+{
+    preview expected = p;
+    leave_closed(&expected, &expected.own);
+    return preview_open(&p, &p.own) == number && memcmp(&expected, &p, sizeof p) == 0;
+}
+
+/* whether a reply is refused with this number, and writes no word */
+static int preview_refuses(preview p, reply r, uint32_t number)
+{
+    const preview before = p;
+    return preview_reply(&p, &p.own, r) == number && memcmp(&before, &p, sizeof p) == 0;
+}
+
+static int preview_finishes(preview *p)
+{
+    uint32_t result = OOF_ACCEPTED;
+    while (result == OOF_ACCEPTED && p->own.answer[OOF_ANSWER_KIND] != OOF_FINISH)
+        result = preview_reply(p, &p->own, asked(&p->own));
+    return result == OOF_ACCEPTED;
+}
+
+/* ---- what a preview's calls do, by those of a run over a copy of the table */
+
+static void copied(const preview *p, uint32_t *table)
+{
+    memcpy(table, p->styles, sizeof p->styles);
+    memcpy(table + p->node * OOF_STYLE_WORDS, p->style, OOF_STYLE_WORDS * sizeof *table);
+}
+
+/* an opening, or a reply: the result, and what stands in the slices then */
+static uint32_t modelled_call(const preview *p, run_slices *s, const reply *r)
+{
+    const int is_style = p->style_words == OOF_STYLE_WORDS, is_node = p->node < p->items;
+    const run_slices before = *s;
+    uint32_t table[NODES * OOF_STYLE_WORDS];
+    memcpy(table, p->styles, sizeof table);
+    if (is_style && is_node)
+        copied(p, table);
+    uint32_t result = r ? run_reply(p, table, s, *r) : run_open(p, table, s);
+    if (result != OOF_BAD_AREA && result != OOF_BAD_EXTENT)
+        result = !is_style ? OOF_BAD_EXTENT : !is_node ? OOF_BAD_CANDIDATE : result;
+    if (result != OOF_ACCEPTED) {
+        *s = before;
+        if (!r)
+            leave_closed(p, s);
+    }
+    return result;
+}
+
+/* whether a call of the preview does so, and writes no word of the table, the replacement or the candidates */
+static int as_modelled(preview *p, const reply *r, uint32_t *result)
+{
+    preview expected = *p;
+    *result = modelled_call(p, &expected.own, r);
+    uint32_t number = r ? preview_reply(p, &p->own, *r) : preview_open(p, &p->own);
+    return number == *result && memcmp(&expected, p, sizeof expected) == 0;
+}
+
+/* ---- the order of tests */
+
+static const uint32_t other_styles[5] = {0, 1, OOF_STYLE_WORDS - 1, OOF_STYLE_WORDS + 1, 2 * OOF_STYLE_WORDS};
+
+/* of an opening: 1, 2, the node, 3, 4, 5 */
+static void preview_openings_in_order(void)
+{
+    for (int k = 0; k < 5; k++) {
+        preview p = overlay();
+        p.style_words = other_styles[k];
+        MUST(preview_opening_refuses(p, OOF_BAD_EXTENT));
+        p.node = NODES;
+        MUST(preview_opening_refuses(p, OOF_BAD_EXTENT));
+        p.codes[0] = 2;
+        MUST(preview_opening_refuses(p, OOF_BAD_AREA));
+    }
+    preview p = overlay();
+    p.node = NODES;
+    MUST(preview_opening_refuses(p, OOF_BAD_CANDIDATE));
+    p.styles[OOF_STYLE_CONTAIN] = 256;
+    MUST(preview_opening_refuses(p, OOF_BAD_CANDIDATE)); /* a bad style elsewhere */
+    p.style[OOF_STYLE_CONTAIN] = 256;
+    MUST(preview_opening_refuses(p, OOF_BAD_CANDIDATE));
+    p.own.words = NODES + 1;
+    MUST(preview_opening_refuses(p, OOF_BAD_EXTENT));
+    p.codes[1] = 4;
+    MUST(preview_opening_refuses(p, OOF_BAD_AREA));
+
+    p = overlay();
+    p.style[OOF_STYLE_CONTAIN] = 256, p.candidates[OOF_CANDIDATE_LAYER] = 256;
+    MUST(preview_opening_refuses(p, OOF_BAD_STYLE));
+    p.style[OOF_STYLE_CONTAIN] = 255;
+    MUST(preview_opening_refuses(p, OOF_BAD_CANDIDATE));
+    p.candidates[OOF_CANDIDATE_LAYER] = 255;
+    MUST(preview_open(&p, &p.own) == OOF_ACCEPTED);
+}
+
+/* of a reply: 2, the node, 6, 3, 4, 5 */
+static void preview_replies_in_order(void)
+{
+    preview opened = overlay(), p;
+    MUST(preview_open(&opened, &opened.own) == OOF_ACCEPTED);
+    const reply good = asked(&opened.own), wrong = {.kind = OOF_MEASURE_WIDTH}, laid = {.kind = OOF_LAY_OUT, .surfaced = LISTED};
+    MUST(good.kind == OOF_MEASURE_BOTH);
+    for (int k = 0; k < 5; k++) {
+        p = opened, p.style_words = other_styles[k];
+        for (uint32_t kind = OOF_MEASURE_BOTH; kind <= OOF_LAY_OUT; kind++)
+            MUST(preview_refuses(p, (reply){.kind = kind}, OOF_BAD_EXTENT));
+        p.own.tally[0] = 1, p.node = NODES; /* above the count, which is 0 */
+        MUST(preview_refuses(p, good, OOF_BAD_EXTENT));
+    }
+    p = opened, p.node = NODES, p.own.words = NODES + 1;
+    MUST(preview_refuses(p, good, OOF_BAD_EXTENT));
+    p = opened, p.node = NODES, p.own.tally[0] = 1;
+    MUST(preview_refuses(p, good, OOF_BAD_CANDIDATE) && preview_refuses(p, wrong, OOF_BAD_CANDIDATE));
+    p.node = 1;
+    MUST(preview_refuses(p, good, OOF_WRONG_REPLY));
+    p.own.tally[0] = 0, p.style[OOF_STYLE_CONTAIN] = 256;
+    MUST(preview_refuses(p, wrong, OOF_WRONG_REPLY));
+    p.own.working[OOF_CANDIDATE_NODE] = NODES;
+    MUST(preview_refuses(p, good, OOF_BAD_STYLE));
+    p.style[OOF_STYLE_CONTAIN] = 255;
+    MUST(preview_refuses(p, good, OOF_BAD_CANDIDATE));
+    p.own.working[OOF_CANDIDATE_NODE] = 0;
+    MUST(preview_reply(&p, &p.own, good) == OOF_ACCEPTED && preview_refuses(p, laid, OOF_LIST_FULL));
+    MUST(preview_refuses(p, good, OOF_WRONG_REPLY)); /* another kind, as wrong was */
+}
+
+/* the same where no question is open: after a finish, and after a refused opening */
+static void preview_replies_without_question(void)
+{
+    const reply good = {.kind = OOF_MEASURE_BOTH};
+    preview p = overlay();
+    MUST(preview_open(&p, &p.own) == OOF_ACCEPTED && preview_finishes(&p) && preview_refuses(p, good, OOF_WRONG_REPLY));
+    p.node = NODES;
+    for (uint32_t kind = OOF_MEASURE_BOTH; kind <= OOF_LAY_OUT; kind++)
+        MUST(preview_refuses(p, (reply){.kind = kind}, OOF_BAD_CANDIDATE));
+    p.style_words = OOF_STYLE_WORDS - 1;
+    MUST(preview_refuses(p, good, OOF_BAD_EXTENT));
+
+    p = overlay(); /* a refused opening leaves a finished run */
+    p.node = NODES;
+    MUST(preview_open(&p, &p.own) == OOF_BAD_CANDIDATE && preview_refuses(p, good, OOF_BAD_CANDIDATE));
+    p.node = 1;
+    MUST(preview_refuses(p, good, OOF_WRONG_REPLY));
+}
+
+/* the whole word, and each item of the table but no other */
+static void preview_nodes(void)
+{
+    const uint32_t inverse = 0x613716AF; /* of OOF_STYLE_WORDS, modulo 2^32 */
+    const uint32_t others[8] = {NODES, NODES + 1, 256, 65536, 0x40000000, 0x80000000, 0x80000001, 0xFFFFFFFF};
+    preview p = overlay(), opened = p;
+    MUST(inverse * OOF_STYLE_WORDS == 1 && preview_open(&opened, &opened.own) == OOF_ACCEPTED);
+    for (int k = 0; k < 8; k++) {
+        p.node = opened.node = others[k];
+        MUST(preview_opening_refuses(p, OOF_BAD_CANDIDATE));
+        MUST(preview_refuses(opened, asked(&opened.own), OOF_BAD_CANDIDATE));
+    }
+    for (uint32_t k = 0; k < NODES * OOF_STYLE_WORDS; k++) {
+        p.node = inverse * k; /* its record would begin at word k, modulo 2^32 */
+        if (k % OOF_STYLE_WORDS)
+            MUST(preview_opening_refuses(p, OOF_BAD_CANDIDATE));
+        else
+            MUST(p.node < NODES && preview_open(&p, &p.own) == OOF_ACCEPTED);
+    }
+}
+
+/* an empty table has no node */
+static void preview_without_items(void)
+{
+    const uint32_t nodes[3] = {0, 1, 0xFFFFFFFF};
+    for (int k = 0; k < 3; k++) {
+        preview p = overlay();
+        p.items = p.own.words = p.candidates_lent = 0, p.node = nodes[k];
+        MUST(preview_opening_refuses(p, OOF_BAD_CANDIDATE));
+        MUST(preview_open(&p, &p.own) == OOF_BAD_CANDIDATE && preview_refuses(p, (reply){.kind = OOF_LAY_OUT}, OOF_BAD_CANDIDATE));
+        MUST(run_open(&p, p.styles, &p.own) == OOF_ACCEPTED); /* a run finishes at once */
+        MUST(preview_refuses(p, (reply){.kind = OOF_MEASURE_BOTH}, OOF_BAD_CANDIDATE));
+        p.style_words = OOF_STYLE_WORDS - 1;
+        MUST(preview_opening_refuses(p, OOF_BAD_EXTENT));
+        p.codes[3] = 4;
+        MUST(preview_opening_refuses(p, OOF_BAD_AREA));
+    }
+}
+
+/* every word that has a rule: of the live record that is replaced it may be any, of the replacement and of other records it is
+ * tested, whether a candidate names the node or not; at an opening and at a reply */
+static void preview_bad_words(void)
+{
+    int rules = 0;
+    for (uint32_t lent = 0; lent <= NODES; lent += NODES)
+        for (size_t word = 0; word < OOF_STYLE_WORDS; word++) {
+            preview p = overlay(), opened;
+            p.candidates_lent = lent;
+            p.style[OOF_STYLE_JUSTIFY] = p.style[OOF_STYLE_ALIGN] = OOF_ALIGN_CENTER;
+            for (int k = 0; k < NODES; k++)
+                memcpy(p.styles + k * OOF_STYLE_WORDS, p.style, OOF_STYLE_WORDS * sizeof *p.style);
+            opened = p;
+            MUST(preview_open(&opened, &opened.own) == OOF_ACCEPTED);
+            const reply r = asked(&opened.own);
+            uint32_t *const words[4] = {p.style + word, p.styles + word, p.styles + OOF_STYLE_WORDS + word,
+                                        p.styles + 2 * OOF_STYLE_WORDS + word};
+            for (int k = 0; k < 4; k++) {
+                const uint32_t good = *words[k];
+                *words[k] = 600;
+                const int is_bad = k != 2 && breaks(words[k] - word, word);
+                memcpy(opened.style, p.style, sizeof p.style), memcpy(opened.styles, p.styles, sizeof p.styles);
+                preview one = p, other = opened;
+                if (is_bad)
+                    MUST(preview_opening_refuses(p, OOF_BAD_STYLE));
+                else
+                    MUST(preview_open(&one, &one.own) == OOF_ACCEPTED);
+                if (lent && is_bad)
+                    MUST(preview_refuses(opened, r, OOF_BAD_STYLE));
+                else if (lent)
+                    MUST(preview_reply(&other, &other.own, r) == OOF_ACCEPTED);
+                *words[k] = good, rules += is_bad;
+            }
+        }
+    MUST(rules == 2 * 3 * (22 + 11)); /* 22 tags and 11 codes; ratio and scrollbar width are floats */
+}
+
+/* live item 2 is bad: a replacement for item 1 doesn't mend it, good or bad; one for item 2 does. The copy's first bad word is the
+ * replacement's */
+static void preview_mends_one(void)
+{
+    preview p = overlay();
+    uint32_t found[OOF_FOUND_WORDS], table[NODES * OOF_STYLE_WORDS];
+    p.styles[2 * OOF_STYLE_WORDS + OOF_STYLE_DIRECTION] = 2;
+    MUST(preview_opening_refuses(p, OOF_BAD_STYLE));
+    p.style[OOF_STYLE_INSET_RIGHT] = 2;
+    MUST(preview_opening_refuses(p, OOF_BAD_STYLE));
+    copied(&p, table);
+    MUST(oof_first_bad_word(table, NODES * OOF_STYLE_WORDS, found) == 1 && found[OOF_FOUND_ITEM] == 1);
+    MUST(found[OOF_FOUND_STYLE_WORD] == OOF_STYLE_INSET_RIGHT);
+    MUST(oof_first_bad_word(p.style, OOF_STYLE_WORDS, found) == 1 && found[OOF_FOUND_ITEM] == 0);
+    MUST(found[OOF_FOUND_STYLE_WORD] == OOF_STYLE_INSET_RIGHT);
+    p.node = 2;
+    MUST(preview_opening_refuses(p, OOF_BAD_STYLE));
+    p.style[OOF_STYLE_INSET_RIGHT] = OOF_TAG_AUTO;
+    MUST(preview_open(&p, &p.own) == OOF_ACCEPTED && preview_finishes(&p));
+}
+
+/* ---- what a preview shows */
+
+static int stands_at(const run_slices *s, uint32_t node, float x, float y)
+{
+    const uint32_t *layout = s->layouts + node * OOF_LAYOUT_WORDS;
+    return oof_float(layout[OOF_LAYOUT_X]) == x && oof_float(layout[OOF_LAYOUT_Y]) == y;
+}
+
+/* the overlay moves, and nothing else does; the live run, opened before and finished after, is what it is without a preview */
+static void preview_moves_the_overlay(void)
+{
+    preview p = overlay();
+    run_slices live = p.own, alone = p.own;
+    MUST(run_open(&p, p.styles, &alone) == OOF_ACCEPTED);
+    while (alone.answer[OOF_ANSWER_KIND] != OOF_FINISH)
+        MUST(run_reply(&p, p.styles, &alone, asked(&alone)) == OOF_ACCEPTED);
+    MUST(run_open(&p, p.styles, &live) == OOF_ACCEPTED && preview_open(&p, &p.own) == OOF_ACCEPTED);
+    while (live.answer[OOF_ANSWER_KIND] != OOF_FINISH) {
+        MUST(run_reply(&p, p.styles, &live, asked(&live)) == OOF_ACCEPTED);
+        MUST(preview_reply(&p, &p.own, asked(&p.own)) == OOF_ACCEPTED);
+    }
+    MUST(p.own.answer[OOF_ANSWER_KIND] == OOF_FINISH && memcmp(&live, &alone, sizeof live) == 0);
+    MUST(stands_at(&live, 0, 0, 0) && stands_at(&live, 1, 8 + 20, 16 + 30) && stands_at(&live, 2, 0, 0));
+    MUST(stands_at(&p.own, 0, 0, 0) && stands_at(&p.own, 1, 8 + 90, 16 + 40) && stands_at(&p.own, 2, 0, 0));
+    MUST(p.own.answer[OOF_FINISH_COUNT] == live.answer[OOF_FINISH_COUNT] && p.own.tally[0] == 4 && p.own.tally[1] == 2);
+}
+
+/* nothing is kept of node and replacement: each call goes by those that it is lent */
+static void preview_with_another_style_later(void)
+{
+    preview p = overlay();
+    oof_set_length(p.style, OOF_STYLE_WIDTH, OOF_TAG_PX, 50);
+    p.candidates_lent = 2;
+    MUST(preview_open(&p, &p.own) == OOF_ACCEPTED && p.own.answer[OOF_QUESTION_NODE] == 0);
+    p.node = 0; /* the question about node 0 was the live style's; the box is laid out by the replacement */
+    MUST(preview_reply(&p, &p.own, asked(&p.own)) == OOF_ACCEPTED && p.own.answer[OOF_ANSWER_KIND] == OOF_LAY_OUT);
+    MUST(oof_float(p.own.answer[OOF_QUESTION_KNOWN_WIDTH + 1]) == 50);
+    oof_set_length(p.style, OOF_STYLE_INSET_LEFT, OOF_TAG_PX, 70);
+    MUST(preview_reply(&p, &p.own, asked(&p.own)) == OOF_ACCEPTED && stands_at(&p.own, 0, 8 + 70, 16 + 40));
+    MUST(p.own.answer[OOF_QUESTION_NODE] == 1 && p.own.answer[OOF_ANSWER_KIND] == OOF_MEASURE_BOTH); /* node 1 is live again */
+    MUST(run_reply(&p, p.styles, &p.own, asked(&p.own)) == OOF_ACCEPTED); /* a run's reply goes by the live table */
+    MUST(run_reply(&p, p.styles, &p.own, asked(&p.own)) == OOF_ACCEPTED && stands_at(&p.own, 1, 8 + 20, 16 + 30));
+}
+
+/* a record of the table may be tried for another node: node 2's inset is the overlay's then, and both records stay */
+static void preview_by_a_record(void)
+{
+    preview p = overlay(), copy = p;
+    p.node = copy.node = 2;
+    memcpy(copy.style, p.styles + OOF_STYLE_WORDS, OOF_STYLE_WORDS * sizeof *copy.style);
+#define RECORD p.styles, NODES * OOF_STYLE_WORDS, p.node, p.styles + OOF_STYLE_WORDS, OOF_STYLE_WORDS
+    MUST(preview_open(&copy, &copy.own) == OOF_ACCEPTED && preview_finishes(&copy));
+    MUST(oof_preview_open(AREA(&p), RECORD, HOISTED(&p), RUN_OF(&p, &p.own)) == OOF_ACCEPTED);
+    while (p.own.answer[OOF_ANSWER_KIND] == OOF_MEASURE_BOTH) {
+        const reply measure = asked(&p.own);
+        MUST(oof_preview_reply_both(measure.numbers[0], measure.numbers[1], RECORD, RUN_OF(&p, &p.own)) == OOF_ACCEPTED);
+        const reply laid = asked(&p.own);
+        MUST(oof_preview_reply_laid_out(0, 12, 0, 0, p.candidates, laid.surfaced * OOF_CANDIDATE_WORDS, RECORD,
+                                        RUN_OF(&p, &p.own)) == OOF_ACCEPTED);
+    }
+#undef RECORD
+    MUST(stands_at(&p.own, 1, 8 + 20, 16 + 30) && stands_at(&p.own, 2, 8 + 20, 16 + 30));
+    MUST(memcmp(&p.own, &copy.own, sizeof p.own) == 0 && memcmp(p.styles, copy.styles, sizeof p.styles) == 0);
+}
+
+/* a finished preview is read as a finished run, with the live table, of which the length counts */
+static void preview_is_read(void)
+{
+    preview p = overlay();
+    run_slices live = p.own;
+    uint32_t verdict[OOF_REACH_WORDS], order[LISTED], words[LISTED * OOF_TOUCH_WORDS];
+    oof_set_length(p.style, OOF_STYLE_INSET_LEFT, OOF_TAG_PX, -130); /* left of the area's first pixel */
+    MUST(run_open(&p, p.styles, &live) == OOF_ACCEPTED && preview_open(&p, &p.own) == OOF_ACCEPTED && preview_finishes(&p));
+    while (live.answer[OOF_ANSWER_KIND] != OOF_FINISH)
+        MUST(run_reply(&p, p.styles, &live, asked(&live)) == OOF_ACCEPTED);
+    const run_slices *const both[2] = {&live, &p.own};
+    for (int k = 0; k < 4; k++) {
+        const run_slices *s = both[k % 2];
+        const size_t table = NODES * OOF_STYLE_WORDS, boxes = s->state[OOF_STATE_WORKING];
+        MUST(boxes == LISTED); /* node 0 surfaced another box of its own */
+        MUST(oof_reach(1, p.styles, table, READ_OF(&p, s), s->state, verdict) == OOF_ACCEPTED);
+        MUST(verdict[OOF_REACH_KIND] == (s == &live ? OOF_SEEN : OOF_UNSEEN));
+        MUST(oof_drawing_order(p.styles, table, READ_OF(&p, s), s->state, order, boxes) == OOF_ACCEPTED);
+        MUST(order[0] == 1 && order[1] == 2 && order[2] == 0 && order[3] == 3); /* node 0 is on layer 1 */
+        MUST(oof_touch(p.styles, table, READ_OF(&p, s), s->state, words, OOF_TOUCH_WORDS * boxes) == OOF_ACCEPTED);
+        MUST(words[OOF_TOUCH_WORDS] == 1 && oof_signed(words[OOF_TOUCH_WORDS + OOF_TOUCH_LEFT]) == (s == &live ? 20 : -130));
+        MUST(oof_reach(1, p.styles, table - OOF_STYLE_WORDS, READ_OF(&p, s), s->state, verdict) == OOF_BAD_EXTENT);
+        if (k == 1)
+            memset(p.styles, 0xFF, sizeof p.styles);
+    }
+}
+
+/* as many items as there can be, of which the last one, or the first, is replaced */
+static void longest_preview(void)
+{
+    enum { MOST = OOF_MOST_ITEMS, LAST = MOST - 1 };
+    static uint32_t layouts[(MOST + 1) * OOF_LAYOUT_WORDS], tally[MOST + 1];
+    uint32_t style[OOF_STYLE_WORDS], candidates[2 * OOF_CANDIDATE_WORDS], lists[3 * OOF_CANDIDATE_WORDS];
+    uint32_t state[OOF_STATE_WORDS], answer[OOF_ANSWER_WORDS];
+    good_items(MOST + 1);
+    put_candidate(candidates, 0, LAST, 0), put_candidate(candidates, 1, 0, 0);
+    plain_style(style);
+    oof_set_length(style, OOF_STYLE_WIDTH, OOF_TAG_PX, 7), oof_set_length(style, OOF_STYLE_HEIGHT, OOF_TAG_PX, 7);
+#define LONGEST(items)                                                                                                \
+    layouts, (items) * OOF_LAYOUT_WORDS, lists, 2 * OOF_CANDIDATE_WORDS, lists + 2 * OOF_CANDIDATE_WORDS,              \
+        OOF_CANDIDATE_WORDS, tally, (items), state, answer
+#define OPEN(items, node)                                                                                             \
+    oof_preview_open(200, 100, 0, 0, OOF_DIRECTION_LTR, OOF_CLAIMS_ABSOLUTE, OOF_OVERFLOW_VISIBLE, OOF_OVERFLOW_VISIBLE, \
+                     table, (items) * OOF_STYLE_WORDS, node, style, OOF_STYLE_WORDS, candidates,                       \
+                     2 * OOF_CANDIDATE_WORDS, LONGEST(items))
+    MUST(OPEN(MOST, MOST) == OOF_BAD_CANDIDATE && OPEN(MOST + 1, LAST) == OOF_BAD_EXTENT);
+    MUST(OPEN(MOST + 1, MOST + 1) == OOF_BAD_EXTENT);
+    MUST(OPEN(MOST, LAST) == OOF_ACCEPTED && answer[OOF_ANSWER_KIND] == OOF_LAY_OUT && answer[OOF_QUESTION_NODE] == LAST);
+    MUST(oof_preview_reply_laid_out(0, 0, 0, 0, candidates, 0, table, MOST * OOF_STYLE_WORDS, LAST, style, OOF_STYLE_WORDS,
+                                    LONGEST(MOST)) == OOF_ACCEPTED);
+    MUST(answer[OOF_ANSWER_KIND] == OOF_MEASURE_BOTH && answer[OOF_QUESTION_NODE] == 0);
+    MUST(oof_float(layouts[LAST * OOF_LAYOUT_WORDS + OOF_LAYOUT_WIDTH]) == 7);
+    MUST(OPEN(MOST, 0) == OOF_ACCEPTED && answer[OOF_ANSWER_KIND] == OOF_MEASURE_BOTH && answer[OOF_QUESTION_NODE] == LAST);
+#undef OPEN
+#undef LONGEST
+}
+
+/* ---- random previews, beside runs over a copy */
+
+static void any_style(uint32_t *style)
+{
+    const uint32_t tags[12] = {OOF_TAG_PX, OOF_TAG_PX, OOF_TAG_AUTO, OOF_TAG_PERCENT, OOF_TAG_SUM, OOF_TAG_MIN_CONTENT,
+                               OOF_TAG_MAX_CONTENT, OOF_TAG_FIT_CONTENT, OOF_TAG_FIT_CONTENT_PX, OOF_TAG_FIT_CONTENT_PERCENT,
+                               OOF_TAG_STRETCH, OOF_TAG_CONTENT};
+    plain_style(style);
+    for EACH_LENGTH(at) {
+        const uint32_t tag = tags[below(12)];
+        if (takes(at, tag) && (at < OOF_STYLE_MARGIN_LEFT || at >= OOF_STYLE_WIDTH || !below(4))) {
+            oof_set_length(style, at, tag, oof_float(some_float()));
+            style[at + OOF_LENGTH_SECOND] = some_float();
+        }
+    }
+    style[OOF_STYLE_RATIO_PRESENT] = !below(4), style[OOF_STYLE_RATIO] = some_float();
+    style[OOF_STYLE_BOX_SIZING] = below(2), style[OOF_STYLE_FLAGS] = below(4), style[OOF_STYLE_DIRECTION] = below(2);
+    style[OOF_STYLE_JUSTIFY] = below(11), style[OOF_STYLE_JUSTIFY_SAFETY] = below(3);
+    style[OOF_STYLE_ALIGN] = below(11), style[OOF_STYLE_ALIGN_SAFETY] = below(3);
+    style[OOF_STYLE_OVERFLOW_X] = below(4), style[OOF_STYLE_OVERFLOW_Y] = below(4);
+    style[OOF_STYLE_SCROLLBAR_WIDTH] = some_float(), style[OOF_STYLE_CONTAIN] = below(256);
+}
+
+static preview any_preview(void)
+{
+    preview p = overlay();
+    p.items = p.own.words = 1 + below(NODES), p.node = below(p.items), p.candidates_lent = below(LISTED);
+    for (int k = 0; k < 4; k++)
+        p.area[k] = some_float();
+    p.codes[0] = below(2), p.codes[1] = below(4) ? OOF_CLAIMS_ABSOLUTE : below(4), p.codes[2] = below(4), p.codes[3] = below(4);
+    for (int k = 0; k < NODES; k++)
+        any_style(p.styles + k * OOF_STYLE_WORDS);
+    any_style(p.style);
+    for (int k = 0; k < LISTED; k++) {
+        uint32_t *record = put_candidate(p.candidates, k, below(p.items), below(256));
+        record[OOF_CANDIDATE_POSITION] = OOF_POSITION_ABSOLUTE + !below(4);
+        for (size_t at = OOF_CANDIDATE_X_START; at <= OOF_CANDIDATE_Y_FALLBACK; at++)
+            record[at] = at < OOF_CANDIDATE_X_EDGE || at == OOF_CANDIDATE_Y_START || at == OOF_CANDIDATE_Y_END ? some_float()
+                                                                                                               : below(3);
+    }
+    return p;
+}
+
+/* one change for which a call may be refused, or none */
+static void damage_preview(preview *p, reply *r)
+{
+    switch (below(14)) {
+    case 0: p->style_words = other_styles[below(5)]; return;
+    case 1: p->node = below(2) ? p->items + below(2) : 0xFFFFFFFF - below(2); return;
+    case 2: p->own.words = below(NODES + 2); return;
+    case 3: p->own.state[OOF_STATE_LENGTHS + below(5)] ^= 1; return;
+    case 4: p->own.tally[below(p->items)] = p->own.state[OOF_STATE_ANSWERED] + below(2); return;
+    case 5: r->kind = 1 + below(4); return;
+    case 6: p->styles[below(p->items) * OOF_STYLE_WORDS + OOF_STYLE_CONTAIN] = 256; return;
+    case 7: p->style[OOF_STYLE_INSET_LEFT + OOF_LENGTH_WORDS * below(22)] = 2; return;
+    case 8: p->own.working[OOF_CANDIDATE_NODE] = p->items; return;
+    case 9: p->candidates[below(LISTED) * OOF_CANDIDATE_WORDS + OOF_CANDIDATE_LAYER] = 256; return;
+    case 10: r->surfaced = LISTED; return;
+    case 11: p->codes[below(4)] = 4; return;
+    case 12: p->own.state[OOF_STATE_PROGRESS] = below(7); return;
+    default:
+        if (p->node < p->items) /* in the record that isn't read */
+            memset(p->styles + p->node * OOF_STYLE_WORDS, 0xFF, OOF_STYLE_WORDS * sizeof *p->styles);
+    }
+}
+
+/* a call that is damaged, and one that isn't, beside the model's; how often each number came */
+static int random_call(preview *p, reply *r, int *numbers)
+{
+    uint32_t result;
+    preview damaged = *p;
+    reply other = r ? *r : (reply){.kind = 0};
+    for (uint32_t k = below(4); k > 0; k--)
+        damage_preview(&damaged, &other);
+    int wrong = !as_modelled(&damaged, r ? &other : NULL, &result);
+    numbers[result]++;
+    wrong += !as_modelled(p, r, &result);
+    if (result == OOF_LIST_FULL && r && r->surfaced)
+        r->surfaced = 0, wrong += !as_modelled(p, r, &result);
+    return wrong + (result != OOF_ACCEPTED);
+}
+
+/* whole previews, with refused calls between the others, boxes that surface, and nodes and replacements that change; at each call
+ * whether one over the live table would have left other words */
+static void random_previews(void)
+{
+    enum { RUNS = 30000 };
+    int wrong = 0, calls = 0, other = 0, numbers[OOF_NOT_IN_EIGHTHS + 1] = {0};
+    for (int run = 0; run < RUNS; run++) {
+        preview p = any_preview();
+        run_slices live = p.own;
+        run_open(&p, p.styles, &live);
+        wrong += random_call(&p, NULL, numbers), calls++;
+        other += memcmp(&live, &p.own, sizeof live) != 0;
+        while (!wrong && p.own.answer[OOF_ANSWER_KIND] != OOF_FINISH) {
+            reply r = {p.own.answer[OOF_ANSWER_KIND], {0}, below(3)};
+            for (int k = 0; k < 4; k++)
+                r.numbers[k] = oof_float(some_float());
+            if (!below(8))
+                any_style(p.style), p.node = below(p.items);
+            live = p.own;
+            run_reply(&p, p.styles, &live, r);
+            wrong += random_call(&p, &r, numbers), calls++;
+            other += memcmp(&live, &p.own, sizeof live) != 0;
+        }
+    }
+    MUST(wrong == 0 && calls > 3 * RUNS && other > RUNS);
+    for (uint32_t number = OOF_ACCEPTED; number <= OOF_WRONG_REPLY; number++)
+        MUST(numbers[number] > RUNS / 100);
+}
+
+/* a live run and a preview over one table, their calls in any order: each is what it is by itself */
+static void random_live_and_preview(void)
+{
+    enum { RUNS = 5000 };
+    int wrong = 0, both = 0;
+    for (int run = 0; run < RUNS; run++) {
+        preview p = any_preview(), alone = p;
+        run_slices live = p.own, live_alone = p.own;
+        wrong += run_open(&p, p.styles, &live_alone) || preview_open(&alone, &alone.own) || !preview_finishes(&alone);
+        while (live_alone.answer[OOF_ANSWER_KIND] != OOF_FINISH && !wrong)
+            wrong += run_reply(&p, p.styles, &live_alone, asked(&live_alone));
+        wrong += below(2) ? run_open(&p, p.styles, &live) || preview_open(&p, &p.own)
+                          : preview_open(&p, &p.own) || run_open(&p, p.styles, &live);
+        while (!wrong) {
+            const int goes_on = live.answer[OOF_ANSWER_KIND] != OOF_FINISH, tries = p.own.answer[OOF_ANSWER_KIND] != OOF_FINISH;
+            if (!goes_on && !tries)
+                break;
+            both += goes_on && tries;
+            if (goes_on && (!tries || below(2)))
+                wrong += run_reply(&p, p.styles, &live, asked(&live));
+            else
+                wrong += preview_reply(&p, &p.own, asked(&p.own));
+        }
+        wrong += memcmp(&live, &live_alone, sizeof live) != 0 || memcmp(&p, &alone, sizeof p) != 0;
+    }
+    MUST(wrong == 0 && both > RUNS);
+}
+
+static void of_previews(void)
+{
+    preview_openings_in_order();
+    preview_replies_in_order();
+    preview_replies_without_question();
+    preview_nodes();
+    preview_without_items();
+    preview_bad_words();
+    preview_mends_one();
+    preview_moves_the_overlay();
+    preview_with_another_style_later();
+    preview_by_a_record();
+    preview_is_read();
+    longest_preview();
+    random_previews();
+    random_live_and_preview();
+}
+
 static void of_reach(void)
 {
     one_axis();
@@ -2621,6 +3269,7 @@ int main(void)
     stretched_from_anchors();
     measured_from_anchors();
     of_tallies();
+    of_previews();
     printf("hosts/c: %d tests passed\n", tried);
     return EXIT_SUCCESS;
 }

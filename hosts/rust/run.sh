@@ -24,7 +24,7 @@ fail() { cat "$log"; echo "hosts/rust: $1"; exit 1; }
 cd "$here"
 cargo test --offline --locked --release > "$log" 2>&1 || fail "it does not build, or a test failed"
 tests=$(sed -n 's/^test result: ok\. \([0-9]*\) passed.*/\1/p' "$log" | awk '{ n += $1 } END { print n }')
-for example in panel incident editor costliest; do
+for example in panel incident editor costliest preview; do
     cargo run --offline --locked --release --quiet --example "$example" 2> "$log" > "$work/out" || fail "the example $example failed"
     diff "$here/examples/$example.stdout" "$work/out" > "$log" || fail "the example $example prints something else"
 done

@@ -1,4 +1,4 @@
-//! The ten entries of the static library liboof_c.a, over words. This is the only module with `unsafe`.
+//! The fifteen entries of the static library liboof_c.a, over words. This is the only module with `unsafe`.
 //!
 //! Every entry takes any words in any number, and a call that it refuses writes no lent word; [`first_bad_word`] refuses none. So the
 //! functions here are safe: the slices are Rust's, and two of which one may be written don't overlap.
@@ -65,6 +65,15 @@ pub struct Lent<'a> {
     pub state: &'a mut [u32; STATE],
     /// The next question, or the finish. Written when a call is accepted
     pub answer: &'a mut [u32; ANSWER],
+}
+
+/// What each call of a preview lends beside a run's words: another style for one node of the table. Nothing of it is kept between calls.
+#[derive(Copy, Clone, Debug, PartialEq)]
+pub struct Replacement<'a> {
+    /// Which item's style is replaced, below the number of items
+    pub node: u32,
+    /// One style, 79 words
+    pub style: &'a [u32],
 }
 
 /// What a call lends that reads a finished run: its words, as the last call left them. The tally isn't lent.
@@ -187,6 +196,111 @@ mod c {
             state: *mut u32,
             answer: *mut u32,
         ) -> u32;
+        pub fn oof_preview_open(
+            width: f32,
+            height: f32,
+            x: f32,
+            y: f32,
+            direction: u32,
+            claims: u32,
+            overflow_x: u32,
+            overflow_y: u32,
+            styles: *const u32,
+            styles_len: usize,
+            node: u32,
+            style: *const u32,
+            style_len: usize,
+            candidates: *const u32,
+            candidates_len: usize,
+            layouts: *mut u32,
+            layouts_len: usize,
+            working: *mut u32,
+            working_len: usize,
+            unclaimed: *mut u32,
+            unclaimed_len: usize,
+            tally: *mut u32,
+            tally_len: usize,
+            state: *mut u32,
+            answer: *mut u32,
+        ) -> u32;
+        pub fn oof_preview_reply_both(
+            width: f32,
+            height: f32,
+            styles: *const u32,
+            styles_len: usize,
+            node: u32,
+            style: *const u32,
+            style_len: usize,
+            layouts: *mut u32,
+            layouts_len: usize,
+            working: *mut u32,
+            working_len: usize,
+            unclaimed: *mut u32,
+            unclaimed_len: usize,
+            tally: *mut u32,
+            tally_len: usize,
+            state: *mut u32,
+            answer: *mut u32,
+        ) -> u32;
+        pub fn oof_preview_reply_width(
+            width: f32,
+            styles: *const u32,
+            styles_len: usize,
+            node: u32,
+            style: *const u32,
+            style_len: usize,
+            layouts: *mut u32,
+            layouts_len: usize,
+            working: *mut u32,
+            working_len: usize,
+            unclaimed: *mut u32,
+            unclaimed_len: usize,
+            tally: *mut u32,
+            tally_len: usize,
+            state: *mut u32,
+            answer: *mut u32,
+        ) -> u32;
+        pub fn oof_preview_reply_height(
+            height: f32,
+            styles: *const u32,
+            styles_len: usize,
+            node: u32,
+            style: *const u32,
+            style_len: usize,
+            layouts: *mut u32,
+            layouts_len: usize,
+            working: *mut u32,
+            working_len: usize,
+            unclaimed: *mut u32,
+            unclaimed_len: usize,
+            tally: *mut u32,
+            tally_len: usize,
+            state: *mut u32,
+            answer: *mut u32,
+        ) -> u32;
+        pub fn oof_preview_reply_laid_out(
+            left: f32,
+            right: f32,
+            top: f32,
+            bottom: f32,
+            surfaced: *const u32,
+            surfaced_len: usize,
+            styles: *const u32,
+            styles_len: usize,
+            node: u32,
+            style: *const u32,
+            style_len: usize,
+            layouts: *mut u32,
+            layouts_len: usize,
+            working: *mut u32,
+            working_len: usize,
+            unclaimed: *mut u32,
+            unclaimed_len: usize,
+            tally: *mut u32,
+            tally_len: usize,
+            state: *mut u32,
+            answer: *mut u32,
+        ) -> u32;
         pub fn oof_reach(
             place: usize,
             styles: *const u32,
@@ -286,6 +400,65 @@ pub fn reply(reply: Reply, surfaced: &[u32], lent: &mut Lent) -> u32 {
         Reply::Height(height) => call!(oof_reply_height, lent, height, styles, length),
         Reply::LaidOut([left, right, top, bottom]) => {
             call!(oof_reply_laid_out, lent, left, right, top, bottom, surfaced.as_ptr(), surfaced.len(), styles, length)
+        }
+    }
+}
+
+/// Opens a preview: what [`open`] does over a copy of the table in which the node has that style, while table and style keep every
+/// word. The lent slices, state and answer are the preview's own. A style that isn't 79 words is refused with 2, then a node that the
+/// table hasn't with 4. The result is 0, or the number of a refusal.
+pub fn preview_open(area: [f32; 4], codes: [u32; 4], r: Replacement, candidates: &[u32], lent: &mut Lent) -> u32 {
+    let ([width, height, x, y], [direction, claims, overflow_x, overflow_y]) = (area, codes);
+    call!(
+        oof_preview_open,
+        lent,
+        width,
+        height,
+        x,
+        y,
+        direction,
+        claims,
+        overflow_x,
+        overflow_y,
+        lent.styles.as_ptr(),
+        lent.styles.len(),
+        r.node,
+        r.style.as_ptr(),
+        r.style.len(),
+        candidates.as_ptr(),
+        candidates.len()
+    )
+}
+
+/// Replies to the open question of a preview: what [`reply`] does over such a copy, by the node and the style of this call. A style that
+/// isn't 79 words is refused with 2, then a node that the table hasn't with 4, before any other reason but 2. The result is 0, or the number
+/// of a refusal.
+pub fn preview_reply(reply: Reply, surfaced: &[u32], r: Replacement, lent: &mut Lent) -> u32 {
+    let (styles, length, node) = (lent.styles.as_ptr(), lent.styles.len(), r.node);
+    let (style, words) = (r.style.as_ptr(), r.style.len());
+    match reply {
+        Reply::Both(width, height) => {
+            call!(oof_preview_reply_both, lent, width, height, styles, length, node, style, words)
+        }
+        Reply::Width(width) => call!(oof_preview_reply_width, lent, width, styles, length, node, style, words),
+        Reply::Height(height) => call!(oof_preview_reply_height, lent, height, styles, length, node, style, words),
+        Reply::LaidOut([left, right, top, bottom]) => {
+            let (surfaced, records) = (surfaced.as_ptr(), surfaced.len());
+            call!(
+                oof_preview_reply_laid_out,
+                lent,
+                left,
+                right,
+                top,
+                bottom,
+                surfaced,
+                records,
+                styles,
+                length,
+                node,
+                style,
+                words
+            )
         }
     }
 }

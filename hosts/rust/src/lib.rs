@@ -2,9 +2,10 @@
 //!
 //! [`compute_oof_layout_for_area`] reads like the function of that name in taffy 0.15.1: it takes an area, a table of styles
 //! and a list of candidates, calls the [`Host`] back to measure and to lay out, and returns where the boxes stand. Under it is
-//! the library's dialogue of questions and replies over lent words; [`ffi`] has its ten entries, with slices checked by
+//! the library's dialogue of questions and replies over lent words; [`ffi`] has its fifteen entries, with slices checked by
 //! Rust. [`Placed::tally`] says how many questions each item took, [`Placed::reach`] whether scrolling can bring a box into view,
 //! [`Placed::drawing_order`] in which order the boxes are drawn, and [`Placed::touch`] has what a touch driver reads of them.
+//! [`preview()`] tries another style for one node, and leaves the table and the placement over it as they are.
 //! [`Layout::pixels`] rounds a box to whole pixels. [`first_bad_word`] says which word of a table of styles, held as words and
 //! perhaps half typed, breaks a code rule.
 //!
@@ -38,6 +39,7 @@ mod drawing;
 pub mod ffi;
 mod geometry;
 mod pixels;
+mod preview;
 mod reach;
 mod refusal;
 mod run;
@@ -48,6 +50,7 @@ pub mod words;
 
 pub use bad_word::{first_bad_word, BadWord};
 pub use geometry::{Line, Point, Rect, Size};
+pub use preview::{preview, preview_with};
 pub use reach::Reach;
 pub use refusal::Refusal;
 pub use run::{compute_oof_layout, compute_oof_layout_for_area, compute_oof_layout_with, Host, LaidOut, Placed, Room};

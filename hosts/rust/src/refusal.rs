@@ -3,21 +3,23 @@ use std::fmt;
 
 /// Why a call was turned down. Such a call has written no lent word.
 ///
-/// From [`compute_oof_layout_for_area`](crate::compute_oof_layout_for_area) come only `BadExtent`, `BadCandidate` and
-/// `ListFull`: its types have no bad codes, and it replies what it was asked. From [`Placed::reach`](crate::Placed::reach) come
-/// only `BadExtent`, for a place without a box, and `NotInEighths`, which is the only one of [`Layout::pixels`](crate::Layout::pixels)
-/// and of [`Placed::touch`](crate::Placed::touch). 7 and 8 are refusals of parts that the library hasn't.
+/// From [`compute_oof_layout_for_area`](crate::compute_oof_layout_for_area) and [`preview`](crate::preview()) come only `BadExtent`,
+/// `BadCandidate` and `ListFull`: their types have no bad codes, and they reply what they were asked. From
+/// [`Placed::reach`](crate::Placed::reach) come only `BadExtent`, for a place without a box, and `NotInEighths`, which is the only one of
+/// [`Layout::pixels`](crate::Layout::pixels) and of [`Placed::touch`](crate::Placed::touch). 7 and 8 are refusals of parts that the
+/// library hasn't.
 #[derive(Copy, Clone, Debug, PartialEq, Eq, Hash)]
 #[non_exhaustive]
 pub enum Refusal {
     /// A code of direction, claims or overflow is outside its list
     BadArea = 1,
-    /// A slice isn't whole records, is too long, or (after the opening) has another length than at the opening; or no box has the
-    /// place that is asked for; or a drawing order isn't one word a box, or what a touch driver reads isn't five
+    /// A slice isn't whole records, is too long, or (after the opening) has another length than at the opening; or a preview's style
+    /// isn't 79 words; or no box has the place that is asked for; or a drawing order isn't one word a box, or what a touch driver
+    /// reads isn't five
     BadExtent = 2,
     /// A code or tag isn't allowed in its field of a style: [`first_bad_word`](crate::first_bad_word) says which
     BadStyle = 3,
-    /// A candidate names no item of the table, has a code outside its list, or a layer above 255
+    /// A candidate or a preview names no item of the table, or a candidate has a code outside its list, or a layer above 255
     BadCandidate = 4,
     /// The claimed or the unclaimed candidates would exceed their list
     ListFull = 5,

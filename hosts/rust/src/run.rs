@@ -1,6 +1,6 @@
 //! The placement: the library's dialogue, turned into callbacks.
-use crate::ffi::{self, state, Finished, Lent, Reply};
-use crate::words::{Answer, CANDIDATE, LAYER, LAYOUT};
+use crate::ffi::{self, state, Finished, Lent, Replacement, Reply};
+use crate::words::{Answer, CANDIDATE, LAYER, LAYOUT, STYLE};
 use crate::{Area, AvailableSpace, Candidate, Layout, NodeId, Rect, Refusal, Size, Style};
 use std::fmt;
 
@@ -46,9 +46,9 @@ pub trait Host {
     }
 }
 
-/// What a placement came to. It keeps the words of its run, for [`reach`](Placed::reach), [`drawing_order`](Placed::drawing_order) and
-/// [`touch`](Placed::touch): a field that is changed afterwards changes nothing there. Two are equal if their fields are, the size, offset,
-/// direction and overflow of their areas, and the layers of their boxes.
+/// What a placement or a [preview](crate::preview()) came to. It keeps the words of its run, for [`reach`](Placed::reach),
+/// [`drawing_order`](Placed::drawing_order) and [`touch`](Placed::touch): a field that is changed afterwards changes nothing there. Two
+/// are equal if their fields are, the size, offset, direction and overflow of their areas, and the layers of their boxes.
 #[derive(Clone, Debug, PartialEq)]
 pub struct Placed {
     /// By item; nothing for those that weren't placed. An item that was claimed twice has its last layout.
@@ -79,7 +79,7 @@ pub(crate) struct Words {
 
 impl Words {
     fn of(run: Run) -> Words {
-        let Run { styles, layouts, mut working, mut unclaimed, tally: _, mut state, answer: _ } = run;
+        let Run { styles, layouts, mut working, mut unclaimed, mut state, .. } = run;
         let mut trim = |list: &mut Vec<u32>, filled: usize, length: usize| {
             list.truncate(CANDIDATE * state[filled] as usize);
             list.shrink_to_fit();
@@ -156,27 +156,7 @@ pub fn compute_oof_layout_with(
     candidates: &[Candidate],
     room: Room,
 ) -> Result<Placed, Refusal> {
-    let mut run = Run::new(styles, room);
-    run.open(area, candidates)?;
-    loop {
-        match run.answer() {
-            Answer::MeasureBoth { node, known, space } => {
-                let size = host.measure_both(node, known, space);
-                run.reply(Reply::Both(size.width, size.height), &[])?;
-            }
-            Answer::MeasureWidth { node, known, space } => {
-                run.reply(Reply::Width(host.measure_width(node, known, space)), &[])?;
-            }
-            Answer::MeasureHeight { node, known, space } => {
-                run.reply(Reply::Height(host.measure_height(node, known, space)), &[])?;
-            }
-            Answer::LayOut { node, size, space } => {
-                let LaidOut { overflow: o, surfaced } = host.lay_out(node, size, space);
-                run.reply(Reply::LaidOut([o.left, o.right, o.top, o.bottom]), &surfaced)?;
-            }
-            Answer::Finish { overflow, questions } => return Ok(run.placed(overflow, questions as usize)),
-        }
-    }
+    Run::new(styles, room, None).place(host, area, candidates)
 }
 
 /// Places the candidates if there are an area and candidates, and joins their overflow with the caller's rectangle.
@@ -196,8 +176,8 @@ pub fn compute_oof_layout(
     Ok(Some(placed))
 }
 
-/// The words that a run lends to every call
-struct Run {
+/// The words that a run or a preview lends to every call
+pub(crate) struct Run {
     styles: Vec<u32>,
     layouts: Vec<u32>,
     working: Vec<u32>,
@@ -205,10 +185,12 @@ struct Run {
     tally: Vec<u32>,
     state: [u32; ffi::STATE],
     answer: [u32; ffi::ANSWER],
+    replacement: Option<(NodeId, [u32; STYLE])>,
 }
 
 impl Run {
-    fn new(styles: &[Style], room: Room) -> Run {
+    /// A live run, or the preview of another style for a node
+    pub(crate) fn new(styles: &[Style], room: Room, replacement: Option<(NodeId, &Style)>) -> Run {
         // one record above the most is refused just as more are
         let list = |records: usize, most: usize| vec![0; CANDIDATE * records.min(most + 1)];
         Run {
@@ -219,10 +201,11 @@ impl Run {
             tally: vec![0; styles.len()],
             state: [0; ffi::STATE],
             answer: [0; ffi::ANSWER],
+            replacement: replacement.map(|(node, style)| (node, style.to_words())),
         }
     }
-    fn lent(&mut self) -> Lent<'_> {
-        Lent {
+    fn lent(&mut self) -> (Lent<'_>, Option<Replacement<'_>>) {
+        let lent = Lent {
             styles: &self.styles,
             layouts: &mut self.layouts,
             working: &mut self.working,
@@ -230,19 +213,53 @@ impl Run {
             tally: &mut self.tally,
             state: &mut self.state,
             answer: &mut self.answer,
-        }
+        };
+        (lent, self.replacement.as_ref().map(|(node, style)| Replacement { node: *node, style }))
     }
     fn open(&mut self, a: &Area, candidates: &[Candidate]) -> Result<(), Refusal> {
         let claims = u32::from(a.claims.absolute) | u32::from(a.claims.fixed) << 1;
-        Refusal::verdict(ffi::open(
-            [a.size.width, a.size.height, a.offset.x, a.offset.y],
-            [a.direction as u32, claims, a.overflow.x as u32, a.overflow.y as u32],
-            &candidate_words(candidates),
-            &mut self.lent(),
-        ))
+        let area = [a.size.width, a.size.height, a.offset.x, a.offset.y];
+        let codes = [a.direction as u32, claims, a.overflow.x as u32, a.overflow.y as u32];
+        let candidates = candidate_words(candidates);
+        Refusal::verdict(match self.lent() {
+            (mut lent, None) => ffi::open(area, codes, &candidates, &mut lent),
+            (mut lent, Some(replacement)) => ffi::preview_open(area, codes, replacement, &candidates, &mut lent),
+        })
     }
     fn reply(&mut self, reply: Reply, surfaced: &[Candidate]) -> Result<(), Refusal> {
-        Refusal::verdict(ffi::reply(reply, &candidate_words(surfaced), &mut self.lent()))
+        let surfaced = candidate_words(surfaced);
+        Refusal::verdict(match self.lent() {
+            (mut lent, None) => ffi::reply(reply, &surfaced, &mut lent),
+            (mut lent, Some(replacement)) => ffi::preview_reply(reply, &surfaced, replacement, &mut lent),
+        })
+    }
+    /// From the opening to the finish
+    pub(crate) fn place(
+        mut self,
+        host: &mut impl Host,
+        area: &Area,
+        candidates: &[Candidate],
+    ) -> Result<Placed, Refusal> {
+        self.open(area, candidates)?;
+        loop {
+            match self.answer() {
+                Answer::MeasureBoth { node, known, space } => {
+                    let size = host.measure_both(node, known, space);
+                    self.reply(Reply::Both(size.width, size.height), &[])?;
+                }
+                Answer::MeasureWidth { node, known, space } => {
+                    self.reply(Reply::Width(host.measure_width(node, known, space)), &[])?;
+                }
+                Answer::MeasureHeight { node, known, space } => {
+                    self.reply(Reply::Height(host.measure_height(node, known, space)), &[])?;
+                }
+                Answer::LayOut { node, size, space } => {
+                    let LaidOut { overflow: o, surfaced } = host.lay_out(node, size, space);
+                    self.reply(Reply::LaidOut([o.left, o.right, o.top, o.bottom]), &surfaced)?;
+                }
+                Answer::Finish { overflow, questions } => return Ok(self.placed(overflow, questions as usize)),
+            }
+        }
     }
     fn answer(&self) -> Answer {
         Answer::from_words(&self.answer).expect("the library answers with a question or a finish")
