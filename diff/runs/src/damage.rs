@@ -181,7 +181,7 @@ pub fn one(
     damaged_reply(family, kind, &words, library, rng, seen, noticed)
 }
 
-const KINDS: [Kind; 4] = [Kind::Both, Kind::Width, Kind::Height, Kind::LayOut];
+pub const KINDS: [Kind; 4] = [Kind::Both, Kind::Width, Kind::Height, Kind::LayOut];
 
 // ---- a call, checked
 
@@ -290,7 +290,7 @@ fn laid_out(call: &str, w: &[u32]) -> Result<(), Difference> {
 
 // ---- damage
 
-fn damage_opening(family: Family, w: &mut Words, rng: &mut Rng) {
+pub fn damage_opening(family: Family, w: &mut Words, rng: &mut Rng) {
     match family {
         OpenCodes => w.area[4 + rng.below(4) as usize] = rng.code(),
         OpenLengths => {
@@ -385,7 +385,7 @@ fn resize_tally(w: &mut Words, rng: &mut Rng) {
     w.tally.resize(if chosen == length { length + 1 } else { chosen }, 1);
 }
 
-fn rewrite_style(w: &mut Words, rng: &mut Rng) {
+pub fn rewrite_style(w: &mut Words, rng: &mut Rng) {
     if w.styles.is_empty() {
         return;
     }
@@ -467,7 +467,7 @@ fn damaged_reply(
     reply(&said, &mut w, library, seen, noticed)
 }
 
-fn damage_reply(family: Family, said: &mut Said, w: &mut Words, rng: &mut Rng) {
+pub fn damage_reply(family: Family, said: &mut Said, w: &mut Words, rng: &mut Rng) {
     match family {
         ReplyKind => said.kind = KINDS[(said.kind as usize + 1 + rng.below(3) as usize) % 4],
         ReplyLengths => {
@@ -647,7 +647,7 @@ fn damage_layers(said: &mut Said, w: &mut Words, rng: &mut Rng) {
 }
 
 /// Records to surface, good ones for the most part
-fn surface(said: &mut Said, w: &Words, rng: &mut Rng) {
+pub fn surface(said: &mut Said, w: &Words, rng: &mut Rng) {
     let items = w.items().max(1) as u32;
     said.surfaced.clear();
     for _ in 0..1 + rng.below(3) {

@@ -38,11 +38,10 @@ const STATE: usize = 28;
 
 /// Opening tests 1, 2, 3, 4, 5 in that order
 pub fn opening(w: &Words) -> u32 {
-    let [.., direction, claims, overflow_x, overflow_y] = w.area;
-    if direction > 1 || claims > 3 || overflow_x > 3 || overflow_y > 3 {
+    if bad_area(w) {
         return 1;
     }
-    if bad_extents(w) || w.candidates.len() % CANDIDATE != 0 {
+    if bad_opening(w) {
         return 2;
     }
     if bad_styles(&w.styles) {
@@ -51,10 +50,26 @@ pub fn opening(w: &Words) -> u32 {
     if bad_candidates(&w.candidates, w.styles.len() / STYLE) {
         return 4;
     }
-    if list_full(&w.candidates, claims, 0, 0, w) {
+    if full(w) {
         return 5;
     }
     0
+}
+
+/// Test 5 of an opening
+pub fn full(w: &Words) -> bool {
+    list_full(&w.candidates, w.area[5], 0, 0, w)
+}
+
+/// Test 1
+pub fn bad_area(w: &Words) -> bool {
+    let [.., direction, claims, overflow_x, overflow_y] = w.area;
+    direction > 1 || claims > 3 || overflow_x > 3 || overflow_y > 3
+}
+
+/// Test 2 of an opening
+pub fn bad_opening(w: &Words) -> bool {
+    bad_extents(w) || w.candidates.len() % CANDIDATE != 0
 }
 
 /// A refused opening returns the state of a finished run with all counts 0; its lengths are those lent
@@ -73,37 +88,64 @@ pub fn lengths(w: &Words) -> [usize; 5] {
 
 /// A reply 2, 6, 3, 4, 5
 pub fn reply(said: &Said, w: &Words) -> u32 {
-    // a measure reply has only its one or two sizes
-    let surfaced: &[u32] = if said.kind == Kind::LayOut { &said.surfaced } else { &[] };
-    let other = (0..5).any(|i| lengths(w)[i] != w.state[LENGTHS + i] as usize);
-    if bad_extents(w) || other || surfaced.len() % CANDIDATE != 0 {
+    if bad_reply(said, w) {
         return 2;
     }
-    let filled_working = w.state[FILLED_WORKING] as usize;
-    let filled_unclaimed = w.state[FILLED_UNCLAIMED] as usize;
-    let (begun, answered) = (w.state[BEGUN] as u64, w.state[ANSWERED] as u64);
-    if asked(w.state[PROGRESS]) != Some(said.kind)
-        || filled_working > w.working.len() / CANDIDATE
-        || filled_unclaimed > w.unclaimed.len() / CANDIDATE
-        || begun < 1
-        || begun > filled_working as u64
-        || answered > 3 * begun
-        // request #107: "a word above the run's own count of questions answered is a wrong reply", before this reply
-        || w.tally.iter().any(|&word| u64::from(word) > answered)
-    {
+    if wrong_reply(said, w) {
         return 6;
     }
     if bad_styles(&w.styles) {
         return 3;
     }
-    let items = w.styles.len() / STYLE;
-    if bad_candidates(&w.working[..CANDIDATE * filled_working], items) || bad_candidates(surfaced, items) {
+    if bad_filled(said, w) {
         return 4;
     }
-    if list_full(surfaced, w.state[CLAIMS], filled_working, filled_unclaimed, w) {
+    if full_by(said, w) {
         return 5;
     }
     0
+}
+
+/// A measure reply has only its one or two sizes
+fn surfaced(said: &Said) -> &[u32] {
+    if said.kind == Kind::LayOut {
+        &said.surfaced
+    } else {
+        &[]
+    }
+}
+
+/// Test 2 of a reply
+pub fn bad_reply(said: &Said, w: &Words) -> bool {
+    let other = (0..5).any(|i| lengths(w)[i] != w.state[LENGTHS + i] as usize);
+    bad_extents(w) || other || surfaced(said).len() % CANDIDATE != 0
+}
+
+/// Test 6
+pub fn wrong_reply(said: &Said, w: &Words) -> bool {
+    let filled_working = w.state[FILLED_WORKING] as usize;
+    let (begun, answered) = (w.state[BEGUN] as u64, w.state[ANSWERED] as u64);
+    asked(w.state[PROGRESS]) != Some(said.kind)
+        || filled_working > w.working.len() / CANDIDATE
+        || w.state[FILLED_UNCLAIMED] as usize > w.unclaimed.len() / CANDIDATE
+        || begun < 1
+        || begun > filled_working as u64
+        || answered > 3 * begun
+        // request #107: "a word above the run's own count of questions answered is a wrong reply", before this reply
+        || w.tally.iter().any(|&word| u64::from(word) > answered)
+}
+
+/// Test 4 of a reply: its filled working records, as far as there are any, and its surfaced ones
+pub fn bad_filled(said: &Said, w: &Words) -> bool {
+    let items = w.styles.len() / STYLE;
+    let filled = CANDIDATE.saturating_mul(w.state[FILLED_WORKING] as usize).min(w.working.len());
+    bad_candidates(&w.working[..filled], items) || bad_candidates(surfaced(said), items)
+}
+
+/// Test 5 of a reply
+pub fn full_by(said: &Said, w: &Words) -> bool {
+    let filled = [w.state[FILLED_WORKING] as usize, w.state[FILLED_UNCLAIMED] as usize];
+    list_full(surfaced(said), w.state[CLAIMS], filled[0], filled[1], w)
 }
 
 /// The kind of the open question; none after the finish
@@ -127,10 +169,10 @@ fn bad_extents(w: &Words) -> bool {
         || [&w.working, &w.unclaimed].iter().any(|list| list.len() % CANDIDATE != 0 || list.len() / CANDIDATE > 4096)
 }
 
-fn bad_styles(styles: &[u32]) -> bool {
+pub fn bad_styles(styles: &[u32]) -> bool {
     styles.chunks(STYLE).any(bad_style)
 }
-fn bad_style(w: &[u32]) -> bool {
+pub fn bad_style(w: &[u32]) -> bool {
     // a sum, tag 129, may stand everywhere; values and second values have no rule
     let tag_is_bad = |length: usize| {
         let tags: &[u32] = match length {
@@ -154,7 +196,7 @@ fn bad_style(w: &[u32]) -> bool {
 }
 
 /// Edges and safeties are 0 to 2, a layer 0 to 255
-fn bad_candidates(records: &[u32], items: usize) -> bool {
+pub fn bad_candidates(records: &[u32], items: usize) -> bool {
     records.chunks(CANDIDATE).any(|w| {
         w[NODE] as usize >= items
             || w[POSITION] > 4

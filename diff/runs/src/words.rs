@@ -34,6 +34,16 @@ impl Said {
         values[..count].copy_from_slice(&words[..count]);
         Said { kind, values, surfaced: words[count..].to_vec() }
     }
+    /// As an entry takes it
+    pub fn reply(&self) -> Reply {
+        let [a, b, c, d] = self.values.map(f32::from_bits);
+        match self.kind {
+            Kind::Both => Reply::Both(a, b),
+            Kind::Width => Reply::Width(a),
+            Kind::Height => Reply::Height(a),
+            Kind::LayOut => Reply::LaidOut([a, b, c, d]),
+        }
+    }
 }
 
 impl Words {
@@ -79,13 +89,6 @@ impl Library {
         self.spoil(result, w)
     }
     pub fn reply(&mut self, said: &Said, w: &mut Words) -> u32 {
-        let [a, b, c, d] = said.values.map(f32::from_bits);
-        let reply = match said.kind {
-            Kind::Both => Reply::Both(a, b),
-            Kind::Width => Reply::Width(a),
-            Kind::Height => Reply::Height(a),
-            Kind::LayOut => Reply::LaidOut([a, b, c, d]),
-        };
         let mut lent = Lent {
             styles: &w.styles,
             layouts: &mut w.layouts,
@@ -95,7 +98,7 @@ impl Library {
             state: &mut w.state,
             answer: &mut w.answer,
         };
-        let result = ffi::reply(reply, &said.surfaced, &mut lent);
+        let result = ffi::reply(said.reply(), &said.surfaced, &mut lent);
         self.spoil(result, w)
     }
     fn spoil(&mut self, result: u32, w: &mut Words) -> u32 {
