@@ -78,7 +78,7 @@ use Rattle.mirror_run.specs.Runs.{Message, run_next, image_next, Fair, AllFair, 
 use Rattle.pixels_laws.specs.Laws.{HasEdges}
 use Rattle.pixels_laws.proofs.Run.{run_has_edges}
 use Rattle.pixels_laws.proofs.Tests.{refused_first, edges_first}
-use Rattle.demands.specs.Entries.{Opens, RepliesTo, OpensAny, RepliesToAny, AnyCalls, TallyKept, TakesBy, RunBy, RefusedBy, Takes, Run, RefusedSince, BothRuns, AfterEach}
+use Rattle.demands.specs.Entries.{Opens, RepliesTo, OpensAny, RepliesToAny, AnyCalls, TallyKept, TakesBy, RunBy, RefusedBy, Takes, Run, RefusedSince, BothBy, BothRuns, AfterEach}
 use Rattle.run.proofs.PreviewCalls.{PreviewOpeningWay, preview_opening_way, PreviewReplyWay, preview_reply_way, accepted_opening, preview_opening_counts_none}
 use Rattle.demands.specs.Demands.{OpeningDemands, ReplyDemands, AlignmentDemands, PixelsDemands, ReachDemands, DrawingDemands, TouchDemands, CheckDemands, ScreenDemands, OpeningsGoByTheCheck, RepliesGoByTheCheck, ThreeQuestionsEach, CountsAddUp, EqualsStraightRun, SizedLayout, SizeLaw, LaidOutAsAsked, MirrorImage, MirroredReach, MirroredDrawing, LayersAreKept, FinishedIsDrawn, PlacementReadsNoLayer, FinishedIsTouched, RunsAreSeenAlike, QuartersHaveEdges, QuartersAreAnswered, QuartersAreTouched}
 
@@ -478,8 +478,8 @@ module _ (o : Opening) (candidates : List ℕ) (lent lent' : Lent) where
 
   run_of : {messages : List Message} {has has' : Outcome} → BothRuns o candidates lent lent' messages has has'
       → has ≡ foldl (run_next lent.styles) (opened o candidates lent) messages
-  run_of (BothRuns.opening c c') = c
-  run_of (BothRuns.reply {messages = messages} {before = before} {has = has} m earlier c c' f) =
+  run_of (BothBy.opening c c') = c
+  run_of (BothBy.reply {messages = messages} {before = before} {has = has} m earlier c c' f) =
       takes lent.styles before m.turn.heard m.turn.loan has c
       ∙ ap (λ (x : Outcome). run_next lent.styles x m) (run_of earlier)
       ∙ sym (foldl-append (run_next lent.styles) (opened o candidates lent) messages (m ∷ []))
@@ -487,16 +487,16 @@ module _ (o : Opening) (candidates : List ℕ) (lent lent' : Lent) where
   image_of : {messages : List Message} {has has' : Outcome} → BothRuns o candidates lent lent' messages has has'
       → has' ≡ foldl (image_next lent'.styles) image messages
   unfolding image
-  image_of (BothRuns.opening c c') = c'
-  image_of (BothRuns.reply {messages = messages} {before' = before'} {has' = has'} m earlier c c' f) =
+  image_of (BothBy.opening c c') = c'
+  image_of (BothBy.reply {messages = messages} {before' = before'} {has' = has'} m earlier c c' f) =
       takes lent'.styles before' m.image.heard m.image.loan has' c'
       ∙ ap (λ (x : Outcome). image_next lent'.styles x m) (image_of earlier)
       ∙ sym (foldl-append (image_next lent'.styles) image messages (m ∷ []))
 
   both_fair : {messages : List Message} {has has' : Outcome} → BothRuns o candidates lent lent' messages has has'
       → AllFair lent.styles (opened o candidates lent) messages
-  both_fair (BothRuns.opening c c') = tt
-  both_fair (BothRuns.reply {messages = messages} {before = before} {has = has} m earlier c c' f) =
+  both_fair (BothBy.opening c c') = tt
+  both_fair (BothBy.reply {messages = messages} {before = before} {has = has} m earlier c c' f) =
       let e = run_of earlier in
       all_fair_after lent.styles (opened o candidates lent) messages m (both_fair earlier)
       (subst (λ (x : Outcome). Fair x.step.state (run_next lent.styles x m).step.answer m) e
@@ -525,11 +525,17 @@ unfolding image
 worked_out o candidates lent lent' f f' both e = ap f (run_of o candidates lent lent' both) ∙ e ∙ sym (ap f' (image_of o candidates lent lent' both))
 
 -- what holds at the end of every list holds after each of its replies
-module _ {o : Opening} {candidates : List ℕ} {lent lent' : Lent} (P : Outcome → Outcome → Type 0)
-    (end : (messages : List Message) (has has' : Outcome) → BothRuns o candidates lent lent' messages has has' → P has has') where
-  after_each : {messages : List Message} {has has' : Outcome} (both : BothRuns o candidates lent lent' messages has has') → AfterEach P both
-  after_each (BothRuns.opening c c') = end _ _ _ (BothRuns.opening c c')
-  after_each (BothRuns.reply m earlier c c' fair) = (after_each earlier, end _ _ _ (BothRuns.reply m earlier c c' fair))
+module _
+    {opens opens' : Opening → List ℕ → Lent → Outcome → Type 0}
+    {replies replies' : State → Reply → List ℕ → Lent → Outcome → Type 0}
+    {o : Opening}
+    {candidates : List ℕ}
+    {lent lent' : Lent}
+    (P : Outcome → Outcome → Type 0)
+    (end : (messages : List Message) (has has' : Outcome) → BothBy opens opens' replies replies' o candidates lent lent' messages has has' → P has has') where
+  pub after_each : {messages : List Message} {has has' : Outcome} (both : BothBy opens opens' replies replies' o candidates lent lent' messages has has') → AfterEach P both
+  after_each (BothBy.opening c c') = end _ _ _ (BothBy.opening c c')
+  after_each (BothBy.reply m earlier c c' fair) = (after_each earlier, end _ _ _ (BothBy.reply m earlier c c' fair))
 
 pub mirror_image : MirrorImage
 mirror_image o candidates lent lent' messages has has' area table quarter styles same both =

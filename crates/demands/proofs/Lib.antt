@@ -1,2 +1,4 @@
 pub mod Demands
 pub mod Previews
+pub mod PreviewImages
+pub mod PreviewExample

@@ -1,15 +1,11 @@
 -- The demands of previews: each of their calls, and that a preview is a run over the copy. Assumes nothing.
-use Prim.Native.Nat.{ℕ, ◌*◌, ◌<◌, ◌≤◌}
-use native.Mathlib.Omega.{arith}
-use mathlib.Core.Logic.{inl, inr}
+use Prim.Native.Nat.{ℕ, ◌*◌, ◌<◌}
 use mathlib.Core.Path.{◌≡◌, refl, sym, ap, ◌∙◌, subst}
-use mathlib.Core.Bool.{Bool, true, false, not}
+use mathlib.Core.Bool.{Bool, false, not}
 use mathlib.Core.List.{List, [], ◌∷◌, map, map-append}
 use lib.Dec.{leb, eqb}
 use lib.ListN.{length}
-use borrow.Author.Tests.{leb-true, leb-false}
 use Rattle.std.specs.Prelude.{is_err}
-use Rattle.refusal.specs.declared.Refusal.TheVariants.{BadExtent}
 use Rattle.style_record.specs.Record.{style_words, items}
 use Rattle.style_record.specs.Table.{with_style}
 use Rattle.style_record.proofs.Copies.{copy_is_as_long}
@@ -26,12 +22,10 @@ use Rattle.finished.specs.Finished.{finished_verdict}
 use Rattle.reach.specs.Reach.{reached}
 use Rattle.drawing.specs.Drawing.{draw_verdict, drawn}
 use Rattle.touch.specs.Touch.{touch_width, touched}
-use Rattle.run.specs.Run.{extents_of, opened, replied}
+use Rattle.run.specs.Run.{opened, replied}
 use Rattle.run.specs.Preview.{over_copy, preview_replied}
 use Rattle.run.specs.PreviewTheorems.{loan_over, turn_over}
 use Rattle.run.specs.Theorems.{Heard, Loan, own, other, Turn, Lends}
-use Rattle.run.proofs.Refusals.{refused_reply_keeps}
-use Rattle.run.proofs.Exactly.{other_lengths_refused}
 use Rattle.run.proofs.PreviewCalls.{accepted_reply, preview_opening_counts_none, preview_reply_counts_one, opened_with, opening_extents, preview_reply_opened, same_reply}
 use Rattle.run.proofs.Preview.{preview_opening_is_the_copys, preview_reply_is_the_copys, preview_opening_refused_exactly, preview_opening_accepted_exactly, preview_reply_refused_exactly, preview_reply_accepted_exactly, refused_preview_opening_keeps, refused_preview_reply_keeps}
 use Rattle.demands.specs.Entries.{PreviewOpens, PreviewRepliesTo, TakesBy, RunBy, RefusedBy, Takes, Run, RefusedSince, PreviewTakes, Previews, PreviewRefusedSince, own_slices}
@@ -77,12 +71,12 @@ preview_reply_demands s reply surfaced node style lent c =
 
 -- ---- a reply in a preview is the one over the copy, whatever it is lent
 
-abbrev WithLength : List ℕ → Outcome → Type 0
+abbrev pub WithLength : List ℕ → Outcome → Type 0
 WithLength styles x = x.step.state.opened.extents.styles ≡ length styles
 
 module _ (node : ℕ) (style : List ℕ) (styles : List ℕ) (one : length style ≡ style_words) (there : node < items styles) where
   -- what the host has of it
-  copy_takes : (before : Outcome) (h : Heard) (loan : Loan) {has : Outcome} → WithLength styles before → PreviewTakes node style styles before h loan has
+  pub copy_takes : (before : Outcome) (h : Heard) (loan : Loan) {has : Outcome} → WithLength styles before → PreviewTakes node style styles before h loan has
       → Takes (with_style styles node style) before h (loan_over node style loan) has
   copy_takes before h own long (TakesBy.lent_own c) =
       TakesBy.lent_own (c ∙ preview_reply_is_the_copys before.step.state h.reply h.surfaced node style (own_slices styles before) one there)
@@ -91,7 +85,7 @@ module _ (node : ℕ) (style : List ℕ) (styles : List ℕ) (one : length style
       (sym (ap (λ (x : Outcome). x.step) (same_reply before.step.state h.reply h.surfaced node style styles slices one there long)) ∙ sym (ap (λ (x : Outcome). x.step) c))
       (TakesBy.lent_other {left = replied before.step.state h.reply h.surfaced (over_copy node style slices)} refl)
 
-  takes_length : (before : Outcome) (h : Heard) (loan : Loan) {has : Outcome} → WithLength styles before → PreviewTakes node style styles before h loan has
+  pub takes_length : (before : Outcome) (h : Heard) (loan : Loan) {has : Outcome} → WithLength styles before → PreviewTakes node style styles before h loan has
       → WithLength styles has
   takes_length before h own long (TakesBy.lent_own c) =
       ap (λ (x : Outcome). x.step.state.opened.extents.styles) c

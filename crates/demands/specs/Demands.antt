@@ -63,7 +63,7 @@ use Rattle.boxlist_print.specs.declared.Listing.{Listing}
 use Rattle.boxlist_print.specs.Rows.{Prints}
 use Rattle.boxlist_print.specs.Printed.{printed}
 use Rattle.boxlist_print.specs.Laws.{program_tests, IsList, RunIsListed, OnlyNineInRows}
-use Rattle.demands.specs.Entries.{Opens, RepliesTo, PreviewOpens, PreviewRepliesTo, AnyCalls, TallyKept, Takes, Run, RefusedSince, PreviewTakes, Previews, PreviewRefusedSince, BothRuns, AfterEach}
+use Rattle.demands.specs.Entries.{Opens, RepliesTo, PreviewOpens, PreviewRepliesTo, AnyCalls, TallyKept, Takes, Run, RefusedSince, PreviewTakes, Previews, PreviewRefusedSince, BothRuns, BothPreviews, AfterEach}
 
 -- ---- Demand 1. "Whoever calls an entry, with any bits in any number and slices of any length, gets its answer (in a run, a question or
 -- finish) or one of document 01's refusals 1 to 8, each exactly under its stated condition. A refusal writes no lent word and returns the
@@ -245,18 +245,27 @@ OfImages P =
 
 -- request #104: "the mirrored screens keep equal layers", in both lists (`layer` of `CandidateImage` and of `SameButX`). Request #107: both have
 -- equal tallies (`tally`), unless the opening was refused: then neither is written
+abbrev pub AreMirrored : Opening → List ℕ → Lent → Lent → Outcome → Outcome → Type 0
+AreMirrored o candidates lent lent' has has' = MirroredRuns o.area (opened o candidates lent) has has'
+
 abbrev pub MirrorImage : Type 0
-MirrorImage = OfImages (λ o candidates lent lent' has has'. MirroredRuns o.area (opened o candidates lent) has has')
+MirrorImage = OfImages AreMirrored
 
 -- request #102: so is what is told of reaching a box. At every place both are seen at the same offsets, or unseen, or refused with the same
 -- number
+abbrev pub AreToldAlike : Opening → List ℕ → Lent → Lent → Outcome → Outcome → Type 0
+AreToldAlike o candidates lent lent' has has' = (place : ℕ) → told_of place lent.styles has ≡ told_of place lent'.styles has'
+
 abbrev pub MirroredReach : Type 0
-MirroredReach = OfImages (λ o candidates lent lent' has has'. (place : ℕ) → told_of place lent.styles has ≡ told_of place lent'.styles has')
+MirroredReach = OfImages AreToldAlike
 
 -- request #104: so is the drawing order. With any words in its slice, a drawing call leaves the same in both, or is refused with the same
 -- number
+abbrev pub AreDrawnAlike : Opening → List ℕ → Lent → Lent → Outcome → Outcome → Type 0
+AreDrawnAlike o candidates lent lent' has has' = (before : List ℕ) → drawn_of before lent.styles has ≡ drawn_of before lent'.styles has'
+
 abbrev pub MirroredDrawing : Type 0
-MirroredDrawing = OfImages (λ o candidates lent lent' has has'. (before : List ℕ) → drawn_of before lent.styles has ≡ drawn_of before lent'.styles has')
+MirroredDrawing = OfImages AreDrawnAlike
 
 -- ---- Request #104, of runs (drawing_laws/specs has the law of one box, and of any one call from any state). ("Comparison with the Rust drops
 -- the word from every record" is no statement here: the differential runs beside the Rust compare all other words, and hold the layers to
@@ -353,6 +362,34 @@ PreviewIsAskedByTheTable =
     → let copy = with_style styles node style in
     (told_of place copy has ≡ told_of place styles has) × (drawn_of before copy has ≡ drawn_of before styles has) × (touched_of before copy has ≡ touched_of before styles has)
 
+-- and demand 3 holds of previews. Take a preview with one style record for a node below n (another opening is refused with 2 or 4, or for what is tested
+-- before), and the preview of the screen's mirror image with the same node and the mirror image of the style at each call. P holds of what the host has
+-- of both, after the opening and after each reply. P is told of the two copies in place of the two tables, so that the opening that it may speak of is
+-- the copy's, which is the preview's. What demand 3 supposes of the table is supposed of the copy. (That the tables themselves are mirror images is
+-- more than is needed: their own records of the node have no say.)
+abbrev pub OfPreviewImages : (Opening → List ℕ → Lent → Lent → Outcome → Outcome → Type 0) → Type 0
+OfPreviewImages P =
+    (node : ℕ) (style : List ℕ) (o : Opening) (candidates : List ℕ) (lent lent' : Lent) (messages : List Message) (has has' : Outcome)
+    → length style ≡ style_words → node < items lent.styles
+    → QuarterArea o.area → QuarterTable (with_style lent.styles node style) → QuarterCandidates candidates
+    → lent'.styles ≡ image_styles lent.styles
+    -- the image's slices are as long; but for its styles they may hold any words
+    → extents_of lent ≡ extents_of lent'
+    → (both : BothPreviews node style o candidates lent lent' messages has has')
+    → AfterEach (P o candidates (over_copy node style lent) (over_copy node (image_styles style) lent')) both
+
+-- so the two are a run and its mirror image
+abbrev pub PreviewMirrorImage : Type 0
+PreviewMirrorImage = OfPreviewImages AreMirrored
+
+-- and what is told of reaching a box, and the drawing order, are the same in both: asked with the copies, and by `PreviewIsAskedByTheTable` with the
+-- tables lent
+abbrev pub PreviewMirroredReach : Type 0
+PreviewMirroredReach = OfPreviewImages AreToldAlike
+
+abbrev pub PreviewMirroredDrawing : Type 0
+PreviewMirroredDrawing = OfPreviewImages AreDrawnAlike
+
 -- ---- Beyond the demands: under what demand 3 asks of area, styles, candidates and replies, but that the area's width may be 0, no box
 -- meets refusal 9 (pixels_laws/specs, reach_laws/specs, touch_laws/specs)
 
@@ -410,6 +447,9 @@ pub record Demanded : Type 0 where
   pub preview_is_a_run : PreviewIsARun
   pub preview_equals_straight_run : PreviewEqualsStraightRun
   pub preview_laid_out_as_asked : PreviewLaidOutAsAsked
+  pub preview_mirror_image : PreviewMirrorImage
+  pub preview_mirrored_reach : PreviewMirroredReach
+  pub preview_mirrored_drawing : PreviewMirroredDrawing
   pub preview_is_asked_by_the_table : PreviewIsAskedByTheTable
   pub quarters_have_edges : QuartersHaveEdges
   pub quarters_are_answered : QuartersAreAnswered

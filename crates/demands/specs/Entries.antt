@@ -10,7 +10,7 @@ use Rattle.run.specs.Call.{Lent, Outcome, lent, outcome}
 use Rattle.run.specs.Run.{opened, replied}
 use Rattle.run.specs.Preview.{preview_opened, preview_replied}
 use Rattle.run.specs.Theorems.{one_if_asked, one_if_accepted, asked_for, Heard, Loan, own, other, Turn, Lends}
-use Rattle.mirror_run.specs.Image.{image_opening, image_candidates}
+use Rattle.mirror_run.specs.Image.{image_opening, image_styles, image_candidates}
 use Rattle.mirror_run.specs.Runs.{Message, Fair}
 
 -- ---- A call, and what the host has after it: what was returned, and the words of the slices that it lent.
@@ -138,26 +138,43 @@ abbrev pub PreviewRefusedSince : ℕ → List ℕ → List ℕ → Outcome → O
 PreviewRefusedSince node style = RefusedBy (PreviewRepliesTo node style)
 
 -- ---- A run and its mirror image, side by side: each message is one reply, given to both. What is asked of it is `Fair`
--- (mirror_run/specs/Runs.antt), by the state that came with it and by what was answered to it.
+-- (mirror_run/specs/Runs.antt), by the state that came with it and by what was answered to it. `opens` and `replies` are the calls of the one, `opens'`
+-- and `replies'` those of its image
 
-pub data BothRuns (o : Opening) (candidates : List ℕ) (lent lent' : Lent) : List Message → Outcome → Outcome → Type 0 where
+pub data BothBy
+    (opens opens' : Opening → List ℕ → Lent → Outcome → Type 0)
+    (replies replies' : State → Reply → List ℕ → Lent → Outcome → Type 0)
+    (o : Opening)
+    (candidates : List ℕ)
+    (lent lent' : Lent) : List Message → Outcome → Outcome → Type 0 where
   opening :
       {has has' : Outcome}
-      → Opens o candidates lent has
-      → Opens (image_opening o) (image_candidates o.area candidates) lent' has'
-      → BothRuns o candidates lent lent' [] has has'
+      → opens o candidates lent has
+      → opens' (image_opening o) (image_candidates o.area candidates) lent' has'
+      → BothBy opens opens' replies replies' o candidates lent lent' [] has has'
   reply :
       {messages : List Message} {before before' has has' : Outcome} (m : Message)
-      → BothRuns o candidates lent lent' messages before before'
-      → Takes lent.styles before m.turn.heard m.turn.loan has
-      → Takes lent'.styles before' m.image.heard m.image.loan has'
+      → BothBy opens opens' replies replies' o candidates lent lent' messages before before'
+      → TakesBy replies lent.styles before m.turn.heard m.turn.loan has
+      → TakesBy replies' lent'.styles before' m.image.heard m.image.loan has'
       → Fair before.step.state has.step.answer m
-      → BothRuns o candidates lent lent' (messages ++ (m ∷ [])) has has'
+      → BothBy opens opens' replies replies' o candidates lent lent' (messages ++ (m ∷ [])) has has'
+
+-- by `open` and `reply`
+abbrev pub BothRuns : Opening → List ℕ → Lent → Lent → List Message → Outcome → Outcome → Type 0
+BothRuns = BothBy Opens Opens RepliesTo RepliesTo
+
+-- previews: at each call the image is given the same node, and the mirror image of the style
+abbrev pub BothPreviews : ℕ → List ℕ → Opening → List ℕ → Lent → Lent → List Message → Outcome → Outcome → Type 0
+BothPreviews node style =
+    BothBy (PreviewOpens node style) (PreviewOpens node (image_styles style)) (PreviewRepliesTo node style) (PreviewRepliesTo node (image_styles style))
 
 -- P holds of what the host has of both after the opening and after each reply
-abbrev pub AfterEach : {o : Opening} {candidates : List ℕ} {lent lent' : Lent} {messages : List Message} {has has' : Outcome}
+abbrev pub AfterEach :
+    {opens opens' : Opening → List ℕ → Lent → Outcome → Type 0} {replies replies' : State → Reply → List ℕ → Lent → Outcome → Type 0}
+    {o : Opening} {candidates : List ℕ} {lent lent' : Lent} {messages : List Message} {has has' : Outcome}
     → (Outcome → Outcome → Type 0)
-    → BothRuns o candidates lent lent' messages has has'
+    → BothBy opens opens' replies replies' o candidates lent lent' messages has has'
     → Type 0
-AfterEach P (BothRuns.opening {has = has} {has' = has'} c c') = P has has'
-AfterEach P (BothRuns.reply {has = has} {has' = has'} m earlier c c' fair) = AfterEach P earlier × P has has'
+AfterEach P (BothBy.opening {has = has} {has' = has'} c c') = P has has'
+AfterEach P (BothBy.reply {has = has} {has' = has'} m earlier c c' fair) = AfterEach P earlier × P has has'
