@@ -7,7 +7,7 @@ use mathlib.Core.Logic.{◌↔◌, ◌≢◌, inl, inr}
 use mathlib.Core.Path.{◌≡◌, refl, sym, ap, subst, ◌∙◌}
 use lib.Dec.{eqb, leb}
 use lib.IntN.{ℤ}
-use lib.ListN.{length, replicate}
+use lib.ListN.{length}
 use borrow.Author.Tests.{ne_eqb, eq-eqb}
 use Rattle.reach.specs.declared.Offsets.{Offsets}
 use Rattle.std.specs.Prelude.{Result, is_err, Some, None, Ok, Err, IsOk, Option, sum, ⊤, Float}
@@ -29,8 +29,8 @@ use Rattle.oof_box.specs.declared.question.Question.TheVariants.{MeasureBoth, Me
 use Rattle.oof_box.specs.declared.question.Reply.{Reply}
 use Rattle.run.specs.Call.{Slices, Lent, slices_of, Outcome, outcome}
 use Rattle.run.specs.Conditions.{item_words, FirstIs, NoneHolds, opening_tests, reply_tests, preview_opening_tests, preview_reply_tests}
-use Rattle.run.specs.Preview.{over_copy, preview_opened, preview_replied}
-use Rattle.run.specs.Run.{closed, refusing_opening, charged, box_at_hand, begun, opened, replied}
+use Rattle.run.specs.Preview.{preview_opened, preview_replied}
+use Rattle.run.specs.Run.{closed, refusing_opening, begun, opened, replied}
 use Rattle.run.specs.Straight.{Course, ended, asks}
 use Rattle.run.specs.PreviewTheorems.{loan_over, turn_over}
 use Rattle.run.specs.Theorems.{one_if_asked, Heard, Loan, own, other, Turn, turned, next, next_with, AllLend, Stands, said_after, open_in, called, answered_in, course_of, laid_count, AddsUp}
