@@ -23,6 +23,9 @@ use std::hint::black_box;
 /// Of the tables that grow
 const ITEMS: [usize; 4] = [1, 32, 128, 1024];
 
+/// How many styles a box is placed with in turn. A processor that foretells branches learns few of them by heart
+const IN_TURN: [usize; 6] = [1, 4, 16, 64, 256, 4096];
+
 /// CPU time of this thread, in seconds
 fn now() -> f64 {
     extern "C" {
@@ -381,7 +384,10 @@ fn main() {
     let rounds = args.first().map_or(101, |s| s.parse().expect("rounds"));
     println!("| a run | questions a box | the Rust | the library | ratio |");
     println!("|---|---|---|---|---|");
-    side_by_side("1 box of 1 item (64 styles in turn)", rounds, &[(1, 1); 64]);
+    for styles in IN_TURN {
+        let name = format!("1 box of 1 item ({styles} style{} in turn)", if styles == 1 { "" } else { "s" });
+        side_by_side(&name, rounds, &vec![(1, 1); styles]);
+    }
     side_by_side("4 boxes of 4 items (64 tables in turn)", rounds, &[(4, 4); 64]);
     side_by_side("100 boxes of 100 items", rounds, &[(100, 100)]);
     side_by_side("4,096 boxes of 1,024 items", rounds.min(5), &[(1024, 4096)]);
