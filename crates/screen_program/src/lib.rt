@@ -3,7 +3,7 @@
 // input gives a file's bytes, and standard output takes what is written, is to be read.
 #![tactic(auto)]
 
-ghost use Rattle.std.specs.Prelude.{◌≡◌, ◌+◌, ◌≤◌, length, take, OnOk, IfOk, IfErr, IfSome};
+ghost use Rattle.std.specs.Prelude.{◌≡◌, ◌+◌, ◌≤◌, length, take, replicate, OnOk, IfOk, IfErr, IfSome};
 ghost use Rattle.std.specs.Io.KnownBytes.{Appends, Keeps};
 ghost use Rattle.std.specs.Process.{exit_status};
 ghost use Rattle.screen_fields.specs.Format.{MAX_BYTES};
@@ -21,7 +21,8 @@ pub const ROOM: usize = format::MAX_BYTES + 1;
 
 // Zeros to read a screen into.
 pub fn room() -> [u8; ROOM]
-    ensures { MAX_BYTES + 1 ≡ length result }
+    ensures zeros { result ≡ replicate (MAX_BYTES + 1) 0 }
+    ensures as_long { MAX_BYTES + 1 ≡ length result }
 {
     [0; ROOM]
 }
@@ -101,7 +102,19 @@ pub fn run<R: Read, W: Write>(
     print_list(listing, text, output).map_err(Failure::NotWritten)
 }
 
-// The same, with a failure told to `errors`, behind the program's name. The status is 0 only where all was printed.
+// The line that tells a failure, behind the program's name: one write, so that the lines of programs that share a standard error stay whole. Into
+// 512 bytes, as at `Reason`; a line that is longer, by a longer name, goes piece by piece.
+fn tell<E: Write>(name: &str, failure: &Failure, errors: &mut E) -> io::Result<()> {
+    let mut line = Cursor::new([0u8; 512]);
+    if writeln!(line, "{name}: {failure}").is_err() {
+        return writeln!(errors, "{name}: {failure}");
+    }
+    let end = line.position() as usize;
+    let bytes = line.into_inner();
+    errors.write_all(bytes.get(..end).unwrap_or(&bytes))
+}
+
+// The same, with a failure told to `errors`. The status is 0 only where all was printed.
 pub fn run_named<R: Read, W: Write, E: Write>(
     name: &str,
     listing: Listing,
@@ -114,7 +127,7 @@ pub fn run_named<R: Read, W: Write, E: Write>(
     match run(listing, input, output) {
         Ok(()) => ExitCode::SUCCESS,
         Err(failure) => {
-            let _ = writeln!(errors, "{name}: {failure}");
+            let _ = tell(name, &failure, errors);
             ExitCode::FAILURE
         }
     }
