@@ -24,7 +24,9 @@ fn is_unfinished(s: &State, lent: &Slices) -> bool
     s.progress.is_some() || lent::are_above_lists(lent, s.counts.filled)
 }
 
-// Tests 2, 6, 4, in that order. `other` is what the part itself calls a bad extent.
+// Tests 2, 6, 4, in that order. `other` is what the part itself calls a bad extent. Inlined in each part, so that of a C state's words and of the
+// slices only those go over the stack that the part reads.
+#[inline(always)]
 pub fn check_finished(s: &State, other: bool, lent: &Slices) -> Result<(), Refusal>
     ensures { result ≡ finished_verdict s.now lent.now other }
 {

@@ -84,7 +84,9 @@ pub fn are_accepted(numbers: &[f32]) -> bool
 // The pixel edges of a box that stands as `layout` says, its location including the area's offset, as a run writes it. They are counted
 // from the area's left and top edge, each within 3,750,000 of it. The box covers the pixels from `left` up to but not including `right`,
 // and so from `top` to `bottom`: none where these are equal, or turned round by a negative size. Refused, with 9, where x, y, width,
-// height or a coordinate of the offset is a NaN, an infinity, no whole eighth, or above 9,999,999 eighths in size.
+// height or a coordinate of the offset is a NaN, an infinity, no whole eighth, or above 9,999,999 eighths in size. Inlined, so that neither
+// layout nor edges go over the stack.
+#[inline(always)]
 #[tactic(auto, unfolding(crate::specs::Pixels::pixel_edges, crate::specs::Pixels::edges_of))]
 pub fn pixel_edges(layout: Layout, offset: Point<f32>) -> Result<Rect<i32>, Refusal>
     ensures { result ≡ pixel_edges layout offset }

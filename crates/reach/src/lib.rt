@@ -71,6 +71,8 @@ impl Along {
 
     // The least offset, of 0 to the last one, at which the box and the area share a stretch. The area's far end has to come past the box's start:
     // that is the first offset that can do. None does where a size isn't positive, or the box ends at or before the start edge.
+    // Inlined for both axes, so that none of them goes over the stack.
+    #[inline(always)]
     fn least(self) -> Option<u32>
         ensures { result ≡ least (axis_of self) }
     {

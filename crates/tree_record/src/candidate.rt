@@ -42,6 +42,8 @@ fn is_good(words: &[u32; CANDIDATE_WORDS], n: usize) -> bool
 
 // Whether the first `count` records are there and keep to their rules.
 // The count is a lent state's, and may be above the list: so it is handed in beside the list, and tested here.
+// A call of its own: among what else an entry holds its walk takes a quarter more time.
+#[inline(never)]
 #[tactic(auto, using(records::proofs::Laws::good_by_records))]
 pub fn are_good(words: &[u32], count: usize, n: usize) -> bool
     ensures { result ≡ good_records (candidate_kinds n) words.now count }
