@@ -93,30 +93,43 @@ fn report(rt: &impl Print, table: &[u32]) -> io::Result<()> {
     }
 }
 
-// What the check finds in the table with some words replaced: the place of each, and its word.
-fn replaced(rt: &impl Print, table: &[u32; TABLE], words: &[(usize, u32)]) -> io::Result<()> {
-    let mut changed = *table;
-    for (place, word) in words {
-        if let Some(there) = changed.get_mut(*place) {
-            *there = *word;
+// Exchanges words with those of the table: the place of each, and its word.
+fn exchange(table: &mut [u32], words: &mut [(usize, u32)]) {
+    for (place, word) in words.iter_mut() {
+        if let Some(there) = table.get_mut(*place) {
+            std::mem::swap(there, word);
         }
     }
-    report(rt, &changed)
+}
+
+// What the check finds in the table with some words replaced, each at a place of its own. They are put back: a copy of the table takes longer than
+// its check.
+fn replaced(rt: &impl Print, table: &mut [u32], words: &mut [(usize, u32)]) -> io::Result<()> {
+    exchange(table, words);
+    let told = report(rt, table);
+    exchange(table, words);
+    told
 }
 
 // Word k by every code, and the item's word `other` by a code of its own. The item goes by k and the code's number.
-fn row(rt: &impl Print, table: &[u32; TABLE], k: usize, other: usize, code: u32) -> io::Result<()>
+fn row(
+    rt: &impl Print,
+    table: &mut [u32; TABLE],
+    k: usize,
+    other: usize,
+    code: u32,
+) -> io::Result<()>
     requires { (k < style_words) × (other < style_words) }
 {
     for (j, word) in CODES.iter().enumerate() {
         let at = STYLE_WORDS * ((CODE_COUNT * k + j) * 37 % ITEMS);
-        replaced(rt, table, &[(at + other, code), (at + k, *word)])?;
+        replaced(rt, table, &mut [(at + other, code), (at + k, *word)])?;
     }
     println!(rt)
 }
 
 // Every word by every code. The other word is a float, which no code breaks.
-fn rows(rt: &impl Print, table: &[u32; TABLE]) -> io::Result<()> {
+fn rows(rt: &impl Print, table: &mut [u32; TABLE]) -> io::Result<()> {
     for k in 0..STYLE_WORDS {
         row(rt, table, k, INSET_VALUE, 4290772993)?;
     }
@@ -124,20 +137,20 @@ fn rows(rt: &impl Print, table: &[u32; TABLE]) -> io::Result<()> {
 }
 
 // Safeties under an absent keyword, then under a keyword that is none.
-fn safeties(rt: &impl Print, table: &[u32; TABLE]) -> io::Result<()> {
+fn safeties(rt: &impl Print, table: &mut [u32; TABLE]) -> io::Result<()> {
     row(rt, table, words::JUSTIFY_SAFETY, words::JUSTIFY, 10)?;
     row(rt, table, words::ALIGN_SAFETY, words::ALIGN, 10)?;
     row(rt, table, words::JUSTIFY_SAFETY, words::JUSTIFY, 11)
 }
 
 // Two words of one item, and of two items: the first in record order.
-fn pairs(rt: &impl Print, table: &[u32; TABLE]) -> io::Result<()> {
+fn pairs(rt: &impl Print, table: &mut [u32; TABLE]) -> io::Result<()> {
     row(rt, table, PADDING_TOP, words::CONTAIN, 256)?;
     row(rt, table, words::CONTAIN, PADDING_TOP, 3)?;
     let late = 900 * STYLE_WORDS + INSET_RIGHT;
     let early = 30 * STYLE_WORDS + words::CONTAIN;
-    replaced(rt, table, &[(late, 0), (early, 256)])?;
-    replaced(rt, table, &[(early, 256), (late, 0)])?;
+    replaced(rt, table, &mut [(late, 0), (early, 256)])?;
+    replaced(rt, table, &mut [(early, 256), (late, 0)])?;
     println!(rt)
 }
 
@@ -154,22 +167,26 @@ fn main(rt: HostRuntime) -> io::Result<()> {
     fill(&mut table);
     report(&rt, &table)?;
     println!(rt)?;
-    rows(&rt, &table)?;
-    safeties(&rt, &table)?;
-    pairs(&rt, &table)?;
+    rows(&rt, &mut table)?;
+    safeties(&rt, &mut table)?;
+    pairs(&rt, &mut table)?;
     // item and word, not a place in the table; a safety behind keyword 9; a NaN for a ratio; the first item before the first word
-    replaced(&rt, &table, &[(STYLE_WORDS, 2)])?;
+    replaced(&rt, &mut table, &mut [(STYLE_WORDS, 2)])?;
     replaced(
         &rt,
-        &table,
-        &[(words::JUSTIFY, 9), (words::JUSTIFY_SAFETY, 3)],
+        &mut table,
+        &mut [(words::JUSTIFY, 9), (words::JUSTIFY_SAFETY, 3)],
     )?;
     replaced(
         &rt,
-        &table,
-        &[(words::RATIO, 2143289344), (words::RATIO_PRESENT, 1)],
+        &mut table,
+        &mut [(words::RATIO, 2143289344), (words::RATIO_PRESENT, 1)],
     )?;
-    replaced(&rt, &table, &[(STYLE_WORDS, 2), (words::CONTAIN, 256)])?;
+    replaced(
+        &rt,
+        &mut table,
+        &mut [(STYLE_WORDS, 2), (words::CONTAIN, 256)],
+    )?;
     println!(rt)?;
     // a trailing part of a record is not looked at
     let before = table[STYLE_WORDS];
