@@ -31,6 +31,25 @@ counted_from l origin = l.start ⊖ origin to l.end ⊖ origin
 abbrev pub both_ends_present : Line (Option Float) → Bool
 both_ends_present l = is_some l.start && is_some l.end
 
+-- ---- each end or side by a function
+
+abbrev pub map_line : {A B : Type 0} → (A → B) → Line A → Line B
+map_line g l = record { start = g l.start; end = g l.end }
+
+abbrev pub map_size : {A B : Type 0} → (A → B) → Size A → Size B
+map_size g s = record { width = g s.width; height = g s.height }
+
+abbrev pub map_rect : {A B : Type 0} → (A → B) → Rect A → Rect B
+map_rect g r = record { left = g r.left; right = g r.right; top = g r.top; bottom = g r.bottom }
+
+-- width with width, height with height
+abbrev pub zip_sizes : {A B C : Type 0} → (A → B → C) → Size A → Size B → Size C
+zip_sizes g s t = record { width = g s.width t.width; height = g s.height t.height }
+
+-- left and right each with the width, top and bottom each with the height
+abbrev pub zip_sides : {A B C : Type 0} → (A → B → C) → Rect A → Size B → Rect C
+zip_sides g r s = record { left = g r.left s.width; right = g r.right s.width; top = g r.top s.height; bottom = g r.bottom s.height }
+
 -- ---- `ZERO` and `NONE` of the Rust
 
 abbrev pub zero_point : Point Float

@@ -2,7 +2,7 @@
 #![tactic(auto, unfolding(crate::specs::Geometry::rect_or_zero, crate::specs::Geometry::sum_x, crate::specs::Geometry::sum_y, crate::specs::Geometry::sums, crate::specs::Geometry::rect_sum, crate::specs::Geometry::union_of, crate::specs::Geometry::smaller_size, crate::specs::Geometry::definite, crate::specs::Geometry::both_present, crate::specs::Geometry::first_size, crate::specs::Geometry::filled_size, crate::specs::Geometry::added_size, crate::specs::Geometry::raised_size, crate::specs::Geometry::completed, crate::specs::Geometry::with_ratio, util::specs::Maybe::map_add, util::specs::Maybe::map_larger))]
 
 ghost use Rattle.std.specs.Prelude.{◌≡◌, ◌&&◌, is_some};
-ghost use Rattle.geometry.specs.Geometry.{moved_by, counted_from, both_ends_present, line_x, line_y, rect_of, rect_or_zero, sum_x, sum_y, sums, rect_sum, union_of, smaller_size, both_present, first_size, filled_size, definite, added_size, raised_size, clamped_each, with_ratio};
+ghost use Rattle.geometry.specs.Geometry.{map_line, map_size, map_rect, zip_sizes, zip_sides, moved_by, counted_from, both_ends_present, line_x, line_y, rect_of, rect_or_zero, sum_x, sum_y, sums, rect_sum, union_of, smaller_size, both_present, first_size, filled_size, definite, added_size, raised_size, clamped_each, with_ratio};
 
 use std::ops::Add;
 use util::math::MaybeMath;
@@ -37,7 +37,8 @@ pub struct Rect<T> {
 impl<T: Copy> Line<T> {
     pub fn map<R, F: Fn(T) -> R>(self, f: F) -> Line<R>
         requires { F.pre f self.start × F.pre f self.end }
-        ensures { F.post f self.start result.start × F.post f self.end result.end }
+        ensures each { F.post f self.start result.start × F.post f self.end result.end }
+        ensures value { (g : T → R) → ((x : T) (r : R) → F.post f x r → r ≡ g x) → result ≡ map_line g self }
     {
         Line {
             start: f(self.start),
@@ -106,7 +107,8 @@ impl<T: Copy> Rect<T> {
 
     pub fn map<R, F: Fn(T) -> R>(self, f: F) -> Rect<R>
         requires { F.pre f self.left × F.pre f self.right × F.pre f self.top × F.pre f self.bottom }
-        ensures { F.post f self.left result.left × F.post f self.right result.right × F.post f self.top result.top × F.post f self.bottom result.bottom }
+        ensures each { F.post f self.left result.left × F.post f self.right result.right × F.post f self.top result.top × F.post f self.bottom result.bottom }
+        ensures value { (g : T → R) → ((x : T) (r : R) → F.post f x r → r ≡ g x) → result ≡ map_rect g self }
     {
         Rect {
             left: f(self.left),
@@ -119,7 +121,8 @@ impl<T: Copy> Rect<T> {
     // Left and right each with the width, top and bottom each with the height.
     pub fn zip_size<U: Copy, R, F: Fn(T, U) -> R>(self, size: Size<U>, f: F) -> Rect<R>
         requires { F.pre f self.left size.width × F.pre f self.right size.width × F.pre f self.top size.height × F.pre f self.bottom size.height }
-        ensures { F.post f self.left size.width result.left × F.post f self.right size.width result.right × F.post f self.top size.height result.top × F.post f self.bottom size.height result.bottom }
+        ensures each { F.post f self.left size.width result.left × F.post f self.right size.width result.right × F.post f self.top size.height result.top × F.post f self.bottom size.height result.bottom }
+        ensures value { (g : T → U → R) → ((x : T) (y : U) (r : R) → F.post f x y r → r ≡ g x y) → result ≡ zip_sides g self size }
     {
         Rect {
             left: f(self.left, size.width),
@@ -204,7 +207,8 @@ impl Rect<Option<f32>> {
 impl<T: Copy> Size<T> {
     pub fn map<R, F: Fn(T) -> R>(self, f: F) -> Size<R>
         requires { F.pre f self.width × F.pre f self.height }
-        ensures { F.post f self.width result.width × F.post f self.height result.height }
+        ensures each { F.post f self.width result.width × F.post f self.height result.height }
+        ensures value { (g : T → R) → ((x : T) (r : R) → F.post f x r → r ≡ g x) → result ≡ map_size g self }
     {
         Size {
             width: f(self.width),
@@ -214,7 +218,8 @@ impl<T: Copy> Size<T> {
 
     pub fn zip_map<U: Copy, R, F: Fn(T, U) -> R>(self, other: Size<U>, f: F) -> Size<R>
         requires { F.pre f self.width other.width × F.pre f self.height other.height }
-        ensures { F.post f self.width other.width result.width × F.post f self.height other.height result.height }
+        ensures each { F.post f self.width other.width result.width × F.post f self.height other.height result.height }
+        ensures value { (g : T → U → R) → ((x : T) (y : U) (r : R) → F.post f x y r → r ≡ g x y) → result ≡ zip_sizes g self other }
     {
         Size {
             width: f(self.width, other.width),
