@@ -3,7 +3,7 @@
 use borrow.Author.Rules.{rules}
 use Rattle.std.specs.Prelude.{Float}
 use mathlib.Core.Path.{◌≡◌, sym, ap, ap₂, subst}
-use mathlib.Core.Bool.{and_comm, Bool, ◌&&◌}
+use mathlib.Core.Bool.{and_comm, Bool, false, ◌&&◌}
 use Prim.Native.Nat.{ℕ, ◌+◌, ◌*◌, ◌<◌}
 use native.Mathlib.Omega.{arith}
 use lib.Ieee.{Float}
@@ -11,7 +11,7 @@ use Rattle.geometry.specs.Geometry.{span}
 use Rattle.geometry.specs.declared.Line.{Line}
 use Rattle.oof_axis.specs.declared.OofAlignment.{OofAlignment}
 use Rattle.oof_axis.specs.declared.OofAxis.{OofAxis}
-use Rattle.oof_axis.specs.Axis.{block, both_insets, stretch_fit, stretching, stretches, placement}
+use Rattle.oof_axis.specs.Axis.{block, both_insets, stretch_fit, stretching, stretches, is_stretch, placement}
 use Rattle.util_exact.specs.Integer.{N, add_n}
 use Rattle.util_exact.proofs.Integers.{Multiple, sub_n, add_mult, even_of}
 use Rattle.util_exact.proofs.Exact.{Exact, any}
@@ -88,6 +88,11 @@ module _ (L A : ℕ) (room : 10 * L + 6 * A < 16777216) (a a' : OofAxis) (h : Fa
   pub stretches_shared : (plain : Bool) → stretches a plain ≡ stretches a' plain
   unfolding stretches
   stretches_shared plain = ap₂ ◌&&◌ insets_shared (ap (λ (al : OofAlignment). stretching al plain) alignment_shared)
+
+  -- whether it is an explicit stretch is shared
+  pub is_stretch_shared : is_stretch a ≡ is_stretch a'
+  unfolding is_stretch
+  is_stretch_shared = ap (λ (al : OofAlignment). stretching al false) alignment_shared
 
 module _ (L A S : ℕ) (room : 10 * L + 6 * A + S < 16777216) (a a' : OofAxis) (h : Facing L A a a') (size size' : Float) (s : Same 4 S size size') where
   abbrev margins_left : LineN

@@ -3,15 +3,17 @@
 use Rattle.std.specs.Prelude.{Float, Option}
 use mathlib.Core.Path.{◌≡◌, refl}
 use mathlib.Core.Bool.{not}
-use Prim.Native.Nat.{ℕ}
+use Prim.Native.Nat.{ℕ, ◌+◌, ◌*◌, ◌<◌}
 use native.Mathlib.Omega.{arith}
 use lib.Ieee.{Float}
-use Rattle.util.specs.Number.{0f}
+use Rattle.util.specs.Number.{◌⊕◌, ◌⊖◌, ◌⊗◌, 0f, 2f}
 use Rattle.oof_axis.specs.declared.OofAxis.{OofAxis}
 use Rattle.util_exact.specs.Integer.{N, zero_n}
 use Rattle.util_exact.specs.Value.{◌≐◌}
 use Rattle.util_exact.proofs.Integers.{sub_n}
-use Rattle.util_exact.proofs.Exact.{Exact, zero_exact}
+use Rattle.util_exact.proofs.Exact.{Exact, recast, reach, tighten, finer, zero_exact}
+use Rattle.util_exact.proofs.Sum.{add_exact, sub_exact}
+use Rattle.util_exact.proofs.Double.{dbl_exact}
 use Rattle.util_exact.proofs.Compare.{same_number}
 use Rattle.util_exact.proofs.Same.{Same, MaybeSame, given, absent, present_same}
 use Rattle.util_exact.proofs.Quarters.{MaybeExact}
@@ -92,4 +94,18 @@ opposite_faces L A a a' h nz =
       shapes =
           rw (h.keyword, h.place_safety, h.alignment, h.safety, h.inline, h.reversed, h.scrolls, ← present_same h.inset_start, ← present_same h.inset_end, ← present_same h.margin_start, ← present_same h.margin_end) refl;
       wide = not_zero h.size.l nz;
+    }
+
+-- ---- a candidate's static area: reflected as document 01 has it, then the offset taken off
+
+-- x less the offset, and 2 × offset + width - x less the offset, make the width
+pub reflected_across : {b c : ℕ} {off w x : Float} {o ω a : N} → Exact 4 b off o → Exact 4 c w ω → Exact 4 b x a → 4 * b + c < 16777216
+    → Across (2 * b + c) ω (x ⊖ off) (2f ⊗ off ⊕ w ⊖ x ⊖ off)
+reflected_across {b} {c} {o = o} {ω = ω} {a = a} ho hw hx room =
+    record {
+      at = sub_n a o;
+      l = tighten (2 * b + c) (omega (arith, reach ho, reach hx)) (sub_exact hx ho (omega arith));
+      r =
+          tighten (2 * b + c) (omega (arith, reach ho, reach hw, reach hx))
+          (recast (omega arith) (sub_exact (sub_exact (add_exact (finer 2 {g = 4} (dbl_exact ho (omega arith))) hw (omega arith)) hx (omega arith)) ho (omega arith)));
     }

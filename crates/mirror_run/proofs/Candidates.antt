@@ -74,6 +74,11 @@ module _ (area : OofPositioningArea) (r r' : List ℕ) (words : (k : ℕ) → k 
   unfolding candidate_of image_candidate
   decoded_position = rw (words 2 (lit< tt)) refl
 
+  -- an image is of the same node, whatever its edges' codes
+  pub decoded_node : (candidate_of r).node ≡ (candidate_of r').node
+  unfolding candidate_of image_candidate
+  decoded_node = rw (words 0 (lit< tt)) refl
+
 module _ (area : OofPositioningArea) (ws : List ℕ) (i : ℕ) (h : i < length ws / candidate_width) where
   pub record_words_lem : (k : ℕ) → k < candidate_width
       → get_or (record_at candidate_width (image_candidates area ws) i) k 0 ≡ image_candidate area (λ j. get_or (record_at candidate_width ws i) j 0) k

@@ -1,9 +1,11 @@
 -- Division of a whole number by 8, and the value of a count of eighths. Assumes nothing.
-use Rattle.std.proofs.Common.{◌≡◌, ℕ, zero, suc, ◌+◌, ◌*◌, ◌/◌, ◌%◌, ◌^◌, ◌<◌, ◌≤◌, Bool, true, false, cond, not, ◌&&◌, ◌||◌, eqb, ltb, leb, ℤ, pos, sym, refl, ap, ◌∙◌, le_trans, lt_of_lt_of_le, lt_of_le_of_lt, zero-lt-suc, mul_assoc, mul_comm, mul-pos, div-add-mod', zero-mul, mul-one, mul_right_comm, mul-div_cancel, arith, lit<, lit≤, shl_lt, ltb-false, ltb-true, le-ltb, lt-ltb, eq-eqb, eqb-true, le-leb, leb-true, None}
+use borrow.Author.Rules.{rules}
+use Rattle.std.proofs.Common.{◌≡◌, ℕ, zero, suc, ◌+◌, ◌*◌, ◌/◌, ◌%◌, ◌^◌, ◌<◌, ◌≤◌, Bool, true, false, cond, not, ◌&&◌, ◌||◌, eqb, ltb, leb, ℤ, pos, sym, refl, ap, ◌∙◌, le_trans, lt_of_lt_of_le, lt_of_le_of_lt, mul-le-mul_right, zero-lt-suc, mul_assoc, mul_comm, mul-pos, div-add-mod', zero-mul, mul-one, mul_right_comm, mul-div_cancel, arith, lit<, lit≤, shl_lt, ltb-false, ltb-true, le-ltb, lt-ltb, eq-eqb, eqb-true, le-leb, leb-true, None}
 use native.Mathlib.Nat.{eq_of_mul-eq-mul_right, mul-mod_left}
 use mathlib.Core.Bool.{beq, or-true, false≢true}
 use Rattle.std.proofs.Math.Arith.{le-zero}
 use Rattle.std.proofs.lemmas.Bool.{and_parts}
+use Rattle.std.proofs.lemmas.Bool.Decides.{nat_tests}
 use lib.Ieee.{Float, nan, inf, fin, up, down, round, div, mul, neg, lt, eq, of_int, to_unsigned, of_bits, binary32}
 use lib.Ieee.Exact.{HasValue, round_exact}
 use lib.Ieee.Fits.{down_pos}
@@ -171,6 +173,16 @@ guess x = mul binary32 (magnitude x) (of_bits binary32 1090519040)
 guess_is : (x : Float) (q : ℕ) → q ≤ 9999999 → Mag x q → Guess (guess x) q
 guess_is x q h v = rw eight_is (record { sign = false; plain = refl; value = times8 (magnitude x) false q h (sized x q v) })
 
+-- over -1
+pub above : (y : Float) (q : ℕ) → Guess y q → lt (fin true 1 (pos 0)) y ≡ true
+unfolding lt
+above y q g = search rules
+
+-- below 2 ^ 64
+pub under : (y : Float) (q : ℕ) → q ≤ 9999999 → Guess y q → lt y (fin false 1 (pos 64)) ≡ true
+unfolding lt
+under y q h g = grind (arith, nat_tests, down_pos, mul-le-mul_right)
+
 -- cut to q
 pub cut : (y : Float) (q : ℕ) → q ≤ 9999999 → Guess y q → to_unsigned 64 y ≡ q
 unfolding to_unsigned
@@ -211,6 +223,10 @@ tried x q h v = level_of (eighths (lt x (of_bits binary32 0)) q) x (lt x (of_bit
 -- ---- each way to no count
 
 module _ (x : Float) where
+  -- the guess is -1 or less, 2 ^ 64 or more, or a NaN
+  pub uncounted_uncut : (lt (fin true 1 (pos 0)) (guess x) && lt (guess x) (fin false 1 (pos 64))) ≡ false → None ≡ count_of x
+  uncounted_uncut e = uncounted x (λ q v h. let g = guess_is x q h v in false≢true (sym (rw (above (guess x) q g, under (guess x) q h g) at e)))
+
   pub uncounted_large : 9999999 < to_unsigned 64 (guess x) → None ≡ count_of x
   uncounted_large e = uncounted x (λ q v h. let k = cut (guess x) q h (guess_is x q h v) in omega arith)
 

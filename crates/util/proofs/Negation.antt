@@ -1,7 +1,8 @@
 -- The negative of a float: order is turned round. Assumes nothing.
+use borrow.Author.Rules.{rules}
 use Rattle.std.proofs.Common.{◌≡◌, ℕ, zero, suc, ◌+◌, ◌*◌, Bool, true, false, not, ltb, refl, ap, ◌∙◌, arith}
 use Rattle.std.proofs.Math.Bool.{and_comm}
-use lib.Ieee.{Float, nan, inf, fin, up, down, lt, le, neg, is_nan, below}
+use lib.Ieee.{Float, nan, inf, fin, up, down, lt, le, neg, is_nan, below, fits, binary32}
 use lib.Dec.{not_T}
 use lib.Ieee.Bits.{is_true, is_false}
 use Rattle.util.proofs.Order.{le_numbers, not_lt_le, not_above_lem}
@@ -55,6 +56,11 @@ neg_neg (inf true) = refl
 neg_neg (inf false) = refl
 neg_neg (fin true m e) = refl
 neg_neg (fin false m e) = refl
+
+-- an f32 holds the negative of what it holds, and of nothing else
+pub neg_fits : (x : Float) → fits binary32 (neg x) ≡ fits binary32 x
+unfolding fits neg
+neg_fits x = search rules
 
 pub neg_before : (a b : Float) → before (neg a) (neg b) ≡ before b a
 unfolding before

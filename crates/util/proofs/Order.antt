@@ -1,5 +1,6 @@
 -- The order of floats, and that two floats, neither before the other, are one. Assumes nothing.
-use Rattle.std.proofs.Common.{◌≡◌, ℕ, zero, suc, ◌*◌, ◌^◌, ◌<◌, Bool, true, false, ◌&&◌, ◌||◌, T, eqb, ℤ, pos, negsuc, sym, refl, ap, ◌∙◌, zero-lt-suc, mul-pos, one-mul, zero-mul, mul-one, arith, eqb→eq, ne_eqb, eqb-true, cond, subst, inl, inr}
+use Rattle.std.proofs.Common.{◌≡◌, ℕ, zero, suc, ◌*◌, ◌^◌, ◌<◌, ◌≤◌, Bool, true, false, ◌&&◌, ◌||◌, T, eqb, ℤ, pos, negsuc, sym, refl, ap, ◌∙◌, zero-lt-suc, mul-pos, one-mul, zero-mul, mul-one, arith, eqb→eq, ne_eqb, eqb-true, cond, subst, inl, inr}
+use borrow.Author.Rules.{rules}
 use mathlib.Core.Bool.{beq, and-false}
 use lib.Pow.{pow-lt}
 use lib.Dec.{not_T}
@@ -40,6 +41,21 @@ lt_le x y h = is_true _ (float.le_of_lt x y (T_from_true _ h))
 
 pub eq_le : (x y : Float) → eq x y ≡ true → le x y ≡ true
 eq_le x y h = is_true _ (float.le_of_eq x y (T_from_true _ h))
+
+-- ±a ≤ ±b, read off the signs
+abbrev pub AtMost : Bool → ℕ → Bool → ℕ → Type 0
+AtMost false a false b = a ≤ b
+AtMost false a true b = (a ≡ 0) × (b ≡ 0)
+AtMost true a false b = Unit {0}
+AtMost true a true b = b ≤ a
+
+-- what is below or level is at most
+pub at_most : (s : Bool) (a : ℕ) (t : Bool) (b : ℕ) → below s a t b || level s a t b ≡ true → AtMost s a t b
+at_most s a t b h = search rules
+
+-- what is at most is below or level
+pub is_at_most : (s : Bool) (a : ℕ) (t : Bool) (b : ℕ) → AtMost s a t b → below s a t b || level s a t b ≡ true
+is_at_most s a t b h = search rules
 
 -- only numbers are compared
 pub le_numbers : (x y : Float) → le x y ≡ true → (is_nan x ≡ false) × (is_nan y ≡ false)

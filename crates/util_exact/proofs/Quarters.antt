@@ -1,8 +1,9 @@
 -- Whole quarter pixels are exact. Assumes nothing.
+use borrow.Author.Rules.{rules}
 use Rattle.std.specs.Prelude.{Float, None, Option, Some}
 use mathlib.Core.Path.{sym, subst}
 use mathlib.Core.Bool.{Bool, true, false}
-use Prim.Native.Nat.{ℕ, ◌*◌}
+use Prim.Native.Nat.{ℕ, ◌*◌, ◌≤◌}
 use native.Mathlib.Omega.{arith}
 use lib.Ieee.{Float, nan, inf, fin}
 use lib.Ieee.Exact.{HasValue}
@@ -31,6 +32,10 @@ quarters_exact {n} {x} h = record { z = 4 * h.k; val = go x h.sign h.k h.value; 
     fours : (s : Bool) (k : ℕ) → Multiple 4 (signed s k)
     fours false k = (k, 0, omega arith)
     fours true k = (0, k, omega arith)
+
+-- at most n quarters are at most any larger number of them
+pub quarters_within : {n m : ℕ} {x : Float} → n ≤ m → Quarters n x → Quarters m x
+quarters_within l h = search rules
 
 -- ---- a number that may be absent: of an absent one any integer will do
 

@@ -1,19 +1,20 @@
--- Two floats that are the same number, as the two runs of the mirror theorem share it: +0 and -0 are. A lemma for each operation that the theorem meets. Assumes nothing.
+-- Two floats that are the same number, as the two runs of the mirror theorem share it: +0 and -0 are. One lemma for each operation. Assumes nothing.
 use Rattle.std.specs.Prelude.{Float, None, Option, Some, is_some, unwrap_or}
 use Rattle.std.specs.Option.{option_or}
 use mathlib.Core.Path.{◌≡◌, refl, sym, ◌∙◌}
 use Prim.Native.Nat.{ℕ, ◌+◌, ◌*◌, ◌≤◌, ◌<◌}
-use lib.Ieee.{Float, le}
-use Rattle.util.specs.Number.{◌⊕◌, ◌⊖◌, 0f}
-use Rattle.util.specs.Order.{larger, smaller}
+use lib.Ieee.{Float, neg, lt, le, eq}
+use Rattle.util.specs.Number.{◌⊕◌, ◌⊖◌, ◌⊗◌, ◌⊘◌, 0f, 2f}
+use Rattle.util.specs.Order.{larger, smaller, magnitude}
 use Rattle.util.specs.Maybe.{map_add, map_larger, at_most, at_least, clamped, map_clamped}
 use Rattle.util_exact.specs.Integer.{N, add_n, EqN}
 use Rattle.util_exact.specs.Value.{◌≐◌, Quarters, MaybeQuarters}
-use Rattle.util_exact.proofs.Integers.{sub_n, max_n, min_n}
+use Rattle.util_exact.proofs.Integers.{neg_n, sub_n, dbl_n, half_n, max_n, min_n, mag_n}
 use Rattle.util_exact.proofs.Exact.{Exact, widen, recast, any, eighths, zero_exact}
-use Rattle.util_exact.proofs.Sum.{add_exact, sub_exact}
-use Rattle.util_exact.proofs.Compare.{le_exact, same_number, same_integer}
-use Rattle.util_exact.proofs.Order.{larger_exact, smaller_exact}
+use Rattle.util_exact.proofs.Sum.{add_exact, neg_exact, sub_exact}
+use Rattle.util_exact.proofs.Double.{dbl_exact, half_exact}
+use Rattle.util_exact.proofs.Compare.{lt_exact, le_exact, eq_exact, same_number, same_integer}
+use Rattle.util_exact.proofs.Order.{larger_exact, smaller_exact, magnitude_exact}
 use Rattle.util_exact.proofs.Quarters.{quarters_exact}
 
 pub record Same (g b : ℕ) (x x' : Float) : Type 0 where
@@ -61,16 +62,40 @@ add_same h k i = record { a = add_n h.a k.a; l = add_exact h.l k.l i; r = add_ex
 pub sub_same : {g b c : ℕ} {x x' y y' : Float} → Same g b x x' → Same g c y y' → b + c < 16777216 → Same g (b + c) (x ⊖ y) (x' ⊖ y')
 sub_same h k i = record { a = sub_n h.a k.a; l = sub_exact h.l k.l i; r = sub_exact h.r k.r i }
 
+-- the negatives
+pub neg_same : {g b : ℕ} {x x' : Float} → Same g b x x' → Same g b (neg x) (neg x')
+neg_same h = record { a = neg_n h.a; l = neg_exact h.l; r = neg_exact h.r }
+
+-- the doubles
+pub dbl_same : {g b : ℕ} {x x' : Float} → Same g b x x' → 2 * b < 16777216 → Same (2 * g) (2 * b) (2f ⊗ x) (2f ⊗ x')
+dbl_same h i = record { a = dbl_n h.a; l = dbl_exact h.l i; r = dbl_exact h.r i }
+
+-- the halves
+pub half_same : (g : ℕ) {b : ℕ} (c : ℕ) {x x' : Float} → Same (2 * g) b x x' → b ≤ c + c → b < 16777216 → Same g c (x ⊘ 2f) (x' ⊘ 2f)
+half_same g c h i j = record { a = half_n h.a; l = half_exact g c h.l i j; r = half_exact g c h.r i j }
+
 pub larger_same : {g b : ℕ} {x x' y y' : Float} → Same g b x x' → Same g b y y' → Same g b (larger x y) (larger x' y')
 larger_same h k = record { a = max_n h.a k.a; l = larger_exact h.l k.l; r = larger_exact h.r k.r }
 
 pub smaller_same : {g b : ℕ} {x x' y y' : Float} → Same g b x x' → Same g b y y' → Same g b (smaller x y) (smaller x' y')
 smaller_same h k = record { a = min_n h.a k.a; l = smaller_exact h.l k.l; r = smaller_exact h.r k.r }
 
+-- the magnitudes
+pub magnitude_same : {g b : ℕ} {x x' : Float} → Same g b x x' → Same g b (magnitude x) (magnitude x')
+magnitude_same h = record { a = mag_n h.a; l = magnitude_exact h.l; r = magnitude_exact h.r }
+
 -- ---- tests
+
+-- below, of both pairs or of neither
+pub lt_same : {g g' b c : ℕ} {x x' y y' : Float} → Same g b x x' → Same g' c y y' → lt x y ≡ lt x' y'
+lt_same h k = lt_exact h.l k.l ∙ sym (lt_exact h.r k.r)
 
 pub le_same : {g g' b c : ℕ} {x x' y y' : Float} → Same g b x x' → Same g' c y y' → le x y ≡ le x' y'
 le_same h k = le_exact h.l k.l ∙ sym (le_exact h.r k.r)
+
+-- equal, of both pairs or of neither
+pub eq_same : {g g' b c : ℕ} {x x' y y' : Float} → Same g b x x' → Same g' c y y' → eq x y ≡ eq x' y'
+eq_same h k = eq_exact h.l k.l ∙ sym (eq_exact h.r k.r)
 
 -- ---- numbers that may be absent
 

@@ -10,6 +10,10 @@ use Rattle.std.proofs.lemmas.Bool.Decides.{nat_tests}
 pub ltb_same : (A B C D : ℕ) → (A < B → C < D) → (B ≤ A → D ≤ C) → ltb A B ≡ ltb C D
 ltb_same A B C D f g = grind (arith, nat_tests)
 
+-- at most, of both pairs or of neither
+pub leb_same : (A B C D : ℕ) → (A ≤ B → C ≤ D) → (B < A → D < C) → leb A B ≡ leb C D
+leb_same A B C D f g = grind (arith, nat_tests)
+
 pub eqb_same : (A B C D : ℕ) → (A ≡ B → C ≡ D) → (C ≡ D → A ≡ B) → eqb A B ≡ eqb C D
 eqb_same A B C D f g = grind (arith, nat_tests)
 
